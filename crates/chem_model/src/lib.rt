@@ -1,10 +1,16 @@
 //! Terms, names and events of the chemical machine.
 #![tactic(auto)]
 
+mod event;
 mod items;
 mod memory;
 mod name;
+mod program;
+mod term;
 
+pub use event::{AtomId, Atoms, Event, Journal, Out, Outs, RuleId};
 pub use items::Items;
 pub use memory::Memory;
 pub use name::{Loc, Name, Names, Nums, Pat, Pats, Ref, Refs, Text, Texts};
+pub use program::{Program, SeenDecl, SeenDecls, SiteTerm, SiteTerms};
+pub use term::{Defn, DefnNode, Defs, Proc, ProcNode, Procs};

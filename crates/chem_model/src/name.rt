@@ -29,6 +29,33 @@ pub enum Ref {
     Known(Name),
 }
 
+impl Loc {
+    /// A location that is equal to this one. It takes no memory.
+    pub fn copy(&self, _alloc: Global) -> Result<Loc, Memory>
+        ensures { result ≡ Ok self.now }
+    {
+        Ok(*self)
+    }
+}
+
+impl Name {
+    /// A name that is equal to this one. It takes no memory.
+    pub fn copy(&self, _alloc: Global) -> Result<Name, Memory>
+        ensures { result ≡ Ok self.now }
+    {
+        Ok(*self)
+    }
+}
+
+impl Ref {
+    /// An occurrence that is equal to this one. It takes no memory.
+    pub fn copy(&self, _alloc: Global) -> Result<Ref, Memory>
+        ensures { result ≡ Ok self.now }
+    {
+        Ok(*self)
+    }
+}
+
 pub type Nums = Items<u32>;
 
 pub type Text = Items<u8>;

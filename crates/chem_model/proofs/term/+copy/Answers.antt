@@ -1,0 +1,14 @@
+-- A member of a list is less deep than the list.
+use Rattle.std.proofs.Common.{rules}
+use Rattle.chem_model.specs.Members.{procs_depth-member, defs_depth-member}
+use Rattle.chem_model.proofs.term.+copy.Goals as goal
+
+pub Items+Defn::copy-copy-requires : goal.Items+Defn::copy-copy-requires
+Items+Defn::copy-copy-requires t c =
+    let falls = rw c.as_slice-member-items.ensures.members at (defs_depth-member c.as_slice-member-items.result.now c.loop-member.member-index c.member-item.result c.loop-member-test.true c.member-item.is) in
+    (search (rules, falls), tt)
+
+pub Items+Proc::copy-copy-requires : goal.Items+Proc::copy-copy-requires
+Items+Proc::copy-copy-requires t c =
+    let falls = rw c.as_slice-member-items.ensures.members at (procs_depth-member c.as_slice-member-items.result.now c.loop-member.member-index c.member-item.result c.loop-member-test.true c.member-item.is) in
+    (search (rules, falls), tt)
