@@ -1,0 +1,4 @@
+pub mod Plain
+pub mod Numbering
+pub mod FirstRules
+pub mod FirstProgram

@@ -1,0 +1,4 @@
+pub mod Cursor
+pub mod FirstForm
+pub mod Scope
+pub mod Level
