@@ -34,18 +34,20 @@ numbers-times first zero b = (omega arith, λ some. absurd (omega arith))
 numbers-times first (suc n) b =
     let split = sum_by-append (λ c. cond (c == b) 1 0) (numbers_from first n) ((first + n) ∷ []) in
     let before = numbers-times first n b in
-    elim (one_or_none (first + n == b))
-    [ inl k ↦ (let same = eqb-true (first + n) b k.0 in
-        let fresh = zero_unless (times (numbers_from first n) b) (λ some. (let w = before.1 some in omega (arith, same, w.1))) in
-        (omega (arith, split, k.1, fresh), λ some. (omega (arith, same), omega (arith, same))))
-    | inr k ↦ (omega (arith, split, k.1, before.0), λ some. (let w = before.1 (omega (arith, split, k.1, some)) in (w.0, omega (arith, w.1)))) ]
+    elim (one_or_none (first + n == b)) [
+      | inl k ↦ (let same = eqb-true (first + n) b k.0 in
+          let fresh = zero_unless (times (numbers_from first n) b) (λ some. (let w = before.1 some in omega (arith, same, w.1))) in
+          (omega (arith, split, k.1, fresh), λ some. (omega (arith, same), omega (arith, same))))
+      | inr k ↦ (omega (arith, split, k.1, before.0), λ some. (let w = before.1 (omega (arith, split, k.1, some)) in (w.0, omega (arith, w.1))))
+    ]
 
 numbers-among : (first n b : ℕ) → first ≤ b → b < first + n → is_among (numbers_from first n) b ≡ true
 numbers-among first zero b low high = absurd (omega arith)
 numbers-among first (suc n) b low high =
-    elim (cases_eq b (first + n))
-    [ inl same ↦ among-back (numbers_from first n) ((first + n) ∷ []) b (subst (λ x. is_among ((first + n) ∷ []) x ≡ true) (sym same) (among-here [] (first + n)))
-    | inr other ↦ among-front (numbers_from first n) ((first + n) ∷ []) b (numbers-among first n b low (omega (arith, other))) ]
+    elim (cases_eq b (first + n)) [
+      | inl same ↦ among-back (numbers_from first n) ((first + n) ∷ []) b (subst (λ x. is_among ((first + n) ∷ []) x ≡ true) (sym same) (among-here [] (first + n)))
+      | inr other ↦ among-front (numbers_from first n) ((first + n) ∷ []) b (numbers-among first n b low (omega (arith, other)))
+    ]
 
 -- ---- messages in parallel bind nothing, and use what is in scope
 
@@ -92,11 +94,12 @@ pub record IsCounted (l : Counted) (x : Option Ref × Pat) (at : Option Ref) : T
 joined : (t x y first mid upto b : ℕ) → x ≡ t → t ≤ 1 → (0 < t → (first ≤ b) × (b < mid)) → y ≤ 1 → (0 < y → (mid ≤ b) × (b < upto)) → first ≤ mid → mid ≤ upto
     → (x + y ≤ 1) × (0 < x + y → (first ≤ b) × (b < upto))
 joined t x y first mid upto b e one within one' within' up up' =
-    elim (cases_eq t 0)
-    [ inl none_here ↦ (omega (arith, e, none_here, one'), λ some. (let w = within' (omega (arith, e, none_here, some)) in (omega (arith, w.0, up), w.1)))
-    | inr here ↦ (let w = within (omega (arith, here)) in
-        let none_later : y ≡ 0 = elim (cases_eq y 0) [ inl k ↦ k | inr k ↦ absurd (let v = within' (omega (arith, k)) in omega (arith, v.0, w.1)) ] in
-        (omega (arith, e, one, none_later), λ some. (w.0, omega (arith, w.1, up')))) ]
+    elim (cases_eq t 0) [
+      | inl none_here ↦ (omega (arith, e, none_here, one'), λ some. (let w = within' (omega (arith, e, none_here, some)) in (omega (arith, w.0, up), w.1)))
+      | inr here ↦ (let w = within (omega (arith, here)) in
+          let none_later : y ≡ 0 = elim (cases_eq y 0) [ inl k ↦ k | inr k ↦ absurd (let v = within' (omega (arith, k)) in omega (arith, v.0, w.1)) ] in
+          (omega (arith, e, one, none_later), λ some. (w.0, omega (arith, w.1, up'))))
+    ]
 
 -- ---- the rules of the site
 
@@ -155,14 +158,14 @@ module _ (l : Counted) where
       let ends = h.1.ends in
       let within : 0 < times params b → (first ≤ b) × (b < h.0) = λ some. (let w = (numbers-times first h.1.count b).1 some in (w.0, omega (arith, w.1, ends))) in
       rw h.1.is (joined (times params b) (times (params ++ []) b + bound_in h.1.body b) (bound_in_definitions (definitions ds) b) first h.0 upto b
-          (omega (arith, same, body)) (numbers-times first h.1.count b).0 within rest.0 rest.1 (omega (arith, ends)) (rules-up hs h.0 ds upto h.2))
+      (omega (arith, same, body)) (numbers-times first h.1.count b).0 within rest.0 rest.1 (omega (arith, ends)) (rules-up hs h.0 ds upto h.2))
 
   pattern : (c first n : ℕ) → n ≤ 255 → IsPattern (record { on = Binder c; params = numbers_from first n } ∷ [])
   pattern c first n few = record {
     some = omega arith;
     channels = λ i j d less in'. absurd (omega (arith, less, in'));
     params = λ b. rw (append-nil (numbers_from first n)) ((numbers-times first n b).0);
-    short = All-cons (λ p. length p.params ≤ 255) (record { on = Binder c; params = numbers_from first n }) [] (omega (arith, few, length-numbers_from first n)) (All-nil (λ p. length p.params ≤ 255))
+    short = All-cons (λ p. length p.params ≤ 255) (record { on = Binder c; params = numbers_from first n }) [] (omega (arith, few, length-numbers_from first n)) (All-nil (λ p. length p.params ≤ 255));
   }
 
   fits : (scope : List ℕ) → ((b : ℕ) → b < length l.counts → is_among scope b ≡ true) → (first n : ℕ) (r : Ref)
@@ -206,11 +209,12 @@ bound-site : (bs heads : List ℕ) (tops rules body upto b : ℕ) → bs ≡ 0 �
     → (once bs b + ((rules + body) + 0) ≤ 1) × (0 < once bs b + ((rules + body) + 0) → b < upto)
 bound-site bs heads tops rules body upto b is numbering plain r up =
     subst (λ x. (once x b + ((rules + body) + 0) ≤ 1) × (0 < once x b + ((rules + body) + 0) → b < upto)) (sym is)
-    (elim (one_or_none (is_among (0 ∷ heads) b))
-    [ inl k ↦ (let top = numbering.below b k.0 in
-        let fresh = zero_unless rules (λ some. (let w = r.1 some in omega (arith, w.0, top))) in
-        (omega (arith, k.1, fresh, plain), λ some. omega (arith, top, up)))
-    | inr k ↦ (omega (arith, k.1, plain, r.0), λ some. (r.1 (omega (arith, k.1, plain, some))).1) ])
+    (elim (one_or_none (is_among (0 ∷ heads) b)) [
+      | inl k ↦ (let top = numbering.below b k.0 in
+          let fresh = zero_unless rules (λ some. (let w = r.1 some in omega (arith, w.0, top))) in
+          (omega (arith, k.1, fresh, plain), λ some. omega (arith, top, up)))
+      | inr k ↦ (omega (arith, k.1, plain, r.0), λ some. (r.1 (omega (arith, k.1, plain, some))).1)
+    ])
 
 pub first_program : (seen : List SeenDecl) (counts : List (Option ℕ)) (heads : List ℕ) (defs : List Definition) (body : Process) (spell : List (List ℕ))
     → IsNumbering heads (length counts)
@@ -248,13 +252,13 @@ first_program seen counts heads defs body spell numbering rules plain small decl
             (All-weaker Counts (λ x. (b : ℕ) → x.1.on ≡ Binder b → is_among (places_of sites) b ≡ false)
             (λ x h b same. subst (λ bs. is_among bs b ≡ false) (sym places_is) (other_than_site x.1.on h.channel b h.on h.some same)) patterns counted);
         one_place = λ b. subst (λ bs. times bs b ≤ 1) (sym places_is) (elim (one_or_none (0 == b)) [ inl k ↦ omega (arith, k.1) | inr k ↦ omega (arith, k.1) ]);
-        agree = subst (AllPairs Agree) (sym patterns_is) (agree l (Some (Binder 0)) patterns counted)
+        agree = subst (AllPairs Agree) (sym patterns_is) (agree l (Some (Binder 0)) patterns counted);
       };
       levels = All-cons (λ t. AreRulesAndPlaces (definitions t.defs)) (record { name = 0; defs = defs; body = body }) [] (rules-level l heads tops defs (length spell) rules)
           (All-nil (λ (t : SiteTerm). AreRulesAndPlaces (definitions t.defs)));
       terms = subst (λ bs. AreDefinitions (IsDeclared (length seen)) bs sites) (sym block_is)
           ((rules-definitions l (0 ∷ heads) numbering.all heads tops defs (length spell) rules, plain-term _ (0 ∷ heads) (site-fits tops (length seen) (0 ∷ heads) numbering.all) body plain), tt);
-      counts = declared
+      counts = declared;
     }
 
 -- the same of parts that are equal to these
@@ -268,10 +272,10 @@ pub made_program : (seen : List SeenDecl) (declared : ℕ) (counts : List (Optio
     → IsProgram (record { seen = seen; sites = sites; tops = tops; spell = spell })
 made_program seen declared counts heads defs body start spell tops sites e starts t s numbering rules plain small all =
     let rules' : AreFirstRules (record { seen = length seen; counts = counts }) heads (length counts) defs (length spell) =
-        subst (λ x. AreFirstRules (record { seen = length seen; counts = counts }) heads x defs (length spell)) starts
-        (subst (λ x. AreFirstRules (record { seen = x; counts = counts }) heads start defs (length spell)) e rules) in
+    subst (λ x. AreFirstRules (record { seen = length seen; counts = counts }) heads x defs (length spell)) starts
+    (subst (λ x. AreFirstRules (record { seen = x; counts = counts }) heads start defs (length spell)) e rules) in
     let plain' : IsPlain (record { tops = length counts; seen = length seen; first = 0; count = 0 }) body =
-        subst (λ x. IsPlain (record { tops = length counts; seen = x; first = 0; count = 0 }) body) e plain in
+    subst (λ x. IsPlain (record { tops = length counts; seen = x; first = 0; count = 0 }) body) e plain in
     subst (λ x. IsProgram (record { seen = seen; sites = sites; tops = x; spell = spell })) (sym t)
     (subst (λ x. IsProgram (record { seen = seen; sites = x; tops = length counts; spell = spell })) (sym s)
     (first_program seen counts heads defs body spell numbering rules' plain' small all))

@@ -46,23 +46,24 @@ pub numbering-same : (hs : List ℕ) (tops h : ℕ) → IsNumbering hs tops → 
 numbering-same hs tops h n some in' = record {
   below = λ b e. elim (among-append (0 ∷ hs) (h ∷ []) b e) [ inl k ↦ n.below b k | inr k ↦ subst (λ x. x < tops) (among-one h b k) in' ];
   all = λ b less. among-front (0 ∷ hs) (h ∷ []) b (n.all b less);
-  apart = λ b e. elim (among-append hs (h ∷ []) b e) [ inl k ↦ n.apart b k | inr k ↦ subst (λ x. 0 < x) (among-one h b k) some ]
+  apart = λ b e. elim (among-append hs (h ∷ []) b e) [ inl k ↦ n.apart b k | inr k ↦ subst (λ x. 0 < x) (among-one h b k) some ];
 }
 
 -- a new channel is the next binder
 pub numbering-next : (hs : List ℕ) (tops : ℕ) → IsNumbering hs tops → IsNumbering (hs ++ tops ∷ []) (tops + 1)
 numbering-next hs tops n =
     let some : 0 < tops = n.below 0 (among-here hs 0) in record {
-  below = λ b e. elim (among-append (0 ∷ hs) (tops ∷ []) b e) [ inl k ↦ (let h = n.below b k in omega arith) | inr k ↦ omega (arith, among-one tops b k) ];
-  all = λ b less. elim (cases_eq b tops)
-  [ inl same ↦ among-back (0 ∷ hs) (tops ∷ []) b (subst (λ x. is_among (tops ∷ []) x ≡ true) (sym same) (among-here [] tops))
-  | inr other ↦ among-front (0 ∷ hs) (tops ∷ []) b (n.all b (omega (arith, other))) ];
-  apart = λ b e. elim (among-append hs (tops ∷ []) b e) [ inl k ↦ n.apart b k | inr k ↦ subst (λ x. 0 < x) (among-one tops b k) some ]
-}
+      below = λ b e. elim (among-append (0 ∷ hs) (tops ∷ []) b e) [ inl k ↦ (let h = n.below b k in omega arith) | inr k ↦ omega (arith, among-one tops b k) ];
+      all = λ b less. elim (cases_eq b tops) [
+        | inl same ↦ among-back (0 ∷ hs) (tops ∷ []) b (subst (λ x. is_among (tops ∷ []) x ≡ true) (sym same) (among-here [] tops))
+        | inr other ↦ among-front (0 ∷ hs) (tops ∷ []) b (n.all b (omega (arith, other)))
+      ];
+      apart = λ b e. elim (among-append hs (tops ∷ []) b e) [ inl k ↦ n.apart b k | inr k ↦ subst (λ x. 0 < x) (among-one tops b k) some ];
+    }
 
 pub numbering-start : IsNumbering [] 1
 numbering-start = record {
   below = λ b e. omega (arith, among-one 0 b e);
   all = λ b less. subst (λ x. is_among (0 ∷ []) x ≡ true) (let e : 0 ≡ b = omega arith in e) (among-here [] 0);
-  apart = λ b e. cc
+  apart = λ b e. cc;
 }

@@ -154,7 +154,12 @@ fn has_twice(words: &[&[u8]]) -> bool {
 }
 
 /// The process of the site.
-fn body_of<'s, 'a>(alloc: Global, draft: &'s Draft<'a>, level: &'s Level<'a>, made: &mut Made) -> Result<Proc, Refusal>
+fn body_of<'s, 'a>(
+    alloc: Global,
+    draft: &'s Draft<'a>,
+    level: &'s Level<'a>,
+    made: &mut Made,
+) -> Result<Proc, Refusal>
     requires { IsLevel level.now }
     ensures plain { IfOk result (IsPlain (record { tops = length level.now.counts.items; seen = length draft.now.seen.items; first = 0; count = 0 })) }
     ensures small { IfOk result (λ body. nodes body + made.new.room ≤ made.old.room) }
