@@ -6,7 +6,6 @@ mod memory;
 mod sink;
 mod source;
 mod stream;
-
 #[cfg(test)]
 mod tests;
 

@@ -1,5 +1,5 @@
 // Sources and sinks in memory, which fail where they are told to.
-ghost use Rattle.std.specs.Prelude.{◌≡◌, ℕ, ◌+◌, ◌-◌, ◌<◌, ◌≤◌, ◌++◌, [], length, take, drop, min, Some, None, Contains, IsTrue, ◌↔◌, ◌⊎◌, IfOk, OnOk, OnErr, IsErr};
+ghost use Rattle.std.specs.Prelude.{◌≡◌, ◌-◌, ◌<◌, ◌≤◌, ◌++◌, [], length, take, drop, min, Some, Contains, IsTrue, ◌↔◌, ◌⊎◌, IfOk, OnErr, IsErr};
 ghost use Rattle.std.specs.Io.{ReadsAtMost};
 ghost use Rattle.std.specs.Io.KnownBytes.{ReadConsumes, WriteAppends};
 ghost use Rattle.join_base.specs.Bytes.{EndsAsTold, AcceptsSome};
@@ -12,7 +12,7 @@ use chem_model::{Memory, Nums, Text};
 use std::alloc::Global;
 use std::marker::Model;
 
-/// Bytes in memory as a source. It takes no memory.
+/// Bytes in memory as a source. Neither making it nor reading from it takes memory.
 #[derive(Drop)]
 pub struct MemSource {
     bytes: Text,
@@ -96,7 +96,7 @@ fn is_listed(fails: &[u32], call: u64) -> bool
     fails.iter().any(|number| u64::from(*number) == call)
 }
 
-/// Bytes in memory as a sink.
+/// Bytes in memory as a sink. Writing to it takes no memory.
 #[derive(Drop)]
 pub struct MemSink {
     bytes: Vec<u8>,
@@ -156,7 +156,7 @@ impl Sink for MemSink {
         ensures cause { OnErr result (Rose self.old.faults self.new.faults) }
 
         // A call fails where it is to, and where no room is left. Only the counts change then.
-        ensures fails { IsErr result ↔ Contains self.old.fails (one_more self.old.calls) ⊎ (self.old.room ≤ length self.old.held) }
+        ensures fails { IsErr result ↔ (Contains self.old.fails (one_more self.old.calls) ⊎ (self.old.room ≤ length self.old.held)) }
         ensures failed { OnErr result (self.new ≡ record self.old { calls = one_more self.old.calls; faults = one_more self.old.faults }) }
 
         // Each other call takes as many bytes as it can.

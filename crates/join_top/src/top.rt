@@ -91,6 +91,7 @@ pub fn run_join<S: Source, K: Sink, E: Sink, G: Gate>(
     ensures reads_refused { result.status ≡ 1 → IsReadOrTooLong (S.left source.old) (S.left source.new) }
 
     ensures kept { is_some result.kept ≡ has_run result.status }
+    ensures how { IfSome result.kept (λ kept. kept.how ≡ How.Alone) }
     ensures within_budget { IfSome result.kept (λ kept. IsWithin (asked (map string_bytes words.now)) (length kept.journal)) }
 
     ensures write_fault { result.status ≡ 4 → Rose (K.faults out.old) (K.faults out.new) }
@@ -121,7 +122,8 @@ pub fn run_join<S: Source, K: Sink, E: Sink, G: Gate>(
 
 /// Runs a text with at most so many events.
 fn run_text(alloc: Global, text: &[u8], budget: u32) -> Result<Ran, Refusal>
-    ensures { IfOk result (λ ran. length ran.kept.journal ≤ budget) }
+    ensures within_budget { IfOk result (λ ran. length ran.kept.journal ≤ budget) }
+    ensures how { IfOk result (λ ran. ran.kept.how ≡ How.Alone) }
 {
     let tokens = tokens(alloc, text)?;
     let draft = drafted(alloc, &tokens)?;

@@ -1,0 +1,11 @@
+//! Tests of the whole program: worked texts, words and faults, from the bytes read to the bytes written.
+#![tactic(auto)]
+
+#[cfg(test)]
+mod faults;
+#[cfg(test)]
+mod outcome;
+#[cfg(test)]
+mod texts;
+#[cfg(test)]
+mod words;

@@ -1,0 +1,91 @@
+// One call of the top call over memory, and what it left.
+
+use chem_model::{Event, Items, Memory};
+use join_base::{MemSink, MemSource};
+use join_top::{Ended, OpenGate, run_join};
+use std::alloc::Global;
+use std::process::Abort;
+
+/// More bytes than any line or text of these tests has.
+const ROOM: u32 = 4096;
+
+/// A source, two sinks, and how a call over them ended.
+#[derive(Drop)]
+pub struct Outcome {
+    pub ended: Ended,
+    pub source: MemSource,
+    pub out: MemSink,
+    pub err: MemSink,
+}
+
+/// A source of these bytes that never fails.
+pub fn source_of(alloc: Global, bytes: &[u8]) -> Result<MemSource, Memory> {
+    let bytes = Items::from_slice(alloc, bytes)?;
+    Ok(MemSource::new(bytes, ROOM, Items::new(alloc)))
+}
+
+/// A sink that never fails while there is room.
+pub fn roomy_sink(alloc: Global) -> Result<MemSink, Memory> {
+    MemSink::new(alloc, ROOM, ROOM, Items::new(alloc))
+}
+
+/// Runs the words over a source and a sink of their own.
+pub fn call(
+    alloc: Global,
+    words: &[&str],
+    source: MemSource,
+    out: MemSink,
+) -> Result<Outcome, Memory> {
+    let mut owned = Vec::new(alloc);
+    for word in words {
+        owned.push(String::from_str(alloc, word)?)?;
+    }
+    let mut source = source;
+    let mut out = out;
+    let mut err = roomy_sink(alloc)?;
+    let ended = run_join(
+        alloc,
+        owned.as_slice(),
+        &mut source,
+        &mut out,
+        &mut err,
+        &OpenGate,
+    );
+    Ok(Outcome {
+        ended,
+        source,
+        out,
+        err,
+    })
+}
+
+/// Runs a text with a budget.
+pub fn run(alloc: Global, budget: &str, text: &str) -> Result<Outcome, Memory> {
+    let source = source_of(alloc, text.as_bytes())?;
+    call(
+        alloc,
+        &["alone", "--budget", budget],
+        source,
+        roomy_sink(alloc)?,
+    )
+}
+
+impl Outcome {
+    /// How many events the run kept, where it kept any.
+    pub fn events(&self) -> Option<usize> {
+        self.ended.kept.as_ref().map(|kept| kept.journal.len())
+    }
+
+    /// The first event of the run.
+    pub fn first_event(&self) -> Option<&Event> {
+        let kept = self.ended.kept.as_ref()?;
+        kept.journal.as_slice().first()
+    }
+
+    /// That the call ended with this status and these bytes.
+    pub fn expect(&self, rt: &impl Abort, status: u8, out: &str, err: &str) {
+        assert_eq!(rt; self.ended.status, status);
+        assert_eq!(rt; self.out.taken(), out.as_bytes());
+        assert_eq!(rt; self.err.taken(), err.as_bytes());
+    }
+}
