@@ -1,20 +1,19 @@
 -- A program of the first form keeps the facts of a program.
-use Rattle.std.proofs.Common.{◌≡◌, ◌≢◌, ℕ, ◌+◌, ◌<◌, ◌≤◌, ◌==◌, ◌↔◌, ◌⊎◌, inl, inr, List, [], ◌∷◌, ◌++◌, zero, suc, length, get_or, Bool, true, false, cond, Option, Some, None, refl, sym, ap, ◌∙◌, subst, arith, append-nil}
+use Rattle.std.proofs.Common.{◌≡◌, ℕ, ◌+◌, ◌<◌, ◌≤◌, ◌==◌, ◌↔◌, ◌⊎◌, inl, inr, List, [], ◌∷◌, ◌++◌, zero, suc, length, get_or, Bool, true, false, cond, Option, Some, None, refl, sym, ap, ◌∙◌, subst, arith, append-nil}
 use Rattle.std.specs.List.{All, AllPairs}
-use Rattle.std.proofs.lemmas.List.Elements.{All-nil, All-cons, All-append, All-weaker}
+use Rattle.std.proofs.lemmas.List.Elements.{All-nil, All-cons, All-weaker}
 use Rattle.std.proofs.lemmas.List.Sums.{sum_by-append}
 use Rattle.std.proofs.lemmas.Bool.{cases_Bool, cases_eq, eqb-true}
-use Rattle.chem_model.specs.declared.name.Name.{Name}
 use Rattle.chem_model.specs.declared.name.Ref.{Ref}
 use Rattle.chem_model.specs.declared.name.Ref.TheVariants.{Binder, Known}
 use Rattle.chem_model.specs.declared.name.Pat.{Pat}
 use Rattle.chem_model.specs.declared.program.SeenDecl.{SeenDecl}
 use Rattle.chem_model.specs.declared.program.SiteTerm.{SiteTerm}
-use Rattle.chem_model.specs.Process.{Process, Msg, Par, Def, Go, Fail, Halt, Processes, none, one_more, Definition, Rule, Place, Definitions, no_definition, and_also, definitions}
-use Rattle.chem_model.specs.Binders.{block, places_of, patterns_of, params_of, is_among, times, once, bound_in, bound_in_all, bound_in_definitions, definition_nodes, nodes}
-use Rattle.chem_model.specs.Scope.{IsBinder, IsPattern, AreRulesAndPlaces, AreNamed, Agree, IsBlock, IsInScope, IsTerm, AreTerms, IsDefinition, AreDefinitions}
-use Rattle.chem_model.specs.ProgramFacts.{ProgramTerms, IsProgram, IsDeclared, places, bound}
-use Rattle.join_top.specs.FirstForm.{numbers_from, IsNumbering, Usable, IsUsable, IsPlain, ArePlain, Counted, IsFirstRule, AreFirstRules}
+use Rattle.chem_model.specs.Process.{Process, Msg, Par, Def, Go, Fail, Halt, Processes, none, one_more, Definition, Place, no_definition, and_also, definitions}
+use Rattle.chem_model.specs.Binders.{block, places_of, patterns_of, is_among, times, once, bound_in, bound_in_all, bound_in_definitions, definition_nodes, nodes}
+use Rattle.chem_model.specs.Scope.{IsBinder, IsPattern, AreRulesAndPlaces, AreNamed, Agree, IsInScope, IsTerm, AreTerms, AreDefinitions}
+use Rattle.chem_model.specs.ProgramFacts.{IsProgram, IsDeclared}
+use Rattle.join_top.specs.FirstForm.{numbers_from, IsNumbering, Usable, IsUsable, IsPlain, ArePlain, Counted, AreFirstRules}
 use Rattle.join_top.proofs.FirstRules.{length-numbers_from}
 use Rattle.join_top.proofs.Numbering.{among-here, among-later, among-one, among-front, among-back}
 

@@ -1,6 +1,5 @@
 -- One more rule of the first form.
-use Rattle.std.proofs.Common.{◌≡◌, ℕ, ◌+◌, List, [], ◌∷◌, ◌++◌, zero, suc, length, take, get_or, refl, sym, ap, ◌∙◌, subst, arith, length-append}
-use Rattle.std.proofs.lemmas.List.{take_more}
+use Rattle.std.proofs.Common.{◌≡◌, ℕ, ◌+◌, List, [], ◌∷◌, ◌++◌, zero, suc, length, refl, sym, subst, arith, length-append}
 use Rattle.chem_model.specs.declared.name.Ref.TheVariants.{Binder}
 use Rattle.chem_model.specs.Process.{Process, Definition, Rule, definitions}
 use Rattle.chem_model.specs.Binders.{nodes, nodes_of, definition_nodes}

@@ -1,5 +1,5 @@
 -- One more member of a parallel composition.
-use Rattle.std.proofs.Common.{◌≡◌, ℕ, ◌+◌, List, [], ◌∷◌, ◌++◌, arith}
+use Rattle.std.proofs.Common.{◌≡◌, ◌+◌, List, [], ◌∷◌, ◌++◌, arith}
 use Rattle.chem_model.specs.Process.{Process, processes}
 use Rattle.chem_model.specs.Binders.{nodes, nodes_of_all}
 use Rattle.join_top.specs.FirstForm.{Usable, IsPlain, ArePlain}

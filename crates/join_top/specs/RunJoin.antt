@@ -1,5 +1,5 @@
 -- The clauses of the top call.
-use Rattle.std.specs.Prelude.{◌≡◌, ◌≢◌, ◌⊎◌, ℕ, ◌+◌, ◌≤◌, List, [], Bool, Option, Some, None, if◌then◌else◌, codes, ◌==◌, ◌||◌, true}
+use Rattle.std.specs.Prelude.{◌≡◌, ◌⊎◌, ℕ, ◌≤◌, List, [], Bool, Option, Some, None, if◌then◌else◌, codes, ◌==◌, ◌||◌}
 use Rattle.std.specs.Io.KnownBytes.{Appends, IsAtEnd}
 use Rattle.join_base.specs.Bytes.{TakesCount, TakesAtMost, GainsPrefix}
 use Rattle.join_base.specs.Counts.{Rose}

@@ -76,8 +76,9 @@ fn scope_of<'s, 'a>(
     requires { IsLevel level.now }
     ensures { IfOk result (λ scope. usable scope ≡ record { tops = length level.now.counts.items; seen = length draft.now.seen.items; first = first; count = length params.now }) }
 {
-    let fits = first as usize + params.len().min(u32::MAX as usize) <= u32::MAX as usize;
-    if !fits || params.len() > 255 || draft.seen.len() > u32::MAX as usize {
+    // No list reaches 2^32 members: one that would is want of memory.
+    let most = u32::MAX as usize;
+    if params.len() > most - first as usize || draft.seen.len() > most {
         return Err(Refusal::Memory);
     }
     Ok(Scope {

@@ -1,4 +1,5 @@
 ghost use Rattle.std.specs.Prelude.{◌≡◌, ◌⊎◌, ◌≤◌, ◌↔◌, map, length, string_bytes, is_some, IfSome, IfOk, true, false, []};
+ghost use Rattle.join_base.specs.Bytes.{TakesAtMost};
 ghost use Rattle.join_base.specs.Counts.{Rose};
 ghost use Rattle.join_top.specs.Words.{asked};
 ghost use Rattle.join_top.specs.RunJoin.{ComesExactly, IsReadToEnd, IsReadOrTooLong, has_run, IsWithin, line_of, Gains};
@@ -62,7 +63,8 @@ struct Ran {
     quiet: bool,
 }
 
-/// Does all that the program does, from its words and the bytes of its source to the bytes on `out` and `err`.
+/// Does all that the program does, from its words and the bytes of its source to the bytes on `out` and `err`. Only
+/// workers on threads pass the gate, and there are none yet.
 ///
 /// | status | comes |
 /// |---|---|
@@ -79,7 +81,7 @@ pub fn run_join<S: Source, K: Sink, E: Sink, G: Gate>(
     source: &mut S,
     out: &mut K,
     err: &mut E,
-    gate: &G,
+    _gate: &G,
 ) -> Ended
     ensures known { result.status ≤ 6 }
 
@@ -89,6 +91,7 @@ pub fn run_join<S: Source, K: Sink, E: Sink, G: Gate>(
     ensures read_fault { result.status ≡ 3 → Rose (S.faults source.old) (S.faults source.new) }
     ensures reads_all { has_run result.status ≡ true → IsReadToEnd (S.left source.old) (S.left source.new) }
     ensures reads_refused { result.status ≡ 1 → IsReadOrTooLong (S.left source.old) (S.left source.new) }
+    ensures reads_partly { (result.status ≡ 3) ⊎ (result.status ≡ 6) → TakesAtMost (S.left source.old) (S.left source.new) 1048576 }
 
     ensures kept { is_some result.kept ≡ has_run result.status }
     ensures how { IfSome result.kept (λ kept. kept.how ≡ How.Alone) }
@@ -100,7 +103,6 @@ pub fn run_join<S: Source, K: Sink, E: Sink, G: Gate>(
     ensures err_line { Gains (E.held err.old) (E.held err.new) (E.faults err.old) (E.faults err.new) (line_of result.status) }
     ensures err_untouched { line_of result.status ≡ [] → err.new ≡ err.old }
 {
-    let _ = gate;
     let Some(budget) = asked_budget(words) else {
         return end(err, USAGE, None);
     };

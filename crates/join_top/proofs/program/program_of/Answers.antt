@@ -1,4 +1,4 @@
-use Rattle.std.proofs.Common.{◌≡◌, ◌∷◌, ◌++◌, [], length, subst, sym, ap, ◌∙◌, arith}
+use Rattle.std.proofs.Common.{◌∷◌, ◌++◌, [], length, subst, sym, ap, ◌∙◌, arith}
 use Rattle.join_top.specs.FirstForm.{IsNumbering, AreFirstRules}
 use Rattle.join_top.specs.Level.{counted}
 use Rattle.join_top.proofs.FirstProgram.{made_program}
