@@ -6,7 +6,7 @@ use Rattle.chem_model.specs.declared.name.Name.TheVariants as name
 use Rattle.chem_model.specs.declared.name.Ref.TheVariants.{Binder}
 use Rattle.chem_model.specs.declared.program.SeenDecl.{SeenDecl}
 use Rattle.chem_model.specs.declared.program.SiteTerm.{SiteTerm}
-use Rattle.chem_model.specs.Process.{Definition, Place, Definitions, no_definition, and_also, definitions}
+use Rattle.chem_model.specs.Process.{Place, Definitions, no_definition, and_also, definitions}
 use Rattle.chem_model.specs.Binders.{block, once, is_among, bound_in_definitions, definition_nodes}
 use Rattle.chem_model.specs.Scope.{IsBlock, AreRulesAndPlaces, AreDefinitions}
 

@@ -6,6 +6,8 @@ mod faults;
 #[cfg(test)]
 mod outcome;
 #[cfg(test)]
+mod terms;
+#[cfg(test)]
 mod texts;
 #[cfg(test)]
 mod words;

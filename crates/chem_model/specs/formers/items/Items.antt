@@ -1,6 +1,6 @@
 -- `Items` as a type that may hold the type that holds it.
-use mathlib.Core.Path.{◌≡◌, refl, sym, ◌∙◌, subst}
-use mathlib.Core.List.{List, [], map}
+use mathlib.Core.Path.{◌≡◌, refl, sym}
+use mathlib.Core.List.{List, []}
 use mathlib.Core.Former.{Former, this, list, via, children}
 use native.Mathlib.Bridge.{le_prop}
 use native.Mathlib.Omega.{arith}
