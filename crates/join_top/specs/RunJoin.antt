@@ -17,7 +17,7 @@ IsReadToEnd old new = TakesAtMost old new 1048576 × IsAtEnd new
 abbrev pub IsReadOrTooLong : Option (List ℕ) → Option (List ℕ) → Type 0
 IsReadOrTooLong old new = IsReadToEnd old new ⊎ TakesCount old new 1048577
 
--- a text was written, or none for want of a good write
+-- the statuses at which there was a run: its text was written, or a write failed
 abbrev pub has_run : ℕ → Bool
 has_run status = (status == 0) || (status == 4) || (status == 5)
 

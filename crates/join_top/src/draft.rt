@@ -1,4 +1,4 @@
-// The draft of a text of the first form: its sentence, with each identifier as its spelling, until the parser takes its place.
+//! The draft of a text of the first form: its sentence, with each identifier as its spelling, until the parser takes its place.
 
 ghost use Rattle.std.specs.Prelude.{◌≤◌, ◌<◌, length, OnOk, vec_len};
 

@@ -1,3 +1,4 @@
+//! The gate that the workers of a run on threads pass.
 /// The two moments of a turn at which a gate is passed.
 #[derive(Clone, Copy, Debug, PartialEq, Eq)]
 pub enum Phase {

@@ -1,4 +1,4 @@
-// The site-level names of a text of the first form.
+//! The site-level names of a text of the first form.
 
 ghost use Rattle.std.specs.Prelude.{◌≡◌, ◌≤◌, ◌<◌, ◌^◌, ◌+◌, length, vec_len, IfOk};
 

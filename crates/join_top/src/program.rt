@@ -1,4 +1,4 @@
-// The program of a text of the first form.
+//! The program of a text of the first form.
 
 ghost use Rattle.std.specs.Prelude.{◌≡◌, ◌≤◌, ◌<◌, ◌+◌, length, IfOk, OnOk, slice_index_or, true};
 ghost use Rattle.std.specs.List.{All};
@@ -37,6 +37,7 @@ pub fn program_of(alloc: Global, draft: &Draft) -> Result<Program, Refusal> {
     spend(&mut made.room, 2)?;
     let _names = fresh(alloc, &level.names, &mut made.spell)?;
     let defs = rules_of(alloc, draft, &level, &mut made)?;
+    // The draft is lent again, for no longer than the level.
     let body = body_of(alloc, &*draft, &level, &mut made)?;
     let mut sites = Items::new(alloc);
     sites.push(SiteTerm {

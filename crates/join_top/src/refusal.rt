@@ -1,3 +1,4 @@
+//! Why a text gives no program.
 ghost use Rattle.join_top.specs.declared.refusal.Refusal.TheVariants.{Memory as OutOfMemory};
 ghost use Rattle.std.specs.Prelude.{◌≡◌};
 

@@ -1,4 +1,4 @@
-// The processes of the first form, with each identifier as what it names.
+//! The processes of the first form, with each identifier as what it names.
 
 ghost use Rattle.std.specs.Prelude.{◌≡◌, ◌≤◌, ◌<◌, ◌+◌, ◌^◌, length, IfOk, OnOk};
 ghost use Rattle.std.specs.List.{All};

@@ -1,4 +1,4 @@
-// The tokens of a text of the first form, until the lexer takes their place.
+//! The tokens of a text of the first form, until the lexer takes their place.
 
 ghost use Rattle.std.specs.Prelude.{◌≤◌, length, IfOk};
 

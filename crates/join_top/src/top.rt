@@ -1,3 +1,4 @@
+//! The top call.
 ghost use Rattle.std.specs.Prelude.{◌≡◌, ◌⊎◌, ◌≤◌, ◌↔◌, map, length, string_bytes, is_some, IfSome, IfOk, true, false, []};
 ghost use Rattle.join_base.specs.Bytes.{TakesAtMost};
 ghost use Rattle.join_base.specs.Counts.{Rose};

@@ -1,4 +1,4 @@
-// The words of the command line.
+//! The words of the command line.
 
 ghost use Rattle.std.specs.Prelude.{◌≡◌, map, true, string_bytes};
 ghost use Rattle.std.specs.List.{list_all};
