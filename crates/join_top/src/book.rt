@@ -1,6 +1,6 @@
 //! Runs a program of the first form: one site, whose definitions are rules with one message pattern each, and whose
 //! processes are messages and parallel compositions of messages. A term of another form is passed over.
-ghost use Rattle.std.specs.Prelude.{◌≤◌, ◌<◌, length, vec_len, IfOk, MatchOption};
+ghost use Rattle.std.specs.Prelude.{◌≡◌, ◌≤◌, ◌<◌, length, vec_len, false, IfOk, MatchOption};
 
 use chem_model::{
     AtomId, Defn, DefnNode, Event, Items, Journal, Loc, Memory, Name, Names, Out, Outs, Pat, Proc,
@@ -63,7 +63,8 @@ struct Book<'p> {
 
 /// Runs a program's site: the first enabled event is committed until none is enabled or `budget` events were made.
 pub fn run_alone(alloc: Global, program: &Program, budget: u32) -> Result<Run, Memory>
-    ensures { IfOk result (λ run. length run.journal ≤ budget) }
+    ensures within_budget { IfOk result (λ run. length run.journal ≤ budget) }
+    ensures stopped { IfOk result (λ run. run.quiet ≡ false → length run.journal ≡ budget) }
 {
     match program.sites.as_slice().first() {
         Some(site) => run_parts(alloc, &program.seen, site, budget),
@@ -82,14 +83,19 @@ pub fn run_parts(
     site: &SiteTerm,
     budget: u32,
 ) -> Result<Run, Memory>
-    ensures { IfOk result (λ run. length run.journal ≤ budget) }
+    ensures within_budget { IfOk result (λ run. length run.journal ≤ budget) }
+    ensures stopped { IfOk result (λ run. run.quiet ≡ false → length run.journal ≡ budget) }
 {
     let mut book = Book::open(alloc, seen, site)?;
     let mut journal = Items::new(alloc);
     for _made in 0..budget {
         match book.step(alloc)? {
             Some(event) => journal.push(event)?,
-            None => break,
+            None => return Ok(Run {
+                journal,
+                trace: book.close(),
+                quiet: true,
+            }),
         }
     }
     let quiet = book.first_enabled().is_none();

@@ -1,5 +1,5 @@
 //! The top call.
-ghost use Rattle.std.specs.Prelude.{◌≡◌, ◌⊎◌, ◌≤◌, ◌↔◌, map, length, string_bytes, is_some, IfSome, IfOk, true, false, []};
+ghost use Rattle.std.specs.Prelude.{◌≡◌, ◌⊎◌, ◌≤◌, ◌↔◌, map, length, string_bytes, is_some, Some, IfSome, IfOk, true, false, []};
 ghost use Rattle.join_base.specs.Bytes.{TakesAtMost};
 ghost use Rattle.join_base.specs.Counts.{Rose};
 ghost use Rattle.join_top.specs.Words.{asked};
@@ -97,6 +97,7 @@ pub fn run_join<S: Source, K: Sink, E: Sink, G: Gate>(
     ensures kept { is_some result.kept ≡ has_run result.status }
     ensures how { IfSome result.kept (λ kept. kept.how ≡ How.Alone) }
     ensures within_budget { IfSome result.kept (λ kept. IsWithin (asked (map string_bytes words.now)) (length kept.journal)) }
+    ensures stopped { result.status ≡ 5 → IfSome result.kept (λ kept. asked (map string_bytes words.now) ≡ Some (length kept.journal)) }
 
     ensures write_fault { result.status ≡ 4 → Rose (K.faults out.old) (K.faults out.new) }
     ensures out_untouched { has_run result.status ≡ false → out.new ≡ out.old }
@@ -126,6 +127,7 @@ pub fn run_join<S: Source, K: Sink, E: Sink, G: Gate>(
 /// Runs a text with at most so many events.
 fn run_text(alloc: Global, text: &[u8], budget: u32) -> Result<Ran, Refusal>
     ensures within_budget { IfOk result (λ ran. length ran.kept.journal ≤ budget) }
+    ensures stopped { IfOk result (λ ran. ran.quiet ≡ false → length ran.kept.journal ≡ budget) }
     ensures how { IfOk result (λ ran. ran.kept.how ≡ How.Alone) }
 {
     let tokens = tokens(alloc, text)?;
@@ -145,6 +147,7 @@ fn run_text(alloc: Global, text: &[u8], budget: u32) -> Result<Ran, Refusal>
 /// Writes the text of a run, and answers the status of its end.
 fn write_text<K: Sink>(out: &mut K, ran: &Ran) -> u8
     ensures status { (result ≡ 0) ⊎ ((result ≡ 5) ⊎ (result ≡ 4)) }
+    ensures stopped { result ≡ 5 → ran.now.quiet ≡ false }
     ensures cause { result ≡ 4 → Rose (K.faults out.old) (K.faults out.new) }
 {
     match write_piece(out, ran.text.as_slice()) {
