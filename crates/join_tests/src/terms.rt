@@ -1,7 +1,9 @@
 // Terms and programs: what is made, copied and dropped.
 
 use crate::outcome::run;
-use chem_model::{Defs, Items, Loc, Memory, Name, Names, Proc};
+use chem_model::{
+    Defn, DefnNode, Defs, Event, Items, Loc, Memory, Name, Names, Out, Proc, ProcNode, Ref,
+};
 use std::alloc::Global;
 use std::test::Fail;
 
@@ -33,6 +35,57 @@ fn a_list_and_its_copy(rt: HostRuntime) -> Result<(), Fail> {
     let copy = names.copy(alloc)?;
     assert_eq!(rt; copy.len(), 2);
     assert_eq!(rt; copy.as_slice(), names.as_slice());
+    Ok(())
+}
+
+/// `b[ none : go(t, k) ]`, with a binder for the place, and for the target and the continuation.
+#[test]
+fn a_place_and_its_copy(rt: HostRuntime) -> Result<(), Fail> {
+    let alloc = rt.alloc();
+    let mut defs: Defs = Items::new(alloc);
+    let body = Proc::go(Ref::Binder(7), Ref::Binder(8));
+    defs.push(Defn::place(alloc, Ref::Binder(4), Items::new(alloc), body)?)?;
+    let copy = defs.copy(alloc)?;
+    let place = copy.as_slice().first().ok_or("the place is gone")?;
+    let parts = match place.node() {
+        DefnNode::Place { name, body, .. } => match body.node() {
+            ProcNode::Go { target, cont } => Some((*name, *target, *cont)),
+            _ => None,
+        },
+        DefnNode::Rule { .. } => None,
+    };
+    assert_eq!(rt;
+        parts,
+        Some((Ref::Binder(4), Ref::Binder(7), Ref::Binder(8)))
+    );
+    Ok(())
+}
+
+#[test]
+fn a_journal_and_its_copy(rt: HostRuntime) -> Result<(), Fail> {
+    let alloc = rt.alloc();
+    let run = run(alloc, "2", "site s [ x() => x() : x() ]")?;
+    let kept = run.ended.kept.as_ref().ok_or("nothing is kept")?;
+    let copy = kept.journal.copy(alloc)?;
+    assert_eq!(rt; copy.len(), 2);
+    let last = match copy.as_slice().last() {
+        Some(Event::React { took, .. }) => took.as_slice().first().map(|atom| atom.k),
+        _ => None,
+    };
+    assert_eq!(rt; last, Some(4));
+    Ok(())
+}
+
+#[test]
+fn observables_and_their_copy(rt: HostRuntime) -> Result<(), Fail> {
+    let alloc = rt.alloc();
+    let args = Items::from_slice(alloc, &[Name::Seen(3)])?;
+    let mut outs = Items::new(alloc);
+    outs.push(Out { on: 5, args })?;
+    let copy = outs.copy(alloc)?;
+    let first = copy.as_slice().first().ok_or("the observable is gone")?;
+    assert_eq!(rt; first.on, 5);
+    assert_eq!(rt; first.args.as_slice(), [Name::Seen(3)].as_slice());
     Ok(())
 }
 

@@ -77,12 +77,7 @@ pub fn run_alone(alloc: Global, program: &Program, budget: u32) -> Result<Run, M
 }
 
 /// Runs a site, given the declarations of observed names.
-pub fn run_parts(
-    alloc: Global,
-    seen: &SeenDecls,
-    site: &SiteTerm,
-    budget: u32,
-) -> Result<Run, Memory>
+fn run_parts(alloc: Global, seen: &SeenDecls, site: &SiteTerm, budget: u32) -> Result<Run, Memory>
     ensures within_budget { IfOk result (λ run. length run.journal ≤ budget) }
     ensures stopped { IfOk result (λ run. run.quiet ≡ false → length run.journal ≡ budget) }
 {

@@ -1,6 +1,6 @@
 //! The draft of a text of the first form: its sentence, with each identifier as its spelling, until the parser takes its place.
 
-ghost use Rattle.std.specs.Prelude.{◌≤◌, ◌<◌, length, OnOk, vec_len};
+ghost use Rattle.std.specs.Prelude.{◌≤◌, ◌<◌, OnOk, vec_len};
 
 use crate::refusal::Refusal;
 use crate::token::Token;

@@ -1,6 +1,6 @@
 //! The site-level names of a text of the first form.
 
-ghost use Rattle.std.specs.Prelude.{◌≡◌, ◌≤◌, ◌<◌, ◌^◌, ◌+◌, length, vec_len, IfOk};
+ghost use Rattle.std.specs.Prelude.{◌≡◌, ◌<◌, ◌+◌, length, IfOk};
 
 use crate::draft::Draft;
 use crate::refusal::Refusal;

@@ -1,5 +1,5 @@
 //! The top call.
-ghost use Rattle.std.specs.Prelude.{◌≡◌, ◌⊎◌, ◌≤◌, ◌↔◌, map, length, string_bytes, is_some, Some, IfSome, IfOk, true, false, []};
+ghost use Rattle.std.specs.Prelude.{◌≡◌, ◌⊎◌, ◌≤◌, map, length, string_bytes, is_some, Some, IfSome, IfOk, true, false, []};
 ghost use Rattle.join_base.specs.Bytes.{TakesAtMost};
 ghost use Rattle.join_base.specs.Counts.{Rose};
 ghost use Rattle.join_top.specs.Words.{asked};

@@ -12,17 +12,10 @@ struct Spelling<'p> {
 
 /// The text of a run: a line for each observable in order, then whether the run came to rest.
 pub fn trace_text(alloc: Global, program: &Program, run: &Run) -> Result<Text, Memory> {
-    trace_parts(alloc, &program.seen, &program.spell, run)
-}
-
-/// The text of a run, given the declarations of observed names and the spelling of each binder.
-fn trace_parts(
-    alloc: Global,
-    seen: &SeenDecls,
-    binders: &Texts,
-    run: &Run,
-) -> Result<Text, Memory> {
-    let spelling = Spelling { seen, binders };
+    let spelling = Spelling {
+        seen: &program.seen,
+        binders: &program.spell,
+    };
     let mut text = Items::new(alloc);
     for out in run.trace.as_slice() {
         push_out(&mut text, spelling, out)?;
