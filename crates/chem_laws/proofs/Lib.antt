@@ -1,0 +1,5 @@
+pub mod Lists
+pub mod Bags
+pub mod Terms
+pub mod Parts
+pub mod Within

@@ -1,0 +1,64 @@
+-- Laws of lists and of truth values.
+use Rattle.std.proofs.Common.{◌≡◌, ℕ, ◌+◌, ◌<◌, List, [], ◌∷◌, ◌++◌, Bool, true, false, cond, refl, sym, ap, ◌∙◌, subst, arith, ◌&&◌, ◌||◌, ◌==◌, eq-eqb, eqb-true, ◌⊎◌, inl, inr}
+use Rattle.chem_model.specs.Each.{Each}
+
+-- ---- truth values
+
+pub both_true : (a b : Bool) → a && b ≡ true → (a ≡ true) × (b ≡ true)
+both_true true b e = (refl, e)
+both_true false b e = cc
+
+pub true_both : (a b : Bool) → a ≡ true → b ≡ true → a && b ≡ true
+true_both true b e f = f
+true_both false b e f = cc
+
+pub or_left : (a b : Bool) → a ≡ true → a || b ≡ true
+or_left true b e = refl
+or_left false b e = cc
+
+pub or_right : (a b : Bool) → b ≡ true → a || b ≡ true
+or_right true b e = refl
+or_right false b e = e
+
+pub either_true : (a b : Bool) → a || b ≡ true → (a ≡ true) ⊎ (b ≡ true)
+either_true true b e = inl refl
+either_true false b e = inr e
+
+pub or_assoc : (a b c : Bool) → a || (b || c) ≡ (a || b) || c
+or_assoc true b c = refl
+or_assoc false b c = refl
+
+pub or_comm : (a b : Bool) → a || b ≡ b || a
+or_comm true true = refl
+or_comm true false = refl
+or_comm false true = refl
+or_comm false false = refl
+
+pub above : (m n : ℕ) → 0 < m + n → (0 < m) ⊎ (0 < n)
+above m n h = grind arith
+
+-- ---- lists
+
+pub append_nil : {X : Type 0} (xs : List X) → xs ++ [] ≡ xs
+append_nil [] = refl
+append_nil (x ∷ xs) = ap (λ ys. x ∷ ys) (append_nil xs)
+
+pub Each-weaker : {X : Type 0} (P Q : X → Type 0) → ((x : X) → P x → Q x) → (xs : List X) → Each P xs → Each Q xs
+Each-weaker P Q f [] h = tt
+Each-weaker P Q f (x ∷ xs) h = (f x h.0, Each-weaker P Q f xs h.1)
+
+pub Each-append : {X : Type 0} (P : X → Type 0) (xs ys : List X) → Each P xs → Each P ys → Each P (xs ++ ys)
+Each-append P [] ys h g = g
+Each-append P (x ∷ xs) ys h g = (h.0, Each-append P xs ys h.1 g)
+
+pub Each-left : {X : Type 0} (P : X → Type 0) (xs ys : List X) → Each P (xs ++ ys) → Each P xs
+Each-left P [] ys h = tt
+Each-left P (x ∷ xs) ys h = (h.0, Each-left P xs ys h.1)
+
+pub Each-right : {X : Type 0} (P : X → Type 0) (xs ys : List X) → Each P (xs ++ ys) → Each P ys
+Each-right P [] ys h = h
+Each-right P (x ∷ xs) ys h = Each-right P xs ys h.1
+
+pub Each-all : {X : Type 0} (P : X → Type 0) → ((x : X) → P x) → (xs : List X) → Each P xs
+Each-all P f [] = tt
+Each-all P f (x ∷ xs) = (f x, Each-all P f xs)

@@ -1,0 +1,161 @@
+-- Names in terms: a weaker fact, and filling.
+use Rattle.std.proofs.Common.{◌≡◌, ℕ, List, [], ◌∷◌, ◌++◌, Option, Some, None, Bool, true, false, cond, refl, sym, ap, ◌∙◌, ◌==◌, ◌||◌}
+use Rattle.std.specs.Prelude.{is_some}
+use Rattle.chem_model.specs.declared.name.Name.{Name}
+use Rattle.chem_model.specs.declared.name.Ref.{Ref}
+use Rattle.chem_model.specs.declared.name.Ref.TheVariants.{Binder, Known}
+use Rattle.chem_model.specs.declared.name.Pat.{Pat}
+use Rattle.chem_model.specs.Process.{Process, Msg, Par, Def, Go, Fail, Halt, Processes, none, one_more, Definition, Rule, Place, Definitions, no_definition, and_also}
+use Rattle.chem_model.specs.Binders.{is_among}
+use Rattle.chem_model.specs.Each.{Each}
+use Rattle.chem_model.specs.declared.numbered.Named.{Named}
+use Rattle.chem_model.specs.Fill.{Naming, name_at, or_binder, fill_ref, fill_refs, fill_pats, fill, fill_all, fill_definition, fill_definitions}
+use Rattle.chem_model.specs.OnNames.{OnRef, OnProcess, OnProcesses, OnDefinition, OnDefinitions}
+use Rattle.chem_model.specs.NewNames.{HasDomain}
+use Rattle.chem_laws.proofs.Lists.{Each-weaker, or_assoc}
+
+-- ---- a weaker fact
+module _ (Q R : Name → Type 0) (f : (n : Name) → Q n → R n) where
+  pub ref_weaker : (r : Ref) → OnRef Q r → OnRef R r
+  ref_weaker (Binder b) h = tt
+  ref_weaker (Known n) h = f n h
+
+  pub refs_weaker : (rs : List Ref) → Each (OnRef Q) rs → Each (OnRef R) rs
+  refs_weaker [] h = tt
+  refs_weaker (r ∷ rs) h = (ref_weaker r h.0, refs_weaker rs h.1)
+
+  pub pats_weaker : (ps : List Pat) → Each (λ (q : Pat). OnRef Q q.on) ps → Each (λ (q : Pat). OnRef R q.on) ps
+  pats_weaker [] h = tt
+  pats_weaker (p ∷ ps) h = (ref_weaker p.on h.0, pats_weaker ps h.1)
+
+  mutual
+    pub process_weaker : (p : Process) → OnProcess Q p → OnProcess R p
+    process_weaker (Msg x vs) h = (ref_weaker x h.0, refs_weaker vs h.1)
+    process_weaker (Par ps) h = processes_weaker ps h
+    process_weaker (Def ds p) h = (definitions_weaker ds h.0, process_weaker p h.1)
+    process_weaker (Go b k) h = (ref_weaker b h.0, ref_weaker k h.1)
+    process_weaker (Fail b k) h = (ref_weaker b h.0, ref_weaker k h.1)
+    process_weaker Halt h = tt
+
+    pub processes_weaker : (ps : Processes) → OnProcesses Q ps → OnProcesses R ps
+    processes_weaker none h = tt
+    processes_weaker (one_more p ps) h = (process_weaker p h.0, processes_weaker ps h.1)
+
+    pub definition_weaker : (d : Definition) → OnDefinition Q d → OnDefinition R d
+    definition_weaker (Rule ps p) h = (pats_weaker ps h.0, process_weaker p h.1)
+    definition_weaker (Place a ds p) h = (ref_weaker a h.0, definitions_weaker ds h.1, process_weaker p h.2)
+
+    pub definitions_weaker : (ds : Definitions) → OnDefinitions Q ds → OnDefinitions R ds
+    definitions_weaker no_definition h = tt
+    definitions_weaker (and_also d ds) h = (definition_weaker d h.0, definitions_weaker ds h.1)
+
+-- ---- filling
+abbrev pub OnEntries : (Name → Type 0) → Naming → Type 0
+OnEntries Q = Each (λ (e : Named). Q e.name)
+
+module _ (Q : Name → Type 0) (m : Naming) (f : OnEntries Q m) where
+  pub found_on : (es : Naming) → OnEntries Q es → (b : ℕ) → OnRef Q (or_binder b (name_at es b))
+  found_on [] g b = tt
+  found_on (e ∷ es) g b = go (e.binder == b) (found_on es g.1 b)
+    where
+      go : (t : Bool) → OnRef Q (or_binder b (name_at es b)) → OnRef Q (or_binder b (cond t (Some e.name) (name_at es b)))
+      go true ih = g.0
+      go false ih = ih
+
+  pub ref_filled : (r : Ref) → OnRef Q r → OnRef Q (fill_ref m r)
+  ref_filled (Binder b) h = found_on m f b
+  ref_filled (Known n) h = h
+
+  pub refs_filled : (rs : List Ref) → Each (OnRef Q) rs → Each (OnRef Q) (fill_refs m rs)
+  refs_filled [] h = tt
+  refs_filled (r ∷ rs) h = (ref_filled r h.0, refs_filled rs h.1)
+
+  pub pats_filled : (ps : List Pat) → Each (λ (q : Pat). OnRef Q q.on) ps → Each (λ (q : Pat). OnRef Q q.on) (fill_pats m ps)
+  pats_filled [] h = tt
+  pats_filled (p ∷ ps) h = (ref_filled p.on h.0, pats_filled ps h.1)
+
+  mutual
+    pub process_filled : (p : Process) → OnProcess Q p → OnProcess Q (fill m p)
+    process_filled (Msg x vs) h = (ref_filled x h.0, refs_filled vs h.1)
+    process_filled (Par ps) h = processes_filled ps h
+    process_filled (Def ds p) h = (definitions_filled ds h.0, process_filled p h.1)
+    process_filled (Go b k) h = (ref_filled b h.0, ref_filled k h.1)
+    process_filled (Fail b k) h = (ref_filled b h.0, ref_filled k h.1)
+    process_filled Halt h = tt
+
+    pub processes_filled : (ps : Processes) → OnProcesses Q ps → OnProcesses Q (fill_all m ps)
+    processes_filled none h = tt
+    processes_filled (one_more p ps) h = (process_filled p h.0, processes_filled ps h.1)
+
+    pub definition_filled : (d : Definition) → OnDefinition Q d → OnDefinition Q (fill_definition m d)
+    definition_filled (Rule ps p) h = (pats_filled ps h.0, process_filled p h.1)
+    definition_filled (Place a ds p) h = (ref_filled a h.0, definitions_filled ds h.1, process_filled p h.2)
+
+    pub definitions_filled : (ds : Definitions) → OnDefinitions Q ds → OnDefinitions Q (fill_definitions m ds)
+    definitions_filled no_definition h = tt
+    definitions_filled (and_also d ds) h = (definition_filled d h.0, definitions_filled ds h.1)
+
+-- ---- filling twice
+abbrev pub or_name : Option Name → Option Name → Option Name
+or_name None q = q
+or_name (Some x) q = Some x
+
+pub name_at-append : (m n : Naming) (b : ℕ) → name_at (m ++ n) b ≡ or_name (name_at m b) (name_at n b)
+name_at-append [] n b = refl
+name_at-append (e ∷ m) n b = go (e.binder == b) (name_at-append m n b)
+  where
+    go : (t : Bool) → name_at (m ++ n) b ≡ or_name (name_at m b) (name_at n b) → cond t (Some e.name) (name_at (m ++ n) b) ≡ or_name (cond t (Some e.name) (name_at m b)) (name_at n b)
+    go true ih = refl
+    go false ih = ih
+
+module _ (m n : Naming) where
+  or_binder-twice : (b : ℕ) (o : Option Name) → fill_ref n (or_binder b o) ≡ or_binder b (or_name o (name_at n b))
+  or_binder-twice b None = refl
+  or_binder-twice b (Some x) = refl
+
+  pub fill_ref-twice : (r : Ref) → fill_ref n (fill_ref m r) ≡ fill_ref (m ++ n) r
+  fill_ref-twice (Binder b) = or_binder-twice b (name_at m b) ∙ ap (or_binder b) (sym (name_at-append m n b))
+  fill_ref-twice (Known x) = refl
+
+  pub fill_refs-twice : (rs : List Ref) → fill_refs n (fill_refs m rs) ≡ fill_refs (m ++ n) rs
+  fill_refs-twice [] = refl
+  fill_refs-twice (r ∷ rs) = λ i. fill_ref-twice r i ∷ fill_refs-twice rs i
+
+  pub fill_pats-twice : (ps : List Pat) → fill_pats n (fill_pats m ps) ≡ fill_pats (m ++ n) ps
+  fill_pats-twice [] = refl
+  fill_pats-twice (p ∷ ps) = λ i. record { on = fill_ref-twice p.on i; params = p.params } ∷ fill_pats-twice ps i
+
+  mutual
+    pub fill-twice : (p : Process) → fill n (fill m p) ≡ fill (m ++ n) p
+    fill-twice (Msg x vs) = λ i. Msg (fill_ref-twice x i) (fill_refs-twice vs i)
+    fill-twice (Par ps) = ap Par (fill_all-twice ps)
+    fill-twice (Def ds p) = λ i. Def (fill_definitions-twice ds i) (fill-twice p i)
+    fill-twice (Go b k) = λ i. Go (fill_ref-twice b i) (fill_ref-twice k i)
+    fill-twice (Fail b k) = λ i. Fail (fill_ref-twice b i) (fill_ref-twice k i)
+    fill-twice Halt = refl
+
+    pub fill_all-twice : (ps : Processes) → fill_all n (fill_all m ps) ≡ fill_all (m ++ n) ps
+    fill_all-twice none = refl
+    fill_all-twice (one_more p ps) = λ i. one_more (fill-twice p i) (fill_all-twice ps i)
+
+    pub fill_definition-twice : (d : Definition) → fill_definition n (fill_definition m d) ≡ fill_definition (m ++ n) d
+    fill_definition-twice (Rule ps p) = λ i. Rule (fill_pats-twice ps i) (fill-twice p i)
+    fill_definition-twice (Place a ds p) = λ i. Place (fill_ref-twice a i) (fill_definitions-twice ds i) (fill-twice p i)
+
+    pub fill_definitions-twice : (ds : Definitions) → fill_definitions n (fill_definitions m ds) ≡ fill_definitions (m ++ n) ds
+    fill_definitions-twice no_definition = refl
+    fill_definitions-twice (and_also d ds) = λ i. and_also (fill_definition-twice d i) (fill_definitions-twice ds i)
+
+-- ---- which binders have a name
+
+pub some_or : (o q : Option Name) → is_some (or_name o q) ≡ is_some o || is_some q
+some_or None q = refl
+some_or (Some x) q = refl
+
+pub among-append : (bs cs : List ℕ) (c : ℕ) → is_among (bs ++ cs) c ≡ is_among bs c || is_among cs c
+among-append [] cs c = refl
+among-append (b ∷ bs) cs c = ap (λ t. (b == c) || t) (among-append bs cs c) ∙ or_assoc (b == c) (is_among bs c) (is_among cs c)
+
+pub domain-append : (bs cs : List ℕ) (m n : Naming) → HasDomain bs m → HasDomain cs n → HasDomain (bs ++ cs) (m ++ n)
+domain-append bs cs m n h g b =
+    ap is_some (name_at-append m n b) ∙ some_or (name_at m b) (name_at n b) ∙ ap (λ t. t || is_some (name_at n b)) (h b) ∙ ap (λ t. is_among bs b || t) (g b) ∙ sym (among-append bs cs b)
