@@ -3,3 +3,4 @@ pub mod Bags
 pub mod Terms
 pub mod Parts
 pub mod Within
+pub mod Places

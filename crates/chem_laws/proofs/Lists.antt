@@ -1,5 +1,7 @@
 -- Laws of lists and of truth values.
-use Rattle.std.proofs.Common.{◌≡◌, ℕ, ◌+◌, ◌<◌, List, [], ◌∷◌, ◌++◌, Bool, true, false, cond, refl, sym, ap, ◌∙◌, subst, arith, ◌&&◌, ◌||◌, ◌==◌, eq-eqb, eqb-true, ◌⊎◌, inl, inr}
+use Rattle.std.proofs.Common.{◌≡◌, ℕ, ◌+◌, ◌<◌, List, [], ◌∷◌, ◌++◌, Bool, true, false, cond, refl, sym, ap, ◌∙◌, subst, arith, ◌&&◌, ◌||◌, ◌==◌, eq-eqb, eqb-true, ◌⊎◌, inl, inr, zero, suc, length}
+use Rattle.std.specs.Prelude.{slice_index_or}
+use Rattle.std.specs.List.{All, AllPairs}
 use Rattle.chem_model.specs.Each.{Each}
 
 -- ---- truth values
@@ -62,3 +64,26 @@ Each-right P (x ∷ xs) ys h = Each-right P xs ys h.1
 pub Each-all : {X : Type 0} (P : X → Type 0) → ((x : X) → P x) → (xs : List X) → Each P xs
 Each-all P f [] = tt
 Each-all P f (x ∷ xs) = (f x, Each-all P f xs)
+
+-- ---- std's words for all members and all pairs of members, by recursion
+
+pub all_each : {X : Type 0} (P : X → Type 0) (xs : List X) → All P xs → Each P xs
+all_each P [] h = tt
+all_each P (x ∷ xs) h = (h 0 x (omega arith), all_each P xs (λ k d lt. h (suc k) d (omega arith)))
+
+pub each_all : {X : Type 0} (P : X → Type 0) (xs : List X) → Each P xs → All P xs
+each_all P [] h = λ k d lt. absurd (omega arith)
+each_all {X} P (x ∷ xs) h = go (each_all P xs h.1)
+  where
+    go : All P xs → (k : ℕ) (d : X) → k < length (x ∷ xs) → P (slice_index_or (x ∷ xs) k d)
+    go rest zero d lt = h.0
+    go rest (suc k) d lt = rest k d (omega arith)
+
+-- each member with each later one
+abbrev pub EachPair : {X : Type 0} → (X → X → Type 0) → List X → Type 0
+EachPair R [] = Unit {0}
+EachPair R (x ∷ xs) = Each (R x) xs × EachPair R xs
+
+pub pairs_each : {X : Type 0} (R : X → X → Type 0) (xs : List X) → AllPairs R xs → EachPair R xs
+pairs_each R [] h = tt
+pairs_each R (x ∷ xs) h = (all_each (R x) xs (λ k d lt. h 0 (suc k) d (omega arith) (omega arith)), pairs_each R xs (λ i j d lt le. h (suc i) (suc j) d (omega arith) (omega arith)))
