@@ -4,3 +4,12 @@ pub mod Terms
 pub mod Parts
 pub mod Within
 pub mod Places
+pub mod PourSoundMade
+pub mod PourSoundPieces
+pub mod PourSoundTerms
+pub mod PourSound
+pub mod Taking
+pub mod Requests
+pub mod Step
+pub mod Quiet
+pub mod Replay
