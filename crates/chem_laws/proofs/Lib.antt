@@ -13,3 +13,8 @@ pub mod Requests
 pub mod Step
 pub mod Quiet
 pub mod Replay
+pub mod Filled
+pub mod FilledRule
+pub mod Naming
+pub mod NamingLevels
+pub mod NamingRange
