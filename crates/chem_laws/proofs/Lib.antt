@@ -18,3 +18,12 @@ pub mod FilledRule
 pub mod Naming
 pub mod NamingLevels
 pub mod NamingRange
+pub mod PlacesReached
+pub mod Reached
+pub mod ReachedBelow
+pub mod ReachedMade
+pub mod ReachedNames
+pub mod ReachedNumbered
+pub mod ReachedNumbers
+pub mod ReachedPour
+pub mod Tied

@@ -3,4 +3,4 @@
 
 mod laws;
 
-pub use laws::dead_is_within;
+pub use laws::{dead_is_within, event_is_a_reduction, stuck_is_quiet};
