@@ -1,11 +1,14 @@
 //! Terms, names and events of the chemical machine.
 #![tactic(auto)]
 
+mod apply;
 mod event;
 mod items;
 mod memory;
 mod name;
 mod numbered;
+mod opening;
+mod pour;
 mod program;
 mod term;
 

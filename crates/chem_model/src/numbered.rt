@@ -1,7 +1,14 @@
+ghost use Rattle.std.specs.Prelude.{◌≡◌, IfOk, slice_index};
+ghost use Rattle.chem_model.specs.Solution.{same_loc, host_of, is_there, is_marked, root, dead, live};
+ghost use Rattle.chem_model.specs.Numbered.{standing, same_name, binder_in};
+ghost use Rattle.chem_model.specs.Poured.{standing_of};
+
 use crate::event::{AtomId, Outs, RuleId};
 use crate::items::Items;
+use crate::memory::Memory;
 use crate::name::{Loc, Name, Nums, Pats};
 use crate::term::Proc;
+use std::alloc::Global;
 
 /// A name that was given to a binder.
 #[derive(Clone, Copy, PartialEq, Eq, Debug)]
@@ -69,4 +76,237 @@ pub struct Made {
     pub rules: NumberedRules,
     pub atoms: NumberedAtoms,
     pub outs: Outs,
+}
+
+impl Named {
+    /// A name that was given that is equal to this one. It takes no memory.
+    pub fn copy(&self, _alloc: Global) -> Result<Named, Memory>
+        ensures { result ≡ Ok self.now }
+    {
+        Ok(*self)
+    }
+}
+
+impl Placed {
+    /// A location of a solution that is equal to this one. It takes no memory.
+    pub fn copy(&self, _alloc: Global) -> Result<Placed, Memory>
+        ensures { result ≡ Ok self.now }
+    {
+        Ok(*self)
+    }
+}
+
+impl NumberedRule {
+    /// A rule that is equal to this one.
+    pub fn copy(&self, alloc: Global) -> Result<NumberedRule, Memory>
+        ensures { IfOk result (λ copy. copy ≡ self.now) }
+    {
+        let pats = self.pats.copy(alloc)?;
+        let body = self.body.copy(alloc)?;
+        Ok(NumberedRule {
+            id: self.id,
+            loc: self.loc,
+            pats,
+            body,
+        })
+    }
+}
+
+impl NumberedAtom {
+    /// A message or a request that is equal to this one.
+    pub fn copy(&self, alloc: Global) -> Result<NumberedAtom, Memory>
+        ensures { IfOk result (λ copy. copy ≡ self.now) }
+    {
+        let term = self.term.copy(alloc)?;
+        Ok(NumberedAtom {
+            id: self.id,
+            loc: self.loc,
+            term,
+        })
+    }
+}
+
+impl Items<NumberedRule> {
+    /// A list that is equal to this one.
+    pub fn copy(&self, alloc: Global) -> Result<NumberedRules, Memory>
+        ensures { IfOk result (λ copy. copy ≡ self.now) }
+    {
+        let mut list = Items::new(alloc);
+        for member in self.as_slice() {
+            list.push(member.copy(alloc)?)?;
+        }
+        Ok(list)
+    }
+}
+
+impl Items<NumberedAtom> {
+    /// A list that is equal to this one.
+    pub fn copy(&self, alloc: Global) -> Result<NumberedAtoms, Memory>
+        ensures { IfOk result (λ copy. copy ≡ self.now) }
+    {
+        let mut list = Items::new(alloc);
+        for member in self.as_slice() {
+            list.push(member.copy(alloc)?)?;
+        }
+        Ok(list)
+    }
+}
+
+impl Made {
+    /// What was made, once more.
+    pub fn copy(&self, alloc: Global) -> Result<Made, Memory>
+        ensures { IfOk result (λ copy. copy ≡ self.now) }
+    {
+        let births = self.births.copy(alloc)?;
+        let named = self.named.copy(alloc)?;
+        let rules = self.rules.copy(alloc)?;
+        let atoms = self.atoms.copy(alloc)?;
+        let outs = self.outs.copy(alloc)?;
+        Ok(Made {
+            next: self.next,
+            births,
+            named,
+            rules,
+            atoms,
+            outs,
+        })
+    }
+}
+
+/// Whether two locations are the same.
+pub(crate) fn same_loc(one: Loc, other: Loc) -> bool
+    ensures { result ≡ same_loc one other }
+{
+    one.site == other.site && one.k == other.k
+}
+
+/// Whether two names are the same.
+pub(crate) fn same_name(one: Name, other: Name) -> bool
+    ensures { result ≡ same_name one other }
+{
+    match (one, other) {
+        (Name::Seen(on), Name::Seen(other_on)) => on == other_on,
+        (Name::Place(loc), Name::Place(other_loc)) => same_loc(loc, other_loc),
+        (
+            Name::Chan { site, k, home },
+            Name::Chan {
+                site: other_site,
+                k: other_k,
+                home: other_home,
+            },
+        ) => site == other_site && k == other_k && same_loc(home, other_home),
+        _ => false,
+    }
+}
+
+/// The entry of a location. Of two entries the first counts.
+fn place_at(places: &PlacedList, at: Loc) -> Option<Placed>
+    ensures { standing_of result ≡ standing places.now at }
+{
+    for placed in places.as_slice() {
+        if same_loc(placed.loc, at) {
+            return Some(*placed);
+        }
+    }
+    None
+}
+
+impl Numbered {
+    /// A numbered solution that is equal to this one.
+    pub fn copy(&self, alloc: Global) -> Result<Numbered, Memory>
+        ensures { IfOk result (λ copy. copy ≡ self.now) }
+    {
+        let seen = self.seen.copy(alloc)?;
+        let counts = self.counts.copy(alloc)?;
+        let places = self.places.copy(alloc)?;
+        let named = self.named.copy(alloc)?;
+        let rules = self.rules.copy(alloc)?;
+        let atoms = self.atoms.copy(alloc)?;
+        let trace = self.trace.copy(alloc)?;
+        Ok(Numbered {
+            seen,
+            counts,
+            places,
+            named,
+            rules,
+            atoms,
+            trace,
+        })
+    }
+
+    /// The binder for which a location or a channel was made. None where the name was not made here.
+    pub fn binder_of(&self, name: &Name) -> Option<u32>
+        ensures { result ≡ binder_in self.now.named name.now }
+    {
+        for entry in self.named.as_slice() {
+            if same_name(entry.name, *name) {
+                return Some(entry.binder);
+            }
+        }
+        None
+    }
+
+    /// Whether this is one of the solution's locations.
+    pub(crate) fn is_there(&self, at: Loc) -> bool
+        ensures { result ≡ is_there (standing self.now.places at) }
+    {
+        match place_at(&self.places, at) {
+            Some(_) => true,
+            None => false,
+        }
+    }
+
+    /// Whether a location is marked.
+    fn is_marked(&self, at: Loc) -> bool
+        ensures { result ≡ is_marked (standing self.now.places at) }
+    {
+        match place_at(&self.places, at) {
+            Some(placed) => placed.marked,
+            None => false,
+        }
+    }
+
+    /// The host of a location. A root has none.
+    pub(crate) fn host(&self, at: Loc) -> Option<Loc>
+        ensures { result ≡ host_of (standing self.now.places at) }
+    {
+        match place_at(&self.places, at) {
+            Some(placed) => placed.host,
+            None => None,
+        }
+    }
+
+    /// The root of a location: its host, or itself where it has none.
+    pub(crate) fn root(&self, at: Loc) -> Loc
+        ensures { result ≡ root (standing self.now.places) at }
+    {
+        match self.host(at) {
+            Some(host) => host,
+            None => at,
+        }
+    }
+
+    /// Whether a location is within a marked one.
+    pub(crate) fn is_dead(&self, at: Loc) -> bool
+        ensures { result ≡ dead (standing self.now.places) at }
+    {
+        self.is_marked(at) || self.is_marked(self.root(at))
+    }
+
+    /// Whether this is a location that isn't dead.
+    pub(crate) fn is_live(&self, at: Loc) -> bool
+        ensures { result ≡ live (standing self.now.places) at }
+    {
+        self.is_there(at) && !self.is_dead(at)
+    }
+
+    /// The next number of a site.
+    pub(crate) fn next_of(&self, site: u32) -> u64
+        ensures { result ≡ slice_index self.now.counts site }
+    {
+        match self.counts.as_slice().get(site as usize) {
+            Some(count) => *count,
+            None => 0,
+        }
+    }
 }

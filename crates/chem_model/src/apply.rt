@@ -1,0 +1,393 @@
+// The effect of an event, and the replay of a journal.
+ghost use Rattle.std.specs.Prelude.{◌≡◌, IfOk, Some, None};
+ghost use Rattle.std.specs.Option.{option_copied};
+ghost use Rattle.chem_model.specs.Poured.{location_of};
+ghost use Rattle.chem_model.specs.Reduction.{given, continuation};
+ghost use Rattle.chem_model.specs.Apply.{same_atom, same_rule, same_ref, rule_at, atom_at, without, without_all, received, received_at, received_all, with_hosts, with_marks, can_go, can_detect, move_to, move_atom, halt_atom, detect_of, detect_atom, react_rule, apply, replay};
+
+use crate::event::{AtomId, Atoms, Event, Journal, RuleId};
+use crate::items::Items;
+use crate::memory::Memory;
+use crate::name::{Loc, Name, Names, Nums, Pat, Pats, Ref};
+use crate::numbered::{
+    Named, Naming, Numbered, NumberedAtom, NumberedAtoms, NumberedRule, Placed, PlacedList, same_loc, same_name,
+};
+use crate::pour::{add_names, known_names};
+use crate::program::Program;
+use crate::term::{Proc, ProcNode};
+use std::alloc::Global;
+
+fn same_atom(one: AtomId, other: AtomId) -> bool
+    ensures { result ≡ same_atom one other }
+{
+    one.site == other.site && one.k == other.k
+}
+
+fn same_rule(one: RuleId, other: RuleId) -> bool
+    ensures { result ≡ same_rule one other }
+{
+    one.site == other.site && one.k == other.k
+}
+
+/// Whether two occurrences are the same known name.
+fn same_ref(one: Ref, other: Ref) -> bool
+    ensures { result ≡ same_ref one other }
+{
+    match (one, other) {
+        (Ref::Known(name), Ref::Known(other_name)) => same_name(name, other_name),
+        _ => false,
+    }
+}
+
+/// The message or request with this number.
+fn atom_at(atoms: &NumberedAtoms, id: AtomId) -> Option<&NumberedAtom>
+    ensures { option_copied result ≡ atom_at atoms.now id }
+{
+    for atom in atoms.as_slice() {
+        if same_atom(atom.id, id) {
+            return Some(atom);
+        }
+    }
+    None
+}
+
+/// The messages and requests but the one with this number.
+fn without(alloc: Global, id: AtomId, atoms: &NumberedAtoms) -> Result<NumberedAtoms, Memory>
+    ensures { IfOk result (λ left. left ≡ without id atoms.now) }
+{
+    let mut list = Items::new(alloc);
+    let mut gone = false;
+    for atom in atoms.as_slice() {
+        if !gone && same_atom(atom.id, id) {
+            gone = true;
+        } else {
+            list.push(atom.copy(alloc)?)?;
+        }
+    }
+    Ok(list)
+}
+
+/// The messages and requests but those with these numbers.
+fn without_all(alloc: Global, took: &Atoms, atoms: &NumberedAtoms) -> Result<NumberedAtoms, Memory>
+    ensures { IfOk result (λ left. left ≡ without_all took.now atoms.now) }
+{
+    let mut left = atoms.copy(alloc)?;
+    for id in took.as_slice() {
+        left = without(alloc, *id, &left)?;
+    }
+    Ok(left)
+}
+
+/// Names given to parameters, in order.
+fn given(alloc: Global, params: &Nums, names: &Names) -> Result<Naming, Memory>
+    ensures { IfOk result (λ naming. naming ≡ given params.now names.now) }
+{
+    let mut list = Items::new(alloc);
+    for (at, binder) in params.as_slice().iter().enumerate() {
+        match names.as_slice().get(at) {
+            Some(name) => list.push(Named {
+                binder: *binder,
+                name: *name,
+            })?,
+            None => return Ok(list),
+        }
+    }
+    Ok(list)
+}
+
+/// The names that a pattern receives from a message on its channel with its count. None from any other process.
+fn received(alloc: Global, pat: &Pat, term: &Proc) -> Result<Option<Naming>, Memory>
+    ensures { IfOk result (λ names. names ≡ received pat.now term.now) }
+{
+    match term.node() {
+        ProcNode::Msg { on, args } => {
+            if same_ref(pat.on, *on) && pat.params.len() == args.len() {
+                let names = known_names(alloc, args)?;
+                let naming = given(alloc, &pat.params, &names)?;
+                Ok(Some(naming))
+            } else {
+                Ok(None)
+            }
+        }
+        _ => Ok(None),
+    }
+}
+
+/// The names that a pattern receives from the atom with this number, where it stands at the location.
+fn received_at(
+    alloc: Global,
+    at: Loc,
+    pat: &Pat,
+    atoms: &NumberedAtoms,
+    id: AtomId,
+) -> Result<Option<Naming>, Memory>
+    ensures { IfOk result (λ names. names ≡ received_at at pat.now (atom_at atoms.now id)) }
+{
+    match atom_at(atoms, id) {
+        Some(atom) => {
+            if same_loc(atom.loc, at) {
+                received(alloc, pat, &atom.term)
+            } else {
+                Ok(None)
+            }
+        }
+        None => Ok(None),
+    }
+}
+
+/// The names received where there is one message for each pattern, in order, each at the location.
+#[tactic(auto, using(crate::proofs::Drops::received_more))]
+fn received_all(
+    alloc: Global,
+    atoms: &NumberedAtoms,
+    at: Loc,
+    pats: &Pats,
+    took: &Atoms,
+) -> Result<Option<Naming>, Memory>
+    ensures { IfOk result (λ names. names ≡ received_all atoms.now at pats.now took.now) }
+{
+    let mut names = Items::new(alloc);
+    for (index, pat) in pats.as_slice().iter().enumerate() {
+        match took.as_slice().get(index) {
+            Some(id) => match received_at(alloc, at, pat, atoms, *id)? {
+                Some(more) => add_names(&mut names, &more)?,
+                None => return Ok(None),
+            },
+            None => return Ok(None),
+        }
+    }
+    if took.len() == pats.len() {
+        Ok(Some(names))
+    } else {
+        Ok(None)
+    }
+}
+
+/// The locations, with another host of one of them.
+fn with_hosts(alloc: Global, at: Loc, host: Loc, places: &PlacedList) -> Result<PlacedList, Memory>
+    ensures { IfOk result (λ changed. changed ≡ with_hosts at host places.now) }
+{
+    let mut list = Items::new(alloc);
+    for placed in places.as_slice() {
+        if same_loc(placed.loc, at) {
+            list.push(Placed {
+                loc: placed.loc,
+                host: Some(host),
+                marked: placed.marked,
+            })?;
+        } else {
+            list.push(*placed)?;
+        }
+    }
+    Ok(list)
+}
+
+/// The locations, with one of them marked.
+fn with_marks(alloc: Global, at: Loc, places: &PlacedList) -> Result<PlacedList, Memory>
+    ensures { IfOk result (λ changed. changed ≡ with_marks at places.now) }
+{
+    let mut list = Items::new(alloc);
+    for placed in places.as_slice() {
+        if same_loc(placed.loc, at) {
+            list.push(Placed {
+                loc: placed.loc,
+                host: placed.host,
+                marked: true,
+            })?;
+        } else {
+            list.push(*placed)?;
+        }
+    }
+    Ok(list)
+}
+
+/// The message without arguments that a request becomes.
+fn continuation(alloc: Global, cont: Ref) -> Proc
+    ensures { result ≡ continuation cont }
+{
+    Proc::msg(cont, Items::new(alloc))
+}
+
+/// The location that an occurrence is. None where it is another name.
+fn location_of(occurrence: Ref) -> Option<Loc>
+    ensures { result ≡ location_of occurrence }
+{
+    match occurrence {
+        Ref::Known(Name::Place(loc)) => Some(loc),
+        _ => None,
+    }
+}
+
+impl Numbered {
+    fn rule_at(&self, id: RuleId) -> Option<&NumberedRule>
+        ensures { option_copied result ≡ rule_at self.now.rules id }
+    {
+        for rule in self.rules.as_slice() {
+            if same_rule(rule.id, id) {
+                return Some(rule);
+            }
+        }
+        None
+    }
+
+    /// The solution with other locations, and other messages and requests.
+    fn changed(&self, alloc: Global, places: PlacedList, atoms: NumberedAtoms) -> Result<Numbered, Memory>
+        ensures { IfOk result (λ changed. changed ≡ record self.now { places = places; atoms = atoms }) }
+    {
+        let seen = self.seen.copy(alloc)?;
+        let counts = self.counts.copy(alloc)?;
+        let named = self.named.copy(alloc)?;
+        let rules = self.rules.copy(alloc)?;
+        let trace = self.trace.copy(alloc)?;
+        Ok(Numbered {
+            seen,
+            counts,
+            places,
+            named,
+            rules,
+            atoms,
+            trace,
+        })
+    }
+
+    /// A rule takes messages.
+    fn react(&self, alloc: Global, rule: &NumberedRule, took: &Atoms) -> Result<Option<Numbered>, Memory>
+        ensures { IfOk result (λ after. after ≡ react_rule self.now took.now (Some rule.now)) }
+    {
+        if !self.is_live(rule.loc) {
+            return Ok(None);
+        }
+        match received_all(alloc, &self.atoms, rule.loc, &rule.pats, took)? {
+            Some(names) => {
+                let places = self.places.copy(alloc)?;
+                let atoms = without_all(alloc, took, &self.atoms)?;
+                let left = self.changed(alloc, places, atoms)?;
+                let after = left.pour_at(alloc, &names, rule.loc, &rule.body)?;
+                Ok(Some(after))
+            }
+            None => Ok(None),
+        }
+    }
+
+    /// Whether a location can move: a live location with a host may go to a live root.
+    fn can_go(&self, at: Loc, to: Loc) -> bool
+        ensures { result ≡ can_go self.now at to }
+    {
+        self.is_live(at) && self.host(at).is_some() && self.is_live(to) && self.host(to).is_none()
+    }
+
+    /// Whether a failure can be detected: at a live location the one of a location that is there and is dead.
+    fn can_detect(&self, at: Loc, of: Loc) -> bool
+        ensures { result ≡ can_detect self.now at of }
+    {
+        self.is_live(at) && self.is_there(of) && self.is_dead(of)
+    }
+
+    /// The request goes, the host changes, and the continuation is poured at the moved location.
+    fn move_to(&self, alloc: Global, id: AtomId, at: Loc, cont: Ref, to: Loc) -> Result<Option<Numbered>, Memory>
+        ensures { IfOk result (λ after. after ≡ move_to self.now id at cont to) }
+    {
+        if !self.can_go(at, to) {
+            return Ok(None);
+        }
+        let places = with_hosts(alloc, at, to, &self.places)?;
+        let atoms = without(alloc, id, &self.atoms)?;
+        let left = self.changed(alloc, places, atoms)?;
+        let after = left.pour_at(alloc, &Items::new(alloc), at, &continuation(alloc, cont))?;
+        Ok(Some(after))
+    }
+
+    fn move_atom(&self, alloc: Global, id: AtomId, atom: &NumberedAtom) -> Result<Option<Numbered>, Memory>
+        ensures { IfOk result (λ after. after ≡ move_atom self.now id atom.now.loc atom.now.term) }
+    {
+        match atom.term.node() {
+            ProcNode::Go { target, cont } => match location_of(*target) {
+                Some(to) => self.move_to(alloc, id, atom.loc, *cont, to),
+                None => Ok(None),
+            },
+            _ => Ok(None),
+        }
+    }
+
+    /// The request goes, and its location is marked.
+    fn halt_atom(&self, alloc: Global, id: AtomId, atom: &NumberedAtom) -> Result<Option<Numbered>, Memory>
+        ensures { IfOk result (λ after. after ≡ halt_atom self.now id atom.now.loc atom.now.term) }
+    {
+        match atom.term.node() {
+            ProcNode::Halt => {
+                if !self.is_live(atom.loc) {
+                    return Ok(None);
+                }
+                let places = with_marks(alloc, atom.loc, &self.places)?;
+                let atoms = without(alloc, id, &self.atoms)?;
+                let after = self.changed(alloc, places, atoms)?;
+                Ok(Some(after))
+            }
+            _ => Ok(None),
+        }
+    }
+
+    /// The request goes, and its continuation is poured at its location.
+    fn detect_of(&self, alloc: Global, id: AtomId, at: Loc, cont: Ref, of: Loc) -> Result<Option<Numbered>, Memory>
+        ensures { IfOk result (λ after. after ≡ detect_of self.now id at cont of) }
+    {
+        if !self.can_detect(at, of) {
+            return Ok(None);
+        }
+        let places = self.places.copy(alloc)?;
+        let atoms = without(alloc, id, &self.atoms)?;
+        let left = self.changed(alloc, places, atoms)?;
+        let after = left.pour_at(alloc, &Items::new(alloc), at, &continuation(alloc, cont))?;
+        Ok(Some(after))
+    }
+
+    fn detect_atom(&self, alloc: Global, id: AtomId, atom: &NumberedAtom) -> Result<Option<Numbered>, Memory>
+        ensures { IfOk result (λ after. after ≡ detect_atom self.now id atom.now.loc atom.now.term) }
+    {
+        match atom.term.node() {
+            ProcNode::Fail { target, cont } => match location_of(*target) {
+                Some(of) => self.detect_of(alloc, id, atom.loc, *cont, of),
+                None => Ok(None),
+            },
+            _ => Ok(None),
+        }
+    }
+
+    /// The effect of an event. None where the event isn't possible: its rule or request isn't there, or what the machine needs doesn't hold.
+    pub fn apply(&self, alloc: Global, event: &Event) -> Result<Option<Numbered>, Memory>
+        ensures { IfOk result (λ after. after ≡ apply self.now event.now) }
+    {
+        match event {
+            Event::React { rule, took } => match self.rule_at(*rule) {
+                Some(rule) => self.react(alloc, rule, took),
+                None => Ok(None),
+            },
+            Event::Move { atom: id } => match atom_at(&self.atoms, *id) {
+                Some(atom) => self.move_atom(alloc, *id, atom),
+                None => Ok(None),
+            },
+            Event::Halt { atom: id } => match atom_at(&self.atoms, *id) {
+                Some(atom) => self.halt_atom(alloc, *id, atom),
+                None => Ok(None),
+            },
+            Event::Detect { atom: id } => match atom_at(&self.atoms, *id) {
+                Some(atom) => self.detect_atom(alloc, *id, atom),
+                None => Ok(None),
+            },
+        }
+    }
+
+    /// The solution that the events of a journal lead to, one after another from the opening. None where one of them isn't possible.
+    pub fn replay(alloc: Global, program: &Program, journal: &Journal) -> Result<Option<Numbered>, Memory>
+        ensures { IfOk result (λ after. after ≡ replay program.now journal.now) }
+    {
+        let mut reached = Numbered::opening(alloc, program)?;
+        for event in journal.as_slice() {
+            match reached.apply(alloc, event)? {
+                Some(after) => reached = after,
+                None => return Ok(None),
+            }
+        }
+        Ok(Some(reached))
+    }
+}
