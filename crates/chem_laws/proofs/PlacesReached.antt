@@ -1,25 +1,20 @@
 -- The places of a level become locations, one after another.
-use Rattle.std.proofs.Common.{◌≡◌, ℕ, ◌+◌, List, [], ◌∷◌, Option, Some, None, Bool, true, false, cond, refl, sym, ap, ◌∙◌, subst, arith, ◌||◌, ◌&&◌}
-use Rattle.std.specs.Prelude.{not}
+use Rattle.std.proofs.Common.{◌≡◌, Option, Some, None, Bool, true, false, cond, refl, sym, ap, ◌∙◌, subst, arith}
 use Rattle.chem_model.specs.declared.name.Loc.{Loc}
 use Rattle.chem_model.specs.declared.name.Name.TheVariants as name
 use Rattle.chem_model.specs.declared.name.Ref.{Ref}
 use Rattle.chem_model.specs.declared.name.Ref.TheVariants.{Known}
-use Rattle.chem_model.specs.declared.event.Out.{Out}
-use Rattle.chem_model.specs.Process.{Process, Definition, Rule, Place, Definitions, no_definition, and_also, clauses}
-use Rattle.chem_model.specs.Bag.{one, bag, ◌⊕◌, nothing}
-use Rattle.chem_model.specs.Fill.{Naming, fill_ref, fill_pats, fill, fill_definitions}
-use Rattle.chem_model.specs.Solution.{Solution, Standing, Places, Defs, Procs, coded_located_process, coded_located_definition, live, dead, is_marked, is_there, host_of, or_itself, root, same_loc, born, at}
+use Rattle.chem_model.specs.Process.{Rule, Place, no_definition, and_also, clauses}
+use Rattle.chem_model.specs.Bag.{one, bag, ◌⊕◌}
+use Rattle.chem_model.specs.Fill.{fill_pats, fill, fill_definitions}
+use Rattle.chem_model.specs.Solution.{Places, coded_located_process, coded_located_definition, live, is_there, root, same_loc, born, at}
 use Rattle.chem_model.specs.Heating.{Heats, place}
 use Rattle.chem_model.specs.Reduction.{IsReached, heats}
 use Rattle.chem_model.specs.Pour.{births_of, loc_or}
-use Rattle.chem_laws.proofs.Lists.{both_true, true_both}
 use Rattle.chem_laws.proofs.Within.{same_loc_is}
-use Rattle.chem_laws.proofs.Parts.{born_all, FreshPlaces, rules_left, bodies_left, PlacesReached}
-use Rattle.chem_laws.proofs.Reached.{chain_trans, state, reached_again}
-
-regroup : (a b c : ℕ) → (a + b) + c ≡ a + (b + c)
-regroup a b c = omega arith
+use Rattle.chem_laws.proofs.Places.{live_parts, live_kept}
+use Rattle.chem_laws.proofs.Parts.{born_all, rules_left, bodies_left, PlacesReached}
+use Rattle.chem_laws.proofs.Reached.{chain_trans, state, reached_again, regroup}
 
 -- ---- a new location leaves the others as they are
 
@@ -30,22 +25,10 @@ born_other pl a h l new there = go (same_loc a l) refl
     go true e = let absent : is_there (pl l) ≡ false = ap (λ q. is_there (pl q)) (sym (same_loc_is a l e)) ∙ ap is_there new in cc
     go false e = refl
 
--- a location whose entry and whose root's entry stay is as live as before, and keeps its root
-pub live_same : (pl ql : Places) (l : Loc) → ql l ≡ pl l → ql (root pl l) ≡ pl (root pl l) → (live ql l ≡ live pl l) × (root ql l ≡ root pl l)
-live_same pl ql l at_l at_r =
-    let roots : root ql l ≡ root pl l = ap (λ o. or_itself (host_of o) l) at_l in
-    let at_root : ql (root ql l) ≡ pl (root pl l) = ap ql roots ∙ at_r in (
-      ap (λ o. is_there o && not (is_marked o || is_marked (ql (root ql l)))) at_l
-          ∙ ap (λ o. is_there (pl l) && not (is_marked (pl l) || is_marked o)) at_root,
-      roots,
-    )
-
 -- a live location stays live, and keeps its root
 pub live_born : (pl : Places) (a : Loc) (h : Option Loc) (l : Loc) → pl a ≡ None → is_there (pl (root pl l)) ≡ true → live pl l ≡ true → (live (born pl a h) l ≡ true) × (root (born pl a h) l ≡ root pl l)
 live_born pl a h l new root_there is_live =
-    let there = (both_true (is_there (pl l)) (not (dead pl l)) is_live).0 in
-    let kept = live_same pl (born pl a h) l (born_other pl a h l new there) (born_other pl a h (root pl l) new root_there) in
-    (kept.0 ∙ is_live, kept.1)
+    live_kept pl (born pl a h) l (born_other pl a h l new (live_parts pl l is_live).0) (born_other pl a h (root pl l) new root_there) is_live
 
 pub places_reached : PlacesReached
 places_reached seen no_definition pl l r m d q tr is_live at_r there fresh = reached_again seen pl _ _ _ _ tr (λ x. refl) (λ x. omega arith)

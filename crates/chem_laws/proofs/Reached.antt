@@ -1,9 +1,9 @@
 -- What is reached by heating, Comm and Out alone.
-use Rattle.std.proofs.Common.{◌≡◌, ℕ, List, refl, subst}
+use Rattle.std.proofs.Common.{◌≡◌, ℕ, ◌+◌, List, refl, subst, arith}
 use Rattle.chem_model.specs.declared.name.Loc.{Loc}
 use Rattle.chem_model.specs.declared.event.Out.{Out}
 use Rattle.chem_model.specs.Process.{Process, Definition}
-use Rattle.chem_model.specs.Solution.{Solution, Standing, Places, Defs, Procs}
+use Rattle.chem_model.specs.Solution.{Solution, Places, Defs, Procs}
 use Rattle.chem_model.specs.Reduction.{IsReached, stays, heats, communicates, observes}
 
 pub chain_trans : {seen : List ℕ} {t s u : Solution} → IsReached seen t s → IsReached seen u t → IsReached seen u s
@@ -25,3 +25,7 @@ reached_same seen pl ql d e p q tr us k f g h = subst (λ (s : Solution). IsReac
 pub reached_again : (seen : List ℕ) (pl : Places) (d e : Defs) (p q : Procs) (tr : List Out) → ((x : Loc × Definition) → d x ≡ e x) → ((x : Loc × Process) → p x ≡ q x)
     → IsReached seen (state pl e q tr) (state pl d p tr)
 reached_again seen pl d e p q tr f g = reached_same seen pl pl d e p q tr tr (λ l. refl) f g refl
+
+-- three multisets, at a point
+pub regroup : (a b c : ℕ) → (a + b) + c ≡ a + (b + c)
+regroup a b c = omega arith

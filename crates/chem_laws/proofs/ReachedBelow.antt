@@ -1,7 +1,5 @@
 -- In a sound numbered solution every pair of a site and a number is below its site's count.
-use Rattle.std.proofs.Common.{◌≡◌, ℕ, ◌+◌, ◌<◌, List, [], ◌∷◌, ◌++◌, Option, Some, None, Bool, true, false, cond, refl, sym, ap, ◌∙◌, subst, arith, length, inl, inr}
-use Rattle.std.specs.Prelude.{slice_index}
-use Rattle.std.specs.List.{All}
+use Rattle.std.proofs.Common.{◌≡◌, ℕ, ◌+◌, ◌<◌, List, [], ◌∷◌, ◌++◌, Option, Some, Bool, true, false, cond, refl, sym, ap, ◌∙◌, subst, arith, length, inl, inr}
 use Rattle.chem_model.specs.declared.name.Loc.{Loc}
 use Rattle.chem_model.specs.declared.name.Name.{Name}
 use Rattle.chem_model.specs.declared.name.Name.TheVariants as name
@@ -19,17 +17,17 @@ use Rattle.chem_model.specs.Scope.{IsInScope, IsTerm, AreTerms, AreDefinitions}
 use Rattle.chem_model.specs.Bag.{one, bag}
 use Rattle.chem_model.specs.Each.{Each}
 use Rattle.chem_model.specs.Fill.{Naming}
-use Rattle.chem_model.specs.Solution.{Solution, coded_name, coded_located_process, coded_located_definition, is_there, same_loc}
+use Rattle.chem_model.specs.Solution.{coded_name, coded_located_process, coded_located_definition, is_there, same_loc}
 use Rattle.chem_model.specs.OnNames.{OnRef, OnPairs, OnProcess, OnProcesses, OnDefinition, OnDefinitions, OnSolution}
-use Rattle.chem_model.specs.NewNames.{Pair, coded_pair, OnBinder, IsChannelAt, IsLocation, NamesBlock}
-use Rattle.chem_model.specs.Numbered.{standing, defs_of, procs_of, erase, place_pairs, channel_pair, channel_pairs, pairs}
+use Rattle.chem_model.specs.NewNames.{coded_pair, OnBinder, IsChannelAt, IsLocation, NamesBlock}
+use Rattle.chem_model.specs.Numbered.{standing, defs_of, procs_of, erase, place_pairs, channel_pair, channel_pairs}
 use Rattle.chem_model.specs.Pour.{naming}
 use Rattle.chem_model.specs.Sound.{names_in, IsNameOf, IsKnown, IsHomedAt, IsSettled, IsAtom, IsRule, IsSound}
 use Rattle.chem_laws.proofs.Lists.{Each-weaker, all_each, above}
 use Rattle.chem_laws.proofs.Bags.{one_self, one_is, bag-append}
 use Rattle.chem_laws.proofs.Terms.{process_weaker}
 use Rattle.chem_laws.proofs.Within.{same_loc_is}
-use Rattle.chem_laws.proofs.Parts.{NamingIs, IsNaming, IsBelow}
+use Rattle.chem_laws.proofs.Parts.{NamingIs, IsBelow}
 use Rattle.chem_laws.proofs.ReachedNames.{place_ref}
 
 -- ---- the known names of a term

@@ -6,24 +6,22 @@ use Rattle.chem_model.specs.declared.name.Name.{Name}
 use Rattle.chem_model.specs.declared.name.Name.TheVariants as name
 use Rattle.chem_model.specs.declared.name.Ref.{Ref}
 use Rattle.chem_model.specs.declared.name.Ref.TheVariants.{Binder, Known}
-use Rattle.chem_model.specs.declared.event.Out.{Out}
-use Rattle.chem_model.specs.declared.numbered.Placed.{Placed}
 use Rattle.chem_model.specs.declared.numbered.NumberedRule.{NumberedRule}
 use Rattle.chem_model.specs.declared.numbered.NumberedAtom.{NumberedAtom}
 use Rattle.chem_model.specs.declared.numbered.Made.{Made}
-use Rattle.chem_model.specs.Process.{Process, Msg, Par, Def, Go, Fail, Halt, Processes, none, one_more, Definition, Rule, Place, Definitions, no_definition, and_also}
-use Rattle.chem_model.specs.Binders.{block, is_among, once, bound_in, bound_in_all, bound_in_definition, bound_in_definitions}
-use Rattle.chem_model.specs.Scope.{IsTerm, AreTerms, AreDefinitions, AreRulesAndPlaces, IsBlock}
-use Rattle.chem_model.specs.Bag.{one, bag}
+use Rattle.chem_model.specs.Process.{Process, Msg, Par, Def, Go, Fail, Halt, Processes, none, one_more, Rule, Place, Definitions, no_definition, and_also}
+use Rattle.chem_model.specs.Binders.{block, is_among, once, bound_in, bound_in_all, bound_in_definitions}
+use Rattle.chem_model.specs.Scope.{IsTerm, AreTerms, AreDefinitions}
+use Rattle.chem_model.specs.Bag.{bag}
 use Rattle.chem_model.specs.Each.{Each}
-use Rattle.chem_model.specs.Fill.{Naming, name_at, fill_ref, fill_refs, fill_pats, fill, fill_all, fill_definition, fill_definitions}
+use Rattle.chem_model.specs.Fill.{Naming, name_at, fill_ref, fill_refs, fill_pats, fill, fill_all, fill_definitions}
 use Rattle.chem_model.specs.OnNames.{OnRef, OnProcess, OnProcesses, OnDefinition, OnDefinitions}
 use Rattle.chem_model.specs.NewNames.{Pair, coded_pair, HasDomain}
 use Rattle.chem_model.specs.Numbered.{place_pairs}
 use Rattle.chem_model.specs.Pour.{Drawn, naming, births_of, loc_or, nothing_made, then_made, atom_made, out_made, names_made, rules_made, lay_rules, known, is_count, message_made, pour, pour_all, lay_places, lay}
-use Rattle.chem_laws.proofs.Lists.{Each-weaker, Each-append, above}
+use Rattle.chem_laws.proofs.Lists.{Each-weaker, Each-append}
 use Rattle.chem_laws.proofs.Bags.{one_self}
-use Rattle.chem_laws.proofs.Terms.{OnEntries, ref_weaker, process_weaker, processes_weaker, definition_weaker, definitions_weaker, process_filled, definitions_filled, fill-twice, fill_definitions-twice, or_name, name_at-append, some_or}
+use Rattle.chem_laws.proofs.Terms.{OnEntries, process_weaker, processes_weaker, definition_weaker, definitions_weaker, process_filled, definitions_filled, fill-twice, fill_definitions-twice, or_name, name_at-append, some_or}
 use Rattle.chem_laws.proofs.Parts.{is_named, Agree, NamesNone, IsNaming, NamingIs}
 use Rattle.chem_laws.proofs.ReachedNumbers.{Under, LocUnder, OutUnder, loc_more, under_more, outs_weaker, InRange, in_range_is, IsBirth, birth_wider, names_under}
 

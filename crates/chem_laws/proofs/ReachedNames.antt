@@ -8,22 +8,22 @@ use Rattle.chem_model.specs.declared.name.Ref.{Ref}
 use Rattle.chem_model.specs.declared.name.Ref.TheVariants.{Binder, Known}
 use Rattle.chem_model.specs.declared.numbered.Named.{Named}
 use Rattle.chem_model.specs.declared.numbered.Placed.{Placed}
-use Rattle.chem_model.specs.Process.{Process, Rule, Place, Definitions, no_definition, and_also}
+use Rattle.chem_model.specs.Process.{Rule, Place, Definitions, no_definition, and_also}
 use Rattle.chem_model.specs.Binders.{block, is_among}
 use Rattle.chem_model.specs.Scope.{IsBlock}
 use Rattle.chem_model.specs.Bag.{one, bag}
 use Rattle.chem_model.specs.Each.{Each}
 use Rattle.chem_model.specs.Fill.{Naming, name_at, or_binder, fill_ref, fill_definitions}
-use Rattle.chem_model.specs.Solution.{Solution, Standing, Places, is_there, is_marked, host_of, or_itself, root, live, dead, same_loc, born}
+use Rattle.chem_model.specs.Solution.{Solution, Standing, Places, is_there, is_marked, host_of, or_itself, root, live, same_loc, born}
 use Rattle.chem_model.specs.OnNames.{OnSolution}
 use Rattle.chem_model.specs.NewNames.{Pair, coded_pair, pairs_of, HasDomain, NamesBlock, OnBinder, IsLocation, NewNames}
 use Rattle.chem_model.specs.Numbered.{standing, place_pairs}
 use Rattle.chem_model.specs.Pour.{Drawn, births_of, loc_or}
-use Rattle.chem_laws.proofs.Lists.{both_true, either_true, or_left, or_right, Each-weaker, Each-append}
+use Rattle.chem_laws.proofs.Lists.{either_true, or_left, or_right, Each-weaker, Each-append}
 use Rattle.chem_laws.proofs.Bags.{one_self}
 use Rattle.chem_laws.proofs.Terms.{name_at-append, some_or, among-append}
 use Rattle.chem_laws.proofs.Within.{same_loc_is, same_loc_refl}
-use Rattle.chem_laws.proofs.Parts.{Closes, NamesNone, IsNaming, IsGivenAt, IsLeft, BlockFilled, PlacesStand, FreshPlaces, born_all}
+use Rattle.chem_laws.proofs.Parts.{Closes, NamesNone, IsNaming, IsGivenAt, BlockFilled, PlacesStand, FreshPlaces, born_all}
 use Rattle.chem_laws.proofs.ReachedNumbers.{IsUnder, InRange, in_range_is, in_range_most, drawn_nowhere, IsBirth, born_is}
 
 -- ---- names that can stand with this map of locations
@@ -85,9 +85,9 @@ fresh_places r e (and_also (Place x es p) ds) pl l h new once =
     let others = bag coded_pair (place_pairs (births_of r e ds)) in
     let at_a : loc_or r (fill_ref e x) ≡ a = ap (loc_or r) f.1 in
     let new_a : (z : Loc) → 0 < one coded_pair (a.site, a.k) (z.site, z.k) + others (z.site, z.k) → pl z ≡ None
-      = subst (λ (y : Loc). (z : Loc) → 0 < one coded_pair (y.site, y.k) (z.site, z.k) + others (z.site, z.k) → pl z ≡ None) at_a new in
+    = subst (λ (y : Loc). (z : Loc) → 0 < one coded_pair (y.site, y.k) (z.site, z.k) + others (z.site, z.k) → pl z ≡ None) at_a new in
     let once_a : (p : Pair) → one coded_pair (a.site, a.k) p + others p ≤ 1
-      = subst (λ (y : Loc). (p : Pair) → one coded_pair (y.site, y.k) p + others p ≤ 1) at_a once in
+    = subst (λ (y : Loc). (p : Pair) → one coded_pair (y.site, y.k) p + others p ≤ 1) at_a once in
     (a, f.1, new_a a (omega (arith, one_self coded_pair (a.site, a.k))), fresh_places r e ds (born pl a (Some r)) l h.1 (λ z c. later a others new_a once_a z c (same_loc a z) refl) (λ p. let u = once_a p in omega arith))
   where
     later : (a : Loc) (others : Pair → ℕ) → ((z : Loc) → 0 < one coded_pair (a.site, a.k) (z.site, z.k) + others (z.site, z.k) → pl z ≡ None) → ((p : Pair) → one coded_pair (a.site, a.k) p + others p ≤ 1)
@@ -183,8 +183,8 @@ module _ (s : ℕ) (l r : Loc) (m : Naming) (ds : Definitions) (k : ℕ) (n : Dr
   block_closes pl scope h there c = record {
     covers = λ b q. ap is_some (name_at-append m n.names b) ∙ some_or (name_at m b) (name_at n.names b) ∙ covered b (either_true (is_among (block ds) b) (is_among scope b) (sym (among-append (block ds) scope b) ∙ q));
     names = Each-append (λ (e : Named). Fits (born_all pl births) e.name) m n.names
-      (Each-weaker (λ (e : Named). Fits pl e.name) (λ (e : Named). Fits (born_all pl births) e.name) (λ e. fits_more births pl e.name) m c.names)
-      (Each-weaker (λ (e : Named). IsGivenAt l births e.name) (λ (e : Named). Fits (born_all pl births) e.name) (λ e g. given_fits s r k n.next births pl l e.name h there g) n.names is.given);
+        (Each-weaker (λ (e : Named). Fits pl e.name) (λ (e : Named). Fits (born_all pl births) e.name) (λ e. fits_more births pl e.name) m c.names)
+        (Each-weaker (λ (e : Named). IsGivenAt l births e.name) (λ (e : Named). Fits (born_all pl births) e.name) (λ e g. given_fits s r k n.next births pl l e.name h there g) n.names is.given);
   }
     where
       covered : (b : ℕ) → (is_among (block ds) b ≡ true) ⊎ (is_among scope b ≡ true) → is_some (name_at m b) || is_some (name_at n.names b) ≡ true

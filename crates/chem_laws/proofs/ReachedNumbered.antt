@@ -1,30 +1,28 @@
 -- What is poured or laid in a sound numbered solution is reached by heating, Comm and Out alone.
-use Rattle.std.proofs.Common.{◌≡◌, ℕ, ◌+◌, ◌<◌, List, [], ◌∷◌, ◌++◌, Option, Some, None, Bool, true, false, refl, sym, ap, ◌∙◌, subst, arith, ◌⊎◌, inl, inr}
+use Rattle.std.proofs.Common.{◌≡◌, ℕ, ◌+◌, ◌<◌, List, [], true, refl, sym, subst, arith, inl, inr}
 use Rattle.std.specs.Prelude.{slice_index}
 use Rattle.chem_model.specs.declared.name.Loc.{Loc}
 use Rattle.chem_model.specs.declared.name.Name.{Name}
 use Rattle.chem_model.specs.declared.name.Name.TheVariants as name
-use Rattle.chem_model.specs.declared.event.Out.{Out}
 use Rattle.chem_model.specs.declared.numbered.Named.{Named}
 use Rattle.chem_model.specs.declared.numbered.Numbered.{Numbered}
 use Rattle.chem_model.specs.declared.numbered.Made.{Made}
-use Rattle.chem_model.specs.Process.{Process, Definition, Definitions}
-use Rattle.chem_model.specs.Bag.{one, bag, ◌⊕◌, nothing}
-use Rattle.chem_model.specs.Each.{Each}
+use Rattle.chem_model.specs.Process.{Process, Definition}
+use Rattle.chem_model.specs.Bag.{one, ◌⊕◌, nothing}
 use Rattle.chem_model.specs.Fill.{Naming, fill, fill_definitions}
-use Rattle.chem_model.specs.Solution.{Solution, Places, Defs, Procs, coded_located_process, coded_located_definition, is_there, root, live}
-use Rattle.chem_model.specs.OnNames.{OnPairs, OnProcess, OnDefinitions, OnSolution}
+use Rattle.chem_model.specs.Solution.{Places, Defs, Procs, coded_located_process, is_there, root, live}
+use Rattle.chem_model.specs.OnNames.{OnProcess, OnDefinitions, OnSolution}
 use Rattle.chem_model.specs.Reduction.{IsReached}
-use Rattle.chem_model.specs.Numbered.{standing, defs_of, procs_of, erase}
-use Rattle.chem_model.specs.Pour.{pour, lay, add_made, pour_at, lay_at}
+use Rattle.chem_model.specs.Numbered.{standing, erase}
+use Rattle.chem_model.specs.Pour.{pour, lay, add_made}
 use Rattle.chem_model.specs.Sound.{IsSound, IsNameOf}
 use Rattle.chem_laws.proofs.Lists.{Each-weaker, above}
 use Rattle.chem_laws.proofs.Bags.{one_is}
 use Rattle.chem_laws.proofs.Terms.{OnEntries, process_weaker, definitions_weaker, process_filled, definitions_filled}
 use Rattle.chem_laws.proofs.Places.{live_parts, root_is, term_weaker, definitions_scope_weaker}
-use Rattle.chem_laws.proofs.Parts.{Closes, NamingIs, BlockFilled, IsPourable, IsLayable, IsBelow, beside, Others, PourReached, LayReached, rules_left, bodies_left, born_all}
+use Rattle.chem_laws.proofs.Parts.{Closes, NamingIs, BlockFilled, IsBelow, beside, Others, PourReached, LayReached, rules_left, bodies_left}
 use Rattle.chem_laws.proofs.Reached.{chain_trans, state, reached_same, reached_again}
-use Rattle.chem_laws.proofs.ReachedNumbers.{IsUnder, Under, LocUnder, ProcessUnder, DefinitionUnder, pairs_weaker, solution_weaker, IsBirth, standing_born}
+use Rattle.chem_laws.proofs.ReachedNumbers.{IsUnder, Under, LocUnder, ProcessUnder, DefinitionUnder, pairs_weaker, solution_weaker, standing_born}
 use Rattle.chem_laws.proofs.ReachedMade.{IsMade, pour_is, lay_is}
 use Rattle.chem_laws.proofs.ReachedNames.{Fits, closes_weaker}
 use Rattle.chem_laws.proofs.ReachedPour.{defs_both, procs_both, in_rules_left, in_bodies_left, Leads, Stands, pour_leads, lay_leads}

@@ -1,20 +1,20 @@
 -- Numbers of a site that are below a count, and numbers that were drawn from a count on.
-use Rattle.std.proofs.Common.{◌≡◌, ℕ, ◌+◌, ◌<◌, ◌≤◌, List, [], ◌∷◌, ◌++◌, Option, Some, None, Bool, true, false, cond, refl, sym, ap, ◌∙◌, subst, arith, ◌==◌, ◌&&◌, ◌||◌, eqb-true, leb-true, ltb-true, inl, inr}
-use Rattle.std.specs.Prelude.{nat_le, nat_lt, not}
+use Rattle.std.proofs.Common.{◌≡◌, ℕ, ◌<◌, ◌≤◌, List, [], ◌∷◌, ◌++◌, Option, Some, None, Bool, true, false, cond, refl, sym, ap, ◌∙◌, subst, arith, ◌==◌, ◌&&◌, eqb-true, leb-true, ltb-true, inl, inr}
+use Rattle.std.specs.Prelude.{nat_le, nat_lt}
 use Rattle.chem_model.specs.declared.name.Loc.{Loc}
 use Rattle.chem_model.specs.declared.name.Name.{Name}
 use Rattle.chem_model.specs.declared.name.Name.TheVariants as name
 use Rattle.chem_model.specs.declared.event.Out.{Out}
 use Rattle.chem_model.specs.declared.numbered.Named.{Named}
 use Rattle.chem_model.specs.declared.numbered.Placed.{Placed}
-use Rattle.chem_model.specs.Process.{Process, Rule, Definition}
-use Rattle.chem_model.specs.Bag.{one, bag}
+use Rattle.chem_model.specs.Process.{Process, Definition}
+use Rattle.chem_model.specs.Bag.{bag}
 use Rattle.chem_model.specs.Each.{Each}
 use Rattle.chem_model.specs.Fill.{Naming}
 use Rattle.chem_model.specs.Solution.{Solution, Standing, Places, is_there, same_loc, born}
 use Rattle.chem_model.specs.OnNames.{OnPairs, OnProcess, OnDefinition, OnSolution}
 use Rattle.chem_model.specs.NewNames.{Pair, coded_pair, pair_of, pairs_of, Differs}
-use Rattle.chem_model.specs.Numbered.{standing, place_pairs}
+use Rattle.chem_model.specs.Numbered.{standing}
 use Rattle.chem_laws.proofs.Lists.{both_true, Each-weaker}
 use Rattle.chem_laws.proofs.Bags.{one_self, bag-append}
 use Rattle.chem_laws.proofs.Terms.{OnEntries, process_weaker, definition_weaker}

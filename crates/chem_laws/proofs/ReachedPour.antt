@@ -1,7 +1,6 @@
 -- What is poured or laid is reached by heating, Comm and Out alone, whatever else stands in the solution.
-use Rattle.std.proofs.Common.{◌≡◌, ℕ, ◌+◌, ◌<◌, ◌≤◌, List, [], ◌∷◌, ◌++◌, Option, Some, None, Bool, true, false, cond, refl, sym, ap, ◌∙◌, subst, arith, append_assoc, length, ◌==◌, ◌⊎◌, inl, inr, eqb-true, ◌&&◌, ◌||◌}
-use Rattle.std.specs.Prelude.{slice_get, is_some, not}
-use Rattle.std.specs.List.{All}
+use Rattle.std.proofs.Common.{◌≡◌, ℕ, ◌+◌, ◌<◌, ◌≤◌, List, [], ◌∷◌, ◌++◌, Option, Some, None, Bool, true, false, cond, refl, sym, ap, ◌∙◌, subst, arith, append_assoc, length, ◌==◌, ◌⊎◌, inl, inr, eqb-true, ◌||◌}
+use Rattle.std.specs.Prelude.{slice_get, is_some}
 use Rattle.chem_model.specs.declared.name.Loc.{Loc}
 use Rattle.chem_model.specs.declared.name.Name.{Name}
 use Rattle.chem_model.specs.declared.name.Name.TheVariants as name
@@ -14,29 +13,29 @@ use Rattle.chem_model.specs.declared.numbered.NumberedRule.{NumberedRule}
 use Rattle.chem_model.specs.declared.numbered.NumberedAtom.{NumberedAtom}
 use Rattle.chem_model.specs.declared.numbered.Made.{Made}
 use Rattle.chem_model.specs.Process.{Process, Msg, Par, Def, Go, Fail, Halt, Processes, none, one_more, Definition, Rule, Place, Definitions, no_definition, and_also, members, clauses}
-use Rattle.chem_model.specs.Binders.{block, is_among, bound_in_all}
+use Rattle.chem_model.specs.Binders.{block, bound_in_all}
 use Rattle.chem_model.specs.Scope.{IsInScope, IsTerm, AreTerms, AreDefinitions, AreRules, AreRulesAndPlaces}
-use Rattle.chem_model.specs.Bag.{Bag, one, bag, ◌⊕◌, nothing}
+use Rattle.chem_model.specs.Bag.{one, bag, ◌⊕◌, nothing}
 use Rattle.chem_model.specs.Each.{Each}
 use Rattle.chem_model.specs.Fill.{Naming, name_at, or_binder, fill_ref, fill_refs, fill_pats, fill, fill_all, fill_definitions}
-use Rattle.chem_model.specs.Solution.{Solution, Places, Defs, Procs, coded_located_process, coded_located_definition, is_there, is_marked, root, live, dead, same_loc, at}
-use Rattle.chem_model.specs.OnNames.{OnRef, OnProcess, OnProcesses, OnDefinition, OnDefinitions, OnSolution}
-use Rattle.chem_model.specs.Heating.{Heats, par, def}
-use Rattle.chem_model.specs.Reduction.{all_known, Communicates, Observes, IsReached, heats, communicates, observes}
+use Rattle.chem_model.specs.Solution.{Places, Defs, Procs, coded_located_process, coded_located_definition, is_there, is_marked, root, live, same_loc, at}
+use Rattle.chem_model.specs.OnNames.{OnRef, OnProcess, OnProcesses, OnDefinitions, OnSolution}
+use Rattle.chem_model.specs.Heating.{par, def}
+use Rattle.chem_model.specs.Reduction.{all_known, IsReached, heats, communicates, observes}
 use Rattle.chem_model.specs.Numbered.{standing, defs_of, procs_of}
-use Rattle.chem_model.specs.Pour.{naming, births_of, loc_or, nothing_made, then_made, atom_made, out_made, names_made, rules_made, lay_rules, known, is_count, message_made, pour, pour_all, lay_places, lay}
+use Rattle.chem_model.specs.Pour.{naming, births_of, loc_or, nothing_made, then_made, atom_made, out_made, rules_made, lay_rules, known, is_count, message_made, pour, pour_all, lay_places, lay}
 use Rattle.chem_model.specs.Sound.{IsKnown}
-use Rattle.chem_laws.proofs.Lists.{Each-weaker, Each-append, all_each, above, append_nil}
-use Rattle.chem_laws.proofs.Bags.{one_is, bag-append}
-use Rattle.chem_laws.proofs.Terms.{fill-twice, fill_definitions-twice, process_weaker, processes_weaker, definition_weaker, definitions_weaker}
+use Rattle.chem_laws.proofs.Lists.{Each-append, all_each, above, append_nil}
+use Rattle.chem_laws.proofs.Bags.{one_is}
+use Rattle.chem_laws.proofs.Terms.{fill-twice, fill_definitions-twice, process_weaker, processes_weaker, definitions_weaker}
 use Rattle.chem_laws.proofs.Within.{same_loc_is}
 use Rattle.chem_laws.proofs.Places.{live_parts, live_kept, term_weaker, terms_weaker, definitions_scope_weaker}
 use Rattle.chem_laws.proofs.Parts.{is_named, Closes, NamingIs, BlockFilled, PlacesStand, born_all, rules_left, bodies_left}
-use Rattle.chem_laws.proofs.Reached.{chain_trans, state, reached_same, reached_again}
+use Rattle.chem_laws.proofs.Reached.{chain_trans, state, reached_same, reached_again, regroup}
 use Rattle.chem_laws.proofs.PlacesReached.{places_reached}
 use Rattle.chem_laws.proofs.ReachedNumbers.{IsUnder, Under, LocUnder, ProcessUnder, DefinitionUnder, OutUnder, loc_more, under_more, solution_weaker, IsBirth, birth_there, born_kept, born_not}
-use Rattle.chem_laws.proofs.ReachedMade.{AtomUnder, RuleUnder, IsMade, IsOnce, AreOnce, once_none, none_agrees, once_body, once_level, then_is, rules_is, loc_under, given_under, births_are, named_is, process_again, definitions_again, pour_is, pour_all_is, lay_places_is}
-use Rattle.chem_laws.proofs.ReachedNames.{Fits, born_still, fits_more, closes_weaker, place_ref, IsPlaceOf, stand_other, block_new, block_fresh, block_stands, block_closes}
+use Rattle.chem_laws.proofs.ReachedMade.{AtomUnder, RuleUnder, IsMade, IsOnce, AreOnce, once_none, none_agrees, once_body, once_level, then_is, rules_is, loc_under, given_under, births_are, named_is, process_again, definitions_again, pour_is, lay_places_is}
+use Rattle.chem_laws.proofs.ReachedNames.{Fits, fits_more, closes_weaker, place_ref, IsPlaceOf, stand_other, block_new, block_fresh, block_stands, block_closes}
 
 -- ---- bags of what was made
 
@@ -142,9 +141,6 @@ count_is : (o : Option ℕ) (n : ℕ) → is_count o n ≡ true → o ≡ Some n
 count_is None n e = cc
 count_is (Some m) n e = ap Some (eqb-true m n e)
 
-regroup : (a b c : ℕ) → (a + b) + c ≡ a + (b + c)
-regroup a b c = omega arith
-
 born_append : (xs ys : List Placed) (pl : Places) → born_all pl (xs ++ ys) ≡ born_all (born_all pl xs) ys
 born_append [] ys pl = refl
 born_append (x ∷ xs) ys pl = born_append xs ys _
@@ -185,9 +181,9 @@ module _ (seen : List ℕ) (s : ℕ) (r : Loc) where
       let pl' = born_all pl a.births in
       let h1 : OnSolution (IsUnder s k) (state pl (d ⊕ (e ⊕ d')) (p ⊕ (q ⊕ q')) tr) = subst (λ (z : Defs × Procs). OnSolution (IsUnder s k) (state pl z.0 z.1 tr)) (λ i. ((λ x. regroup (d x) (e x) (d' x) i), λ x. regroup (p x) (q x) (q' x) i)) h in
       let h2 = on_grown k a.next a_is.up pl a.births ((d ⊕ e) ⊕ d') (e ⊕ (rules ⊕ d')) ((p ⊕ q) ⊕ q') (q ⊕ (atoms ⊕ q')) tr a.outs h a_is.births
-        (λ x c. elim (above (rules x) (e x + d' x) (omega arith)) [ inl u ↦ inl (in_rules s a.next a.rules x a_is.rules u) | inr u ↦ inr (omega arith) ])
-        (λ x c. elim (above (atoms x) (q x + q' x) (omega arith)) [ inl u ↦ inl (in_atoms s a.next a.atoms x a_is.atoms u) | inr u ↦ inr (omega arith) ])
-        a_is.outs in
+      (λ x c. elim (above (rules x) (e x + d' x) (omega arith)) [ inl u ↦ inl (in_rules s a.next a.rules x a_is.rules u) | inr u ↦ inr (omega arith) ])
+      (λ x c. elim (above (atoms x) (q x + q' x) (omega arith)) [ inl u ↦ inl (in_atoms s a.next a.atoms x a_is.atoms u) | inr u ↦ inr (omega arith) ])
+      a_is.outs in
       chain_trans (reached_again seen pl ((d ⊕ e) ⊕ d') (d ⊕ (e ⊕ d')) ((p ⊕ q) ⊕ q') (p ⊕ (q ⊕ q')) tr (λ x. omega arith) (λ x. omega arith))
       (chain_trans (first (e ⊕ d') (q ⊕ q') tr h1)
       (chain_trans (reached_again seen pl' (rules ⊕ (e ⊕ d')) (e ⊕ (rules ⊕ d')) (atoms ⊕ (q ⊕ q')) (q ⊕ (atoms ⊕ q')) (tr ++ a.outs) (λ x. omega arith) (λ x. omega arith))
@@ -275,8 +271,8 @@ module _ (seen : List ℕ) (s : ℕ) (r : Loc) where
       pour_leads (Par ps) pl scope m l k st t c o u = λ e q tr h.
           let parts = bag coded_located_process (at l (members (fill_all m ps))) in
           let h1 = subst (λ (os : List Out). OnSolution (IsUnder s k) (state pl (nothing ⊕ e) (parts ⊕ q) os)) (append_nil tr)
-            (on_grown k k (omega arith) pl [] (nothing ⊕ e) (nothing ⊕ e) (one coded_located_process (l, fill m (Par ps)) ⊕ q) (parts ⊕ q) tr [] h tt (λ x v. inr v)
-              (λ x v. elim (above (parts x) (q x) v) [ inl w ↦ inl (in_members s k l (fill_all m ps) x st.loc u w) | inr w ↦ inr (omega arith) ]) tt) in
+          (on_grown k k (omega arith) pl [] (nothing ⊕ e) (nothing ⊕ e) (one coded_located_process (l, fill m (Par ps)) ⊕ q) (parts ⊕ q) tr [] h tt (λ x v. inr v)
+          (λ x v. elim (above (parts x) (q x) v) [ inl w ↦ inl (in_members s k l (fill_all m ps) x st.loc u w) | inr w ↦ inr (omega arith) ]) tt) in
           heats (par l (fill_all m ps) q refl refl) (pour_all_leads ps pl scope m l k st t c o u e q tr h1)
       pour_leads (Def ds p) pl scope m l k st t c o u =
           let n = naming s l ds k in
@@ -309,7 +305,7 @@ module _ (seen : List ℕ) (s : ℕ) (r : Loc) where
           let pl'' = born_all pl' v.births in
           let more = fits_more v.births pl' in
           let c_leads = pour_leads p pl'' scope' names l b.next (stands_more n.next b.next b_is.up pl' v.births l b_is.births st_n) (term_weaker (Fits pl') (Fits pl'') more scope' p body_fit) (closes_weaker (Fits pl') (Fits pl'') more scope' names closes) (once_body ds p m n.names is.domain o)
-            (process_weaker (Under s n.next) (Under s b.next) (under_more s n.next b.next b_is.up) (fill names p) body) in
+          (process_weaker (Under s n.next) (Under s b.next) (under_more s n.next b.next b_is.up) (fill names p) body) in
           let w = pour seen s r names l b.next p in
           let laid = bag coded_located_definition (defs_of (lay_rules s names l n.next ds).rules) in
           let levels = levels_left l names ds in
@@ -318,22 +314,22 @@ module _ (seen : List ℕ) (s : ℕ) (r : Loc) where
           let rules = rules_left l names ds in
           let ab_leads = then_leads pl' n.next laid levels nothing bodies a v a_is (rules_leads pl' n.next names l ds) v_leads in
           let inner = leads_same pl' n.next ((laid ⊕ levels) ⊕ nothing) rules ((nothing ⊕ bodies) ⊕ poured) (bodies ⊕ poured) (then_made b w) (λ x. omega (arith, left_both s l names n.next ds x)) (λ x. omega arith)
-            (then_leads pl' n.next (laid ⊕ levels) nothing (nothing ⊕ bodies) poured b w b_is ab_leads c_leads) in
+          (then_leads pl' n.next (laid ⊕ levels) nothing (nothing ⊕ bodies) poured b w b_is ab_leads c_leads) in
           λ e q tr h.
           let whole = one coded_located_process (l, fill m (Def ds p)) in
           let new = block_new s l r m ds k n is block_filled t.0 free (state pl (nothing ⊕ e) (whole ⊕ q) tr) h in
           let fresh = block_fresh s l r m ds k n is pl h.places in
           let h1 = subst (λ (os : List Out). OnSolution (IsUnder s n.next) (state pl' (rules ⊕ e) ((bodies ⊕ poured) ⊕ q) os)) (append_nil tr)
-            (on_grown k n.next is.up pl births (nothing ⊕ e) (rules ⊕ e) (whole ⊕ q) ((bodies ⊕ poured) ⊕ q) tr [] h born
-              (λ x y. elim (above (rules x) (e x) y) [ inl z ↦ inl (in_rules_left s n.next r l names ds x st_n.loc level z) | inr z ↦ inr (omega arith) ])
-              (λ x y. elim (above (bodies x + poured x) (q x) y) [
-                | inl z ↦ inl (elim (above (bodies x) (poured x) z) [ inl f ↦ in_bodies_left s n.next r l names ds x st_n.loc level f | inr f ↦ subst (ProcessUnder s n.next) (one_is coded_located_process (l, fill names p) x f) (st_n.loc, body) ])
-                | inr z ↦ inr (omega arith)
-              ]) tt) in
+          (on_grown k n.next is.up pl births (nothing ⊕ e) (rules ⊕ e) (whole ⊕ q) ((bodies ⊕ poured) ⊕ q) tr [] h born
+          (λ x y. elim (above (rules x) (e x) y) [ inl z ↦ inl (in_rules_left s n.next r l names ds x st_n.loc level z) | inr z ↦ inr (omega arith) ])
+          (λ x y. elim (above (bodies x + poured x) (q x) y) [
+            | inl z ↦ inl (elim (above (bodies x) (poured x) z) [ inl f ↦ in_bodies_left s n.next r l names ds x st_n.loc level f | inr f ↦ subst (ProcessUnder s n.next) (one_is coded_located_process (l, fill names p) x f) (st_n.loc, body) ])
+            | inr z ↦ inr (omega arith)
+          ]) tt) in
           heats (def l (fill_definitions m ds) (fill m p) n.names q refl new refl)
           (chain_trans (reached_again seen pl _ (bag coded_located_definition (at l (clauses (fill_definitions names ds))) ⊕ e) _ (poured ⊕ q) tr
-            (λ x. ap (λ (fs : Definitions). bag coded_located_definition (at l (clauses fs)) x + (0 + e x)) (fill_definitions-twice m n.names ds) ∙ omega arith)
-            (λ x. ap (λ (g : Process). one coded_located_process (l, g) x + q x) (fill-twice m n.names p)))
+          (λ x. ap (λ (fs : Definitions). bag coded_located_definition (at l (clauses fs)) x + (0 + e x)) (fill_definitions-twice m n.names ds) ∙ omega arith)
+          (λ x. ap (λ (g : Process). one coded_located_process (l, g) x + q x) (fill-twice m n.names p)))
           (chain_trans (places_reached seen ds pl l r names e (poured ⊕ q) tr st.is_live st.at_root st.root_there fresh)
           (chain_trans (reached_again seen pl' (rules ⊕ e) (rules ⊕ e) (bodies ⊕ (poured ⊕ q)) ((bodies ⊕ poured) ⊕ q) tr (λ x. refl) (λ x. omega arith))
           (chain_trans (inner e q tr h1)
@@ -358,7 +354,7 @@ module _ (seen : List ℕ) (s : ℕ) (r : Loc) where
           leads_same pl k (nothing ⊕ nothing) nothing (first ⊕ others) (first ⊕ others) (then_made a b) (λ x. omega arith) (λ x. refl)
           (then_leads pl k nothing nothing first others a b a_is (pour_leads p pl scope m l k st t.0 c once_p u.0)
           (pour_all_leads ps pl' scope m l a.next (stands_more k a.next a_is.up pl a.births l a_is.births st) (terms_weaker (Fits pl) (Fits pl') more scope ps t.1) (closes_weaker (Fits pl) (Fits pl') more scope m c) once_ps
-            (processes_weaker (Under s k) (Under s a.next) (under_more s k a.next a_is.up) (fill_all m ps) u.1)))
+          (processes_weaker (Under s k) (Under s a.next) (under_more s k a.next a_is.up) (fill_all m ps) u.1)))
 
       pub lay_places_leads : (ds : Definitions) (pl : Places) (scope : List ℕ) (m : Naming) (l : Loc) (k : ℕ) → Stands pl k l → AreRulesAndPlaces ds → PlacesStand pl r m ds → AreDefinitions (Fits pl) scope ds → Closes (Fits pl) scope m → AreOnce m ds → OnDefinitions (Under s k) (fill_definitions m ds)
           → Leads pl k (levels_left l m ds) (bodies_left l m ds) (lay_places seen s r m l k ds)
@@ -388,10 +384,10 @@ module _ (seen : List ℕ) (s : ℕ) (r : Loc) where
           let opened = one coded_located_process (q, fill m p) in
           let v = lay_places seen s r m l b.next ds in
           let first = leads_same pl k (laid ⊕ nothing) level (nothing ⊕ opened) opened b (λ y. omega (arith, laid_rules s q m k es y levels.0)) (λ y. omega arith)
-            (then_leads pl k laid nothing nothing opened a w a_is (rules_leads pl k m q es) w_leads) in
+          (then_leads pl k laid nothing nothing opened a w a_is (rules_leads pl k m q es) w_leads) in
           then_leads pl k level (levels_left l m ds) opened (bodies_left l m ds) b v b_is first
           (lay_places_leads ds pl' scope m l b.next (stands_more k b.next b_is.up pl b.births l b_is.births st) levels.1 (places_more k b.next b_is.up pl b.births m ds b_is.births st.top u.1 stand.1) (definitions_scope_weaker (Fits pl) (Fits pl') more scope ds t.1)
-            (closes_weaker (Fits pl) (Fits pl') more scope m c) once_ds (definitions_weaker (Under s k) (Under s b.next) (under_more s k b.next b_is.up) (fill_definitions m ds) u.1))
+          (closes_weaker (Fits pl) (Fits pl') more scope m c) once_ds (definitions_weaker (Under s k) (Under s b.next) (under_more s k b.next b_is.up) (fill_definitions m ds) u.1))
 
     -- a whole level: its rules, and then its places
     pub lay_leads : (ds : Definitions) (pl : Places) (scope : List ℕ) (m : Naming) (l : Loc) (k : ℕ) → Stands pl k l → AreRulesAndPlaces ds → PlacesStand pl r m ds → AreDefinitions (Fits pl) scope ds → Closes (Fits pl) scope m → AreOnce m ds → OnDefinitions (Under s k) (fill_definitions m ds)

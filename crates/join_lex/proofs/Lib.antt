@@ -1,0 +1,4 @@
+pub mod Keys
+pub mod ScanLaws
+pub mod StepLaws
+pub mod TokenFacts

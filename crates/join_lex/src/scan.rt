@@ -1,0 +1,135 @@
+// The first piece of a text: a blank, a comment or a token.
+ghost use Rattle.std.specs.Prelude.{◌≡◌, ◌≢◌, ◌<◌, ◌≤◌, length, IfOk, IfSome, IfNone, min};
+ghost use Rattle.std.specs.List.{prefix_len};
+ghost use Rattle.join_lex.specs.Spelling.{first_version, in_word, is_digit, in_line, value_of, key_bytes};
+ghost use Rattle.join_lex.specs.Scan.{sign_at, Scans};
+ghost use Rattle.join_lex.specs.declared.token.Key.{Key};
+
+use crate::token::{Key, Kind2, Sign};
+use chem_model::Text;
+use join_base::{Front, Kind};
+use std::alloc::Global;
+
+/// The largest number.
+const LARGEST: u32 = 255;
+
+fn is_word_byte(byte: u8) -> bool
+    ensures { result ≡ in_word byte }
+{
+    matches!(byte, b'a'..=b'z' | b'A'..=b'Z' | b'0'..=b'9' | b'_')
+}
+
+/// How many bytes at the front may stand in a word.
+fn word_len(bytes: &[u8]) -> usize
+    ensures { result ≡ prefix_len in_word bytes.now }
+{
+    bytes.iter().take_while(|byte| is_word_byte(**byte)).count()
+}
+
+/// How many bytes stand before the end of the line.
+fn line_len(bytes: &[u8]) -> usize
+    ensures value { result ≡ prefix_len in_line bytes.now }
+    ensures bound { result ≤ length bytes.now }
+{
+    bytes.iter().take_while(|byte| **byte != b'\n').count()
+}
+
+/// How many bytes at the front are digits.
+fn digits_len(bytes: &[u8]) -> usize
+    ensures { result ≡ prefix_len is_digit bytes.now }
+{
+    bytes
+        .iter()
+        .take_while(|byte| matches!(**byte, b'0'..=b'9'))
+        .count()
+}
+
+/// The value of digits, or `LARGEST + 1` for a larger one.
+fn value_up_to_bound(digits: &[u8]) -> u32
+    ensures { result ≡ min (value_of digits.now) 256 }
+{
+    let mut value = 0u32;
+    for digit in digits {
+        value = (value * 10 + u32::from(digit.saturating_sub(b'0'))).min(LARGEST + 1);
+    }
+    value
+}
+
+/// The keyword that a word is.
+fn key_of(word: &[u8]) -> Option<Key>
+    ensures found { IfSome result (λ k. word.now ≡ key_bytes k) }
+    ensures none { IfNone result ((k : Key) → word.now ≢ key_bytes k) }
+{
+    match word {
+        b"observe" => Some(Key::Observe),
+        b"site" => Some(Key::Site),
+        b"def" => Some(Key::Def),
+        b"in" => Some(Key::Inside),
+        b"and" => Some(Key::And),
+        b"go" => Some(Key::Go),
+        b"fail" => Some(Key::Fail),
+        b"halt" => Some(Key::Halt),
+        b"none" => Some(Key::Void),
+        _ => None,
+    }
+}
+
+/// The sign at the front, and how many bytes it has.
+fn sign_of(bytes: &[u8]) -> Option<(Sign, usize)>
+    ensures sign { result ≡ sign_at bytes.now }
+    ensures bound { IfSome result (λ found. found.1 ≤ length bytes.now) }
+{
+    match bytes {
+        [b'=', b'>', ..] => Some((Sign::Arrow, 2)),
+        [b':', ..] => Some((Sign::Colon, 1)),
+        [b'|', ..] => Some((Sign::Bar, 1)),
+        [b'(', ..] => Some((Sign::ParenLeft, 1)),
+        [b')', ..] => Some((Sign::ParenRight, 1)),
+        [b'[', ..] => Some((Sign::SquareLeft, 1)),
+        [b']', ..] => Some((Sign::SquareRight, 1)),
+        [b',', ..] => Some((Sign::Comma, 1)),
+        [b';', ..] => Some((Sign::Semicolon, 1)),
+        [b'/', ..] => Some((Sign::Slash, 1)),
+        _ => None,
+    }
+}
+
+/// The first piece of a text that isn't empty: what token it is, where it is one, and how many bytes it has.
+/// `place` is where the text stands; a fault is answered at it.
+pub fn scan(alloc: Global, text: &[u8], place: u32) -> Result<(Option<Kind2>, usize), Front>
+    requires { 0 < length text.now }
+    ensures scanned { Scans first_version place text.now result }
+    ensures bound { IfOk result (λ found. found.1 ≤ length text.now) }
+{
+    match text[0] {
+        b' ' | b'\t' | b'\n' | b'\r' => Ok((None, 1)),
+        b'#' => Ok((None, line_len(text))),
+        b'a'..=b'z' => {
+            let len = word_len(text);
+            let word = &text[..len];
+            match key_of(word) {
+                Some(key) => Ok((Some(Kind2::Key(key)), len)),
+                None => Ok((Some(Kind2::Ident(Text::from_slice(alloc, word)?)), len)),
+            }
+        }
+        b'0'..=b'9' => {
+            let len = digits_len(text);
+            let value = value_up_to_bound(&text[..len]);
+            if value > LARGEST {
+                Err(Front::Refused {
+                    kind: Kind::Lex3,
+                    place,
+                })
+            } else {
+                Ok((Some(Kind2::Number(value)), len))
+            }
+        }
+        _ => match sign_of(text) {
+            Some((sign, len)) => Ok((Some(Kind2::Sign(sign)), len)),
+            None => Err(Front::Refused {
+                kind: Kind::Lex2,
+                place,
+            }),
+        },
+    }
+}
