@@ -26,4 +26,11 @@ pub mod ReachedNames
 pub mod ReachedNumbered
 pub mod ReachedNumbers
 pub mod ReachedPour
+pub mod Opening
+pub mod OpeningBlocks
+pub mod OpeningLists
+pub mod OpeningNames
+pub mod OpeningPlaces
+pub mod OpeningSound
+pub mod OpeningTerms
 pub mod Tied
