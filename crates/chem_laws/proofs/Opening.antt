@@ -1,5 +1,5 @@
 -- The opening is a start.
-use Rattle.std.proofs.Common.{◌≡◌, ℕ, zero, suc, ◌+◌, ◌<◌, ◌≤◌, List, [], ◌∷◌, ◌++◌, Option, Some, None, Bool, true, false, cond, refl, sym, ap, ◌∙◌, subst, arith, length, inl, inr}
+use Rattle.std.proofs.Common.{◌≡◌, ℕ, suc, ◌+◌, ◌<◌, ◌≤◌, List, [], ◌∷◌, ◌++◌, None, Bool, true, cond, refl, sym, ap, ◌∙◌, subst, arith, length, inl, inr}
 use Rattle.std.specs.Prelude.{is_some, slice_index}
 use Rattle.chem_model.specs.declared.name.Loc.{Loc}
 use Rattle.chem_model.specs.declared.name.Name.{Name}
@@ -11,34 +11,34 @@ use Rattle.chem_model.specs.declared.numbered.Named.{Named}
 use Rattle.chem_model.specs.declared.numbered.Placed.{Placed}
 use Rattle.chem_model.specs.declared.numbered.Numbered.{Numbered}
 use Rattle.chem_model.specs.declared.numbered.Made.{Made}
-use Rattle.chem_model.specs.Process.{Process, Definition, Place, Definitions, definitions}
-use Rattle.chem_model.specs.Binders.{block, is_among, bound_in, bound_in_definitions}
+use Rattle.chem_model.specs.Process.{Process, Place, Definitions, definitions}
+use Rattle.chem_model.specs.Binders.{block, is_among, bound_in_definitions}
 use Rattle.chem_model.specs.Scope.{AreDefinitions}
-use Rattle.chem_model.specs.ProgramFacts.{ProgramTerms, IsProgram, IsDeclared, places}
+use Rattle.chem_model.specs.ProgramFacts.{IsDeclared, places}
 use Rattle.chem_model.specs.Bag.{one, bag, ◌⊕◌, nothing}
 use Rattle.chem_model.specs.Each.{Each}
 use Rattle.chem_model.specs.Fill.{Naming, name_at, fill}
-use Rattle.chem_model.specs.OnNames.{OnPairs, OnDefinitions, OnSolution}
-use Rattle.chem_model.specs.Solution.{Solution, Places, Defs, Procs, coded_located_process, coded_located_definition, is_there, root}
-use Rattle.chem_model.specs.NewNames.{Pair, coded_pair, pairs_of, HasDomain}
+use Rattle.chem_model.specs.OnNames.{OnPairs, OnDefinitions}
+use Rattle.chem_model.specs.Solution.{Solution, Procs, coded_located_process, coded_located_definition, is_there, root}
+use Rattle.chem_model.specs.NewNames.{HasDomain}
 use Rattle.chem_model.specs.Reduction.{IsReached}
 use Rattle.chem_model.specs.Numbered.{standing, erase}
 use Rattle.chem_model.specs.Pour.{births_of, add_made, pour, lay, pour_at, lay_at}
-use Rattle.chem_model.specs.Opening.{counts_of, root_of, roots, level_births, site_names, named_sites, open_sites, opening, root_names, level_names}
+use Rattle.chem_model.specs.Opening.{counts_of, root_of, roots, level_births, site_names, named_sites, open_sites, root_names, level_names}
 use Rattle.chem_model.specs.Sound.{IsSound, IsNameOf}
-use Rattle.chem_model.specs.Runs.{only_roots, definitions_at, processes_at, IsStart, IsOpened}
+use Rattle.chem_model.specs.Runs.{only_roots, definitions_at, processes_at}
 use Rattle.chem_model.specs.Laws.{OpeningIsAStart}
 use Rattle.chem_laws.proofs.Lists.{Each-weaker, Each-left, Each-right, above}
 use Rattle.chem_laws.proofs.Terms.{OnEntries}
 use Rattle.chem_laws.proofs.Places.{standing_left, name_more, definitions_scope_weaker, term_weaker}
-use Rattle.chem_laws.proofs.Parts.{is_named, NamingIs, PourSound, LaySound, PourReached, LayReached, PlacesReached, IsPourable, IsLayable, IsBelow, PlacesStand, Others, beside, rules_left, bodies_left, born_all}
+use Rattle.chem_laws.proofs.Parts.{is_named, NamingIs, PourSound, LaySound, PourReached, LayReached, PlacesReached, IsPourable, IsLayable, IsBelow, PlacesStand, Others, beside, bodies_left, born_all}
 use Rattle.chem_laws.proofs.Reached.{chain_trans, state, reached_same, reached_again}
 use Rattle.chem_laws.proofs.OpeningLists.{each_of}
 use Rattle.chem_laws.proofs.OpeningBlocks.{IsBlockAt, of_block, other_block}
-use Rattle.chem_laws.proofs.OpeningNames.{SiteIs, SitesAre, HasLevel, sites_are, rest_found, names_sites, pairs_of-append, pairs_once}
-use Rattle.chem_laws.proofs.OpeningPlaces.{at_root, live_root, or_else, roots_alone, root_found, standing-append, born_standing, levels_unmarked, rules_all, bodies_all, sites_placed}
+use Rattle.chem_laws.proofs.OpeningNames.{SitesAre, HasLevel, sites_are, rest_found, names_sites, pairs_of-append, pairs_once}
+use Rattle.chem_laws.proofs.OpeningPlaces.{live_root, roots_alone, root_found, standing-append, born_standing, levels_unmarked, rules_all, bodies_all, sites_placed}
 use Rattle.chem_laws.proofs.OpeningSound.{IsEntryIn, roots_stand, places_stand, start_sound, start_entries, start_names, start_fresh}
-use Rattle.chem_laws.proofs.OpeningTerms.{definitions_on, all_rules_on, all_bodies_on, body_on, all_processes_on, DefOn, ProcOn, place_below, name_below}
+use Rattle.chem_laws.proofs.OpeningTerms.{definitions_on, all_rules_on, all_bodies_on, body_on, all_processes_on, place_below, name_below}
 
 counts_length : (ds : List SeenDecl) → length (counts_of ds) ≡ length ds
 counts_length [] = refl
@@ -243,7 +243,7 @@ module _ (naming_is : NamingIs) (pour_sound : PourSound) (lay_sound : LaySound) 
       let alone = reached_same seen (only_roots (length ts)) pl defs (defs ⊕ nothing) procs procs [] [] (roots_alone ts) (λ x. omega arith) (λ x. refl) refl in
       let placed = sites_placed places_reached seen m [] ts 0 pl nothing procs are stand fresh in
       let named = reached_same seen (born_all pl births) (standing n.places) (rules_all m 0 ts ⊕ nothing) (rules_all m 0 ts ⊕ (erase n).defs) (bodies_all m 0 ts ⊕ procs) ((bodies_all m 0 ts ⊕ procs) ⊕ (erase n).procs) [] []
-          (λ l. born_standing pl births (levels_unmarked 0 m ts) fresh l ∙ sym (standing-append (roots 0 ts) births l)) (λ x. omega arith) (λ x. omega arith) refl in (
+      (λ l. born_standing pl births (levels_unmarked 0 m ts) fresh l ∙ sym (standing-append (roots 0 ts) births l)) (λ x. omega arith) (λ x. omega arith) refl in (
         opened.0,
         record {
           start = start;

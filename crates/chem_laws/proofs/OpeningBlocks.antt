@@ -1,5 +1,5 @@
 -- The blocks of a program's sites, which are parts of one block.
-use Rattle.std.proofs.Common.{◌≡◌, ℕ, ◌+◌, ◌<◌, ◌≤◌, List, [], ◌∷◌, ◌++◌, Option, Some, None, Bool, true, false, cond, refl, sym, ap, ◌∙◌, subst, arith, map, length, ◌||◌, ◌==◌, ◌⊎◌, inl, inr, eqb-true, eq-eqb}
+use Rattle.std.proofs.Common.{◌≡◌, ℕ, ◌+◌, ◌≤◌, List, [], ◌∷◌, ◌++◌, Option, Some, None, Bool, true, false, cond, refl, sym, ap, ◌∙◌, subst, arith, map, ◌||◌, ◌==◌, ◌⊎◌, inl, inr, eqb-true, eq-eqb}
 use Rattle.std.proofs.lemmas.List.{map-append}
 use Rattle.chem_model.specs.declared.name.Ref.{Ref}
 use Rattle.chem_model.specs.declared.name.Ref.TheVariants.{Binder, Known}
@@ -8,8 +8,8 @@ use Rattle.chem_model.specs.Process.{Process, Definition, Rule, Place, Definitio
 use Rattle.chem_model.specs.Binders.{binder_of, channels_of, block, defined, places_of, place_of, at, patterns_of, patterns_in, is_among, times}
 use Rattle.chem_model.specs.Scope.{IsBinder, IsBlock, AreNamed, IsNamed, Agree}
 use Rattle.chem_model.specs.Each.{Each}
-use Rattle.chem_laws.proofs.Lists.{Each-weaker, Each-append, Each-left, Each-right, Each-all}
-use Rattle.chem_laws.proofs.OpeningLists.{each_of, all_of, each_both, each_map, EachPair, pairs_by, all_pairs, pairs_left, pairs_right, pairs_across, pairs_map, among_left, among_right, among_either, among_head, not_among, is_false, once_apart, times-append, times-cons}
+use Rattle.chem_laws.proofs.Lists.{Each-weaker, Each-append, Each-left, Each-right}
+use Rattle.chem_laws.proofs.OpeningLists.{each_of, all_of, each_map, EachPair, pairs_by, all_pairs, pairs_left, pairs_right, pairs_across, pairs_map, among_left, among_right, among_either, among_head, not_among, is_false, once_apart, times-append, times-cons}
 
 abbrev Item : Type 0
 Item = Option Ref × Pat
@@ -240,6 +240,7 @@ module _ (n : ℕ) (es : Definitions) (p : Process) (ds : Definitions) (h : IsBl
         | inl v ↦ apart_places b u v
         | inr v ↦ (let a = v.2 b v.1 in let c = among_left own_places (places_of ds) b u in cc)
       ]
+
       by_channel : Found IsOwn b → is_among (block ds) b ≡ true → ⊥
       by_channel x f = elim (found (IsOther x.0) b None ds (other_items x.0 x.2.2) f) [
         | inl v ↦ (let a = x.2.1 b x.1 in let c = among_right own_places (places_of ds) b v in cc)

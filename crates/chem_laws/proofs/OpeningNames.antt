@@ -1,13 +1,11 @@
 -- The names of what the sites define: each site's are its own, and their pairs are all different.
 use Rattle.std.proofs.Common.{◌≡◌, ℕ, zero, suc, ◌+◌, ◌<◌, ◌≤◌, List, [], ◌∷◌, ◌++◌, Option, Some, None, Bool, true, false, cond, refl, sym, ap, ◌∙◌, subst, arith, length, ◌||◌, ◌&&◌, ◌==◌, ◌⊎◌, inl, inr, eqb-true, eq-eqb, leb-true, ltb-true}
 use Rattle.std.specs.Prelude.{is_some, slice_index, nat_le, nat_lt}
-use Rattle.chem_model.specs.declared.name.Loc.{Loc}
 use Rattle.chem_model.specs.declared.name.Name.{Name}
 use Rattle.chem_model.specs.declared.name.Name.TheVariants as name
 use Rattle.chem_model.specs.declared.name.Ref.TheVariants.{Binder}
 use Rattle.chem_model.specs.declared.program.SiteTerm.{SiteTerm}
-use Rattle.chem_model.specs.declared.numbered.Named.{Named}
-use Rattle.chem_model.specs.Process.{Place, Definitions, definitions}
+use Rattle.chem_model.specs.Process.{Place, definitions}
 use Rattle.chem_model.specs.Binders.{block, is_among}
 use Rattle.chem_model.specs.Scope.{IsBlock, AreRulesAndPlaces}
 use Rattle.chem_model.specs.ProgramFacts.{places}
@@ -18,7 +16,7 @@ use Rattle.chem_model.specs.NewNames.{Pair, coded_pair, pair_of, pairs_of, HasDo
 use Rattle.chem_model.specs.Pour.{Drawn, naming}
 use Rattle.chem_model.specs.Opening.{root_of, root_names, level_names, level_counts}
 use Rattle.chem_model.specs.Runs.{NamesSites}
-use Rattle.chem_laws.proofs.Lists.{both_true, or_left, or_right, above}
+use Rattle.chem_laws.proofs.Lists.{both_true, above}
 use Rattle.chem_laws.proofs.Bags.{one_is, bag-append}
 use Rattle.chem_laws.proofs.Terms.{or_name, name_at-append, some_or, among-append, domain-append}
 use Rattle.chem_laws.proofs.Parts.{Agree, in_range, IsNaming, NamingIs}
@@ -229,9 +227,9 @@ pairs_once m (t ∷ ts) i q h =
     let at_root : 0 < a → (q.0 ≡ i) × (q.1 ≡ 0) = λ e. (ap (λ (x : Pair). x.0) (sym (one_is coded_pair p q e)), ap (λ (x : Pair). x.1) (sym (one_is coded_pair p q e))) in
     record {
       once = subst (λ (n : ℕ). n ≤ 1) (sym split) (one_of_three a b c (one_at_most p q) (range_at_most i 1 own.next q) once
-        (λ x y. let f = at_root x in let g = in_range_is i 1 own.next q y in let z = f.1 in let w = g.1 in omega arith)
-        (λ x y. let f = at_root x in let g = later.below y in let z = f.0 in let w = g.1 in omega arith)
-        (λ x y. let f = in_range_is i 1 own.next q x in let g = later.below y in let z = f.0 in let w = g.1 in omega arith));
+          (λ x y. let f = at_root x in let g = in_range_is i 1 own.next q y in let z = f.1 in let w = g.1 in omega arith)
+          (λ x y. let f = at_root x in let g = later.below y in let z = f.0 in let w = g.1 in omega arith)
+          (λ x y. let f = in_range_is i 1 own.next q x in let g = later.below y in let z = f.0 in let w = g.1 in omega arith));
       below = λ e. elim (above a (b + c) (subst (λ (n : ℕ). 0 < n) split e)) [
         | inl u ↦ (let f = at_root u in let x = f.0 in let y = f.1 in (0, omega arith, omega arith, omega arith))
         | inr u ↦ elim (above b c u) [

@@ -1,19 +1,18 @@
 -- The locations of an opening: one root a site, and then the places of each site's level.
-use Rattle.std.proofs.Common.{◌≡◌, ℕ, zero, suc, ◌+◌, ◌<◌, ◌≤◌, List, [], ◌∷◌, ◌++◌, Option, Some, None, Bool, true, false, cond, refl, sym, ap, ◌∙◌, subst, arith, length, ◌||◌, ◌&&◌, ◌==◌, eqb-true, eq-eqb, ltb-true, lt-ltb, ◌⊎◌, inl, inr, eq-or-lt_of_le}
-use Rattle.std.specs.Prelude.{not, nat_lt, slice_index}
+use Rattle.std.proofs.Common.{◌≡◌, ℕ, ◌+◌, ◌<◌, ◌≤◌, List, [], ◌∷◌, ◌++◌, Option, Some, None, Bool, true, false, cond, refl, sym, ap, ◌∙◌, arith, length, ◌||◌, ◌&&◌, ◌==◌, eqb-true, eq-eqb, ltb-true, lt-ltb, ◌⊎◌, inl, inr, eq-or-lt_of_le}
+use Rattle.std.specs.Prelude.{not, nat_lt}
 use Rattle.chem_model.specs.declared.name.Loc.{Loc}
 use Rattle.chem_model.specs.declared.name.Name.{Name}
 use Rattle.chem_model.specs.declared.name.Name.TheVariants as name
-use Rattle.chem_model.specs.declared.name.Ref.{Ref}
 use Rattle.chem_model.specs.declared.name.Ref.TheVariants.{Binder, Known}
 use Rattle.chem_model.specs.declared.event.Out.{Out}
 use Rattle.chem_model.specs.declared.program.SiteTerm.{SiteTerm}
 use Rattle.chem_model.specs.declared.numbered.Placed.{Placed}
-use Rattle.chem_model.specs.Process.{Process, Definition, Rule, Place, Definitions, no_definition, and_also, clauses, definitions}
+use Rattle.chem_model.specs.Process.{Rule, Place, Definitions, no_definition, and_also, clauses, definitions}
 use Rattle.chem_model.specs.Bag.{one, bag, ◌⊕◌, nothing}
 use Rattle.chem_model.specs.Each.{Each}
-use Rattle.chem_model.specs.Fill.{Naming, name_at, or_binder, fill_ref, fill_definitions}
-use Rattle.chem_model.specs.Solution.{Standing, Places, Defs, Procs, coded_located_process, coded_located_definition, same_loc, is_there, is_marked, host_of, or_itself, root, live, dead, born, at}
+use Rattle.chem_model.specs.Fill.{Naming, name_at, or_binder, fill_definitions}
+use Rattle.chem_model.specs.Solution.{Standing, Places, Defs, Procs, coded_located_definition, same_loc, is_there, is_marked, host_of, or_itself, root, live, born, at}
 use Rattle.chem_model.specs.NewNames.{Pair, coded_pair, NamesBlock, IsLocation}
 use Rattle.chem_model.specs.Reduction.{IsReached}
 use Rattle.chem_model.specs.Numbered.{standing, place_pairs}
@@ -26,7 +25,7 @@ use Rattle.chem_laws.proofs.Within.{same_loc_is, same_loc_refl}
 use Rattle.chem_laws.proofs.Places.{root_loc}
 use Rattle.chem_laws.proofs.Parts.{rules_left, bodies_left, born_all, FreshPlaces, PlacesReached}
 use Rattle.chem_laws.proofs.Reached.{chain_trans, state, reached_same, reached_again}
-use Rattle.chem_laws.proofs.OpeningNames.{SiteIs, SitesAre}
+use Rattle.chem_laws.proofs.OpeningNames.{SitesAre}
 
 -- ---- the roots
 
@@ -58,9 +57,11 @@ root_found (t ∷ ts) i l a b c = go (same_loc (root_of i) l) refl (λ d. root_f
   where
     other : (i == l.site) ≡ true → same_loc (root_of i) l ≡ true
     other e = ap (same_loc (root_of i)) (sym (root_loc l i a (sym (eqb-true i l.site e)))) ∙ same_loc_refl (root_of i)
+
     further : (s : Bool) → (i == l.site) ≡ s → same_loc (root_of i) l ≡ false → i + 1 ≤ l.site
     further true e f = let g = other e in absurd cc
     further false e f = below_other i l.site b e
+
     go : (s : Bool) → same_loc (root_of i) l ≡ s → (i + 1 ≤ l.site → standing (roots (i + 1) ts) l ≡ Some at_root) → cond s (Some at_root) (standing (roots (i + 1) ts) l) ≡ Some at_root
     go true e ih = refl
     go false e ih = ih (further (i == l.site) refl e)
@@ -138,6 +139,7 @@ entries (x ∷ xs) h = (ap (λ s. cond s (Some (record { host = x.host; marked =
         let bound = h (at_pair y.loc) in
         absurd (omega arith)
     one_later y false e c g = g
+
     later : (ys : List Placed) → Each (Counted xs) ys → Each (IsEntry xs) ys → Each (IsEntry (x ∷ xs)) ys
     later [] c g = tt
     later (y ∷ ys) c g = (one_later y (same_loc x.loc y.loc) refl c.0 g.0, later ys c.1 g.1)

@@ -1,5 +1,5 @@
 -- The solution of locations and names alone is sound, and its locations and names are as the sites say.
-use Rattle.std.proofs.Common.{◌≡◌, ℕ, zero, suc, ◌+◌, ◌<◌, ◌≤◌, List, [], ◌∷◌, ◌++◌, Option, Some, None, Bool, true, false, cond, refl, sym, ap, ◌∙◌, subst, arith, length, ◌||◌, ◌&&◌, ◌⊎◌, inl, inr}
+use Rattle.std.proofs.Common.{◌≡◌, ℕ, suc, ◌+◌, ◌<◌, ◌≤◌, List, [], ◌∷◌, ◌++◌, Option, Some, None, true, false, refl, sym, ap, ◌∙◌, subst, arith, length, ◌||◌, ◌&&◌, inl, inr}
 use Rattle.std.specs.Prelude.{not, slice_index}
 use Rattle.chem_model.specs.declared.name.Loc.{Loc}
 use Rattle.chem_model.specs.declared.name.Name.{Name}
@@ -10,22 +10,22 @@ use Rattle.chem_model.specs.declared.numbered.Named.{Named}
 use Rattle.chem_model.specs.declared.numbered.Placed.{Placed}
 use Rattle.chem_model.specs.declared.numbered.Numbered.{Numbered}
 use Rattle.chem_model.specs.Process.{Rule, Place, Definitions, no_definition, and_also, definitions}
-use Rattle.chem_model.specs.Bag.{one, bag}
+use Rattle.chem_model.specs.Bag.{bag}
 use Rattle.chem_model.specs.Each.{Each}
-use Rattle.chem_model.specs.Fill.{Naming, name_at, or_binder, fill_ref}
-use Rattle.chem_model.specs.Solution.{Standing, Places, coded_name, is_there, is_marked, host_of, or_itself, root, live}
-use Rattle.chem_model.specs.NewNames.{Pair, coded_pair, pairs_of, NamesBlock, OnBinder, IsLocation}
+use Rattle.chem_model.specs.Fill.{Naming, name_at, or_binder}
+use Rattle.chem_model.specs.Solution.{Places, coded_name, is_there, is_marked, host_of, or_itself, root, live}
+use Rattle.chem_model.specs.NewNames.{Pair, coded_pair, pairs_of, NamesBlock, IsLocation}
 use Rattle.chem_model.specs.Numbered.{standing, place_pairs, channel_pair, channel_pairs, pairs}
 use Rattle.chem_model.specs.Pour.{births_of, loc_or}
 use Rattle.chem_model.specs.Opening.{root_of, roots, root_names, level_names, level_counts, level_births, site_names, named_sites}
 use Rattle.chem_model.specs.Sound.{IsSound, IsNameOf, IsRoot, IsHosted, names_in}
-use Rattle.chem_laws.proofs.Lists.{Each-weaker, Each-append, Each-left, Each-right}
+use Rattle.chem_laws.proofs.Lists.{Each-weaker, Each-append}
 use Rattle.chem_laws.proofs.Bags.{one_self, bag-append}
 use Rattle.chem_laws.proofs.Places.{standing_left, there_either}
-use Rattle.chem_laws.proofs.Parts.{IsGivenAt, PlacesStand, IsBelow}
+use Rattle.chem_laws.proofs.Parts.{IsGivenAt, PlacesStand}
 use Rattle.chem_laws.proofs.OpeningLists.{each_both}
-use Rattle.chem_laws.proofs.OpeningNames.{SiteIs, SitesAre, own_naming, site_pairs, pairs_of-append, IsOnce, pairs_once}
-use Rattle.chem_laws.proofs.OpeningPlaces.{at_root, at_pair, or_else, root_found, standing-append, place_pairs-append, counted, entries, IsEntry, RootsStand, AreFresh, fresh_births}
+use Rattle.chem_laws.proofs.OpeningNames.{SitesAre, own_naming, site_pairs, pairs_of-append, pairs_once}
+use Rattle.chem_laws.proofs.OpeningPlaces.{at_root, at_pair, or_else, root_found, standing-append, place_pairs-append, counted, entries, RootsStand, AreFresh, fresh_births}
 
 -- ---- the pairs of the locations and of the channels are those of the names
 
@@ -182,11 +182,11 @@ module _ (seen : List ℕ) (ts : List SiteTerm) (are : SitesAre (site_names ts) 
     roots = λ i lt. (let stand = start_roots (root_of i) refl (subst (λ (n : ℕ). i < n) (length_counts 0 ts) lt) in (ap is_there stand, ap host_of stand));
     hosted = Each-append (Hosted start) (roots 0 ts) (level_births 0 (site_names ts) ts) (roots_hosted start 0 ts (omega (arith, length_counts 0 ts))) (levels_hosted start 0 (site_names ts) ts (omega (arith, length_counts 0 ts)));
     below = λ p h. (
-      let low = (pairs_once (site_names ts) ts 0 p are).below (subst (λ (n : ℕ). 0 < n) (start_pairs p) h) in
-      let same : p.0 ≡ low.0 = (let e = low.1 in omega arith) in
-      let lt = low.2 in
-      (omega (arith, length_counts 0 ts), subst (λ (j : ℕ). p.1 < slice_index (level_counts 0 ts) j) (sym same) low.3)
-    );
+        let low = (pairs_once (site_names ts) ts 0 p are).below (subst (λ (n : ℕ). 0 < n) (start_pairs p) h) in
+        let same : p.0 ≡ low.0 = (let e = low.1 in omega arith) in
+        let lt = low.2 in
+        (omega (arith, length_counts 0 ts), subst (λ (j : ℕ). p.1 < slice_index (level_counts 0 ts) j) (sym same) low.3)
+        );
     different = λ p. subst (λ (n : ℕ). n ≤ 1) (sym (start_pairs p)) (pairs_once (site_names ts) ts 0 p are).once;
     atoms = tt;
     rules = tt;

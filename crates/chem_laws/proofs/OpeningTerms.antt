@@ -1,6 +1,5 @@
 -- The pairs in what the sites leave, once their places are locations.
-use Rattle.std.proofs.Common.{◌≡◌, ℕ, zero, suc, ◌+◌, ◌<◌, ◌≤◌, List, [], ◌∷◌, ◌++◌, Option, Some, None, Bool, true, false, cond, refl, sym, ap, ◌∙◌, subst, arith, length, inl, inr}
-use Rattle.std.specs.Prelude.{slice_index}
+use Rattle.std.proofs.Common.{◌≡◌, ℕ, ◌+◌, ◌<◌, List, [], ◌∷◌, ◌++◌, Option, Some, None, true, ap, subst, arith, inl, inr}
 use Rattle.chem_model.specs.declared.name.Loc.{Loc}
 use Rattle.chem_model.specs.declared.name.Name.{Name}
 use Rattle.chem_model.specs.declared.name.Name.TheVariants as name
@@ -8,20 +7,19 @@ use Rattle.chem_model.specs.declared.name.Ref.{Ref}
 use Rattle.chem_model.specs.declared.name.Ref.TheVariants.{Binder, Known}
 use Rattle.chem_model.specs.declared.name.Pat.{Pat}
 use Rattle.chem_model.specs.declared.program.SiteTerm.{SiteTerm}
-use Rattle.chem_model.specs.declared.numbered.Named.{Named}
 use Rattle.chem_model.specs.declared.numbered.Numbered.{Numbered}
 use Rattle.chem_model.specs.Process.{Process, Msg, Par, Def, Go, Fail, Halt, Processes, none, one_more, Definition, Rule, Place, Definitions, no_definition, and_also, clauses, definitions}
 use Rattle.chem_model.specs.Binders.{block, params_of, patterns_of, patterns_in}
 use Rattle.chem_model.specs.Binders as binders
 use Rattle.chem_model.specs.Scope.{IsBinder, AreNamed, IsNamed, IsInScope, IsTerm, AreTerms, IsDefinition, AreDefinitions}
 use Rattle.chem_model.specs.ProgramFacts.{places}
-use Rattle.chem_model.specs.Bag.{one, bag, ◌⊕◌}
+use Rattle.chem_model.specs.Bag.{one, bag}
 use Rattle.chem_model.specs.Each.{Each}
-use Rattle.chem_model.specs.Fill.{Naming, name_at, or_binder, fill_ref, fill_pats, fill, fill_definitions}
+use Rattle.chem_model.specs.Fill.{Naming, or_binder, fill_ref, fill_pats, fill, fill_definitions}
 use Rattle.chem_model.specs.OnNames.{OnRef, OnProcess, OnProcesses, OnDefinition, OnDefinitions, OnPairs}
 use Rattle.chem_model.specs.Solution.{coded_name, coded_located_process, coded_located_definition, is_there, at}
 use Rattle.chem_model.specs.NewNames.{Pair, coded_pair}
-use Rattle.chem_model.specs.Numbered.{standing, place_pairs, channel_pair, channel_pairs}
+use Rattle.chem_model.specs.Numbered.{standing, channel_pair, channel_pairs}
 use Rattle.chem_model.specs.Pour.{loc_or}
 use Rattle.chem_model.specs.Opening.{root_of}
 use Rattle.chem_model.specs.Runs.{processes_at}
