@@ -1,6 +1,6 @@
 -- The members of a list of terms are filled one by one.
 use Rattle.std.proofs.Common.{◌≡◌, List, [], ◌∷◌, map, refl, ap}
-use Rattle.chem_model.specs.Process.{Process, Definition, Processes, Definitions, processes, definitions, one_more, and_also}
+use Rattle.chem_model.specs.Process.{Process, Definition, processes, definitions, one_more, and_also}
 use Rattle.chem_model.specs.Fill.{Naming, fill, fill_all, fill_definition, fill_definitions}
 
 pub fill_all_is : (m : Naming) (ps : List Process) → fill_all m (processes ps) ≡ processes (map (fill m) ps)

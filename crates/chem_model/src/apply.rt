@@ -10,7 +10,8 @@ use crate::items::Items;
 use crate::memory::Memory;
 use crate::name::{Loc, Name, Names, Nums, Pat, Pats, Ref};
 use crate::numbered::{
-    Named, Naming, Numbered, NumberedAtom, NumberedAtoms, NumberedRule, Placed, PlacedList, same_loc, same_name,
+    Named, Naming, Numbered, NumberedAtom, NumberedAtoms, NumberedRule, Placed, PlacedList,
+    same_loc, same_name,
 };
 use crate::pour::{add_names, known_names};
 use crate::program::Program;
@@ -231,7 +232,12 @@ impl Numbered {
     }
 
     /// The solution with other locations, and other messages and requests.
-    fn changed(&self, alloc: Global, places: PlacedList, atoms: NumberedAtoms) -> Result<Numbered, Memory>
+    fn changed(
+        &self,
+        alloc: Global,
+        places: PlacedList,
+        atoms: NumberedAtoms,
+    ) -> Result<Numbered, Memory>
         ensures { IfOk result (λ changed. changed ≡ record self.now { places = places; atoms = atoms }) }
     {
         let seen = self.seen.copy(alloc)?;
@@ -251,7 +257,12 @@ impl Numbered {
     }
 
     /// A rule takes messages.
-    fn react(&self, alloc: Global, rule: &NumberedRule, took: &Atoms) -> Result<Option<Numbered>, Memory>
+    fn react(
+        &self,
+        alloc: Global,
+        rule: &NumberedRule,
+        took: &Atoms,
+    ) -> Result<Option<Numbered>, Memory>
         ensures { IfOk result (λ after. after ≡ react_rule self.now took.now (Some rule.now)) }
     {
         if !self.is_live(rule.loc) {
@@ -284,7 +295,14 @@ impl Numbered {
     }
 
     /// The request goes, the host changes, and the continuation is poured at the moved location.
-    fn move_to(&self, alloc: Global, id: AtomId, at: Loc, cont: Ref, to: Loc) -> Result<Option<Numbered>, Memory>
+    fn move_to(
+        &self,
+        alloc: Global,
+        id: AtomId,
+        at: Loc,
+        cont: Ref,
+        to: Loc,
+    ) -> Result<Option<Numbered>, Memory>
         ensures { IfOk result (λ after. after ≡ move_to self.now id at cont to) }
     {
         if !self.can_go(at, to) {
@@ -297,7 +315,12 @@ impl Numbered {
         Ok(Some(after))
     }
 
-    fn move_atom(&self, alloc: Global, id: AtomId, atom: &NumberedAtom) -> Result<Option<Numbered>, Memory>
+    fn move_atom(
+        &self,
+        alloc: Global,
+        id: AtomId,
+        atom: &NumberedAtom,
+    ) -> Result<Option<Numbered>, Memory>
         ensures { IfOk result (λ after. after ≡ move_atom self.now id atom.now.loc atom.now.term) }
     {
         match atom.term.node() {
@@ -310,7 +333,12 @@ impl Numbered {
     }
 
     /// The request goes, and its location is marked.
-    fn halt_atom(&self, alloc: Global, id: AtomId, atom: &NumberedAtom) -> Result<Option<Numbered>, Memory>
+    fn halt_atom(
+        &self,
+        alloc: Global,
+        id: AtomId,
+        atom: &NumberedAtom,
+    ) -> Result<Option<Numbered>, Memory>
         ensures { IfOk result (λ after. after ≡ halt_atom self.now id atom.now.loc atom.now.term) }
     {
         match atom.term.node() {
@@ -328,7 +356,14 @@ impl Numbered {
     }
 
     /// The request goes, and its continuation is poured at its location.
-    fn detect_of(&self, alloc: Global, id: AtomId, at: Loc, cont: Ref, of: Loc) -> Result<Option<Numbered>, Memory>
+    fn detect_of(
+        &self,
+        alloc: Global,
+        id: AtomId,
+        at: Loc,
+        cont: Ref,
+        of: Loc,
+    ) -> Result<Option<Numbered>, Memory>
         ensures { IfOk result (λ after. after ≡ detect_of self.now id at cont of) }
     {
         if !self.can_detect(at, of) {
@@ -341,7 +376,12 @@ impl Numbered {
         Ok(Some(after))
     }
 
-    fn detect_atom(&self, alloc: Global, id: AtomId, atom: &NumberedAtom) -> Result<Option<Numbered>, Memory>
+    fn detect_atom(
+        &self,
+        alloc: Global,
+        id: AtomId,
+        atom: &NumberedAtom,
+    ) -> Result<Option<Numbered>, Memory>
         ensures { IfOk result (λ after. after ≡ detect_atom self.now id atom.now.loc atom.now.term) }
     {
         match atom.term.node() {
@@ -378,7 +418,11 @@ impl Numbered {
     }
 
     /// The solution that the events of a journal lead to, one after another from the opening. None where one of them isn't possible.
-    pub fn replay(alloc: Global, program: &Program, journal: &Journal) -> Result<Option<Numbered>, Memory>
+    pub fn replay(
+        alloc: Global,
+        program: &Program,
+        journal: &Journal,
+    ) -> Result<Option<Numbered>, Memory>
         ensures { IfOk result (λ after. after ≡ replay program.now journal.now) }
     {
         let mut reached = Numbered::opening(alloc, program)?;

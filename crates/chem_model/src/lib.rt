@@ -15,9 +15,10 @@ mod term;
 pub use event::{AtomId, Atoms, Event, Journal, Out, Outs, RuleId};
 pub use items::Items;
 pub use memory::Memory;
-pub use numbered::{
-    Counts, Made, Named, Naming, Numbered, NumberedAtom, NumberedAtoms, NumberedRule, NumberedRules, Placed, PlacedList,
-};
 pub use name::{Loc, Name, Names, Nums, Pat, Pats, Ref, Refs, Text, Texts};
+pub use numbered::{
+    Counts, Made, Named, Naming, Numbered, NumberedAtom, NumberedAtoms, NumberedRule,
+    NumberedRules, Placed, PlacedList,
+};
 pub use program::{Program, SeenDecl, SeenDecls, SiteTerm, SiteTerms};
 pub use term::{Defn, DefnNode, Defs, Proc, ProcNode, Procs};

@@ -120,7 +120,12 @@ fn with_count(alloc: Global, counts: &Counts, site: u32, next: u64) -> Result<Co
 }
 
 /// The third walk: each site's level is laid at its root, and then its process is poured there.
-fn open_sites(alloc: Global, numbered: Numbered, names: &Naming, sites: &SiteTerms) -> Result<Numbered, Memory>
+fn open_sites(
+    alloc: Global,
+    numbered: Numbered,
+    names: &Naming,
+    sites: &SiteTerms,
+) -> Result<Numbered, Memory>
     ensures { IfOk result (λ opened. opened ≡ open_sites names.now 0 sites.now numbered) }
 {
     let mut opened = numbered;
@@ -132,7 +137,13 @@ fn open_sites(alloc: Global, numbered: Numbered, names: &Naming, sites: &SiteTer
 
 impl Numbered {
     /// The solution with a process poured at a location with these names. The site is the one of the root above.
-    pub(crate) fn pour_at(self, alloc: Global, names: &Naming, at: Loc, process: &Proc) -> Result<Numbered, Memory>
+    pub(crate) fn pour_at(
+        self,
+        alloc: Global,
+        names: &Naming,
+        at: Loc,
+        process: &Proc,
+    ) -> Result<Numbered, Memory>
         ensures { IfOk result (λ poured. poured ≡ pour_at self names.now at process.now) }
     {
         let root = self.root(at);
@@ -186,7 +197,13 @@ impl Numbered {
         })
     }
 
-    fn open_site(self, alloc: Global, names: &Naming, root: Loc, term: &SiteTerm) -> Result<Numbered, Memory>
+    fn open_site(
+        self,
+        alloc: Global,
+        names: &Naming,
+        root: Loc,
+        term: &SiteTerm,
+    ) -> Result<Numbered, Memory>
         ensures { IfOk result (λ opened. opened ≡ pour_at (lay_at self names.now root (definitions term.now.defs)) names.now root term.now.body) }
     {
         let laid = self.lay_at(alloc, names, root, &term.defs)?;

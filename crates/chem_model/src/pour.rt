@@ -247,7 +247,13 @@ impl Level {
 }
 
 /// Names a level at a location: its channels, then each of its places with its own channels.
-pub(crate) fn name_level(alloc: Global, site: u32, at: Loc, defs: &Defs, next: u64) -> Result<Level, Memory>
+pub(crate) fn name_level(
+    alloc: Global,
+    site: u32,
+    at: Loc,
+    defs: &Defs,
+    next: u64,
+) -> Result<Level, Memory>
     ensures { IfOk result (λ level. drawn level ≡ naming site at (definitions defs.now) next) }
 {
     let mut level = Level {
@@ -270,7 +276,12 @@ fn loc_or(at: Loc, occurrence: Ref) -> Loc
 }
 
 /// The places of a level are born, unmarked, with the root as their host.
-pub(crate) fn add_births(births: &mut PlacedList, root: Loc, names: &Naming, defs: &Defs) -> Result<(), Memory>
+pub(crate) fn add_births(
+    births: &mut PlacedList,
+    root: Loc,
+    names: &Naming,
+    defs: &Defs,
+) -> Result<(), Memory>
     ensures { OnOk result (births.new ≡ births.old ++ births_of root names.now (definitions defs.now)) }
 {
     for definition in defs.as_slice() {

@@ -1,5 +1,5 @@
 -- More messages than patterns are taken.
-use Rattle.std.proofs.Common.{◌≡◌, ◌<◌, ◌≤◌, length, sym, ap, ◌∙◌, arith}
+use Rattle.std.proofs.Common.{◌<◌, ◌≤◌, length, sym, ap, ◌∙◌, arith}
 use Rattle.chem_model.proofs.Drops.{received_long}
 use Rattle.chem_model.proofs.apply.received_all.Goals as goal
 

@@ -5,7 +5,7 @@ use Rattle.chem_model.specs.ProcessSize.{process_depth, definition_depth, procs_
 use Rattle.chem_model.proofs.pour.+pour.Given as goal
 
 abbrev pub invariant-pour_all-loop-member : goal.invariant-pour_all-loop-member
-invariant-pour_all-loop-member l = 
+invariant-pour_all-loop-member l =
     let rest = pour_all l.seen l.root.site l.root l.names l.at l.made.next (processes (drop l.member-index l.member-items)) in
     let all = pour_all l.seen l.root.site l.root l.names l.at l.initial.made.next (processes l.member-items) in
     (rest.next ≡ all.next)
@@ -16,7 +16,7 @@ invariant-pour_all-loop-member l =
     × (l.made.outs ++ rest.outs ≡ l.initial.made.outs ++ all.outs)
 
 abbrev pub invariant-lay_places-loop-definition : goal.invariant-lay_places-loop-definition
-invariant-lay_places-loop-definition l = 
+invariant-lay_places-loop-definition l =
     let rest = lay_places l.seen l.root.site l.root l.names l.at l.made.next (definitions (drop l.definition-index l.definition-items)) in
     let all = lay_places l.seen l.root.site l.root l.names l.at l.initial.made.next (definitions l.definition-items) in
     (rest.next ≡ all.next)

@@ -4,7 +4,7 @@ use Rattle.chem_model.specs.Pour.{lay_rules, rules_made}
 use Rattle.chem_model.proofs.pour.put_rules.Given as goal
 
 abbrev pub invariant-loop-definition : goal.invariant-loop-definition
-invariant-loop-definition l = 
+invariant-loop-definition l =
     let rest = rules_made (lay_rules l.site l.names l.at l.made.next (definitions (drop l.definition-index l.definition-items))) in
     let all = rules_made (lay_rules l.site l.names l.at l.initial.made.next (definitions l.definition-items)) in
     (rest.next ≡ all.next)

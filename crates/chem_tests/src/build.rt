@@ -1,0 +1,110 @@
+// Terms and solutions, built by hand.
+
+use chem_model::{
+    AtomId, Defn, Defs, Event, Items, Loc, Memory, Name, Numbered, Pat, Proc, Ref, RuleId,
+    SiteTerm, SiteTerms,
+};
+use std::alloc::Global;
+use std::test::Fail;
+
+pub fn loc(site: u32, k: u64) -> Loc {
+    Loc { site, k }
+}
+
+pub fn chan(site: u32, k: u64, home: Loc) -> Name {
+    Name::Chan { site, k, home }
+}
+
+/// The observed name of the first declaration.
+pub const OUT: Ref = Ref::Known(Name::Seen(0));
+
+pub fn nothing(alloc: Global) -> Proc {
+    Proc::par(Items::new(alloc))
+}
+
+/// A message without arguments on a binder's name.
+pub fn signal(alloc: Global, on: u32) -> Proc {
+    Proc::msg(Ref::Binder(on), Items::new(alloc))
+}
+
+/// A message on the first observed name.
+pub fn out(alloc: Global, arg: u32) -> Result<Proc, Memory> {
+    let args = Items::from_slice(alloc, &[Ref::Binder(arg)])?;
+    Ok(Proc::msg(OUT, args))
+}
+
+pub fn both(alloc: Global, one: Proc, other: Proc) -> Result<Proc, Memory> {
+    let mut members = Items::new(alloc);
+    members.push(one)?;
+    members.push(other)?;
+    Ok(Proc::par(members))
+}
+
+pub fn no_defs(alloc: Global) -> Defs {
+    Items::new(alloc)
+}
+
+pub fn one_def(alloc: Global, one: Defn) -> Result<Defs, Memory> {
+    let mut defs = Items::new(alloc);
+    defs.push(one)?;
+    Ok(defs)
+}
+
+pub fn two_defs(alloc: Global, one: Defn, other: Defn) -> Result<Defs, Memory> {
+    let mut defs = Items::new(alloc);
+    defs.push(one)?;
+    defs.push(other)?;
+    Ok(defs)
+}
+
+/// A rule of one message pattern.
+pub fn rule(alloc: Global, on: u32, params: &[u32], body: Proc) -> Result<Defn, Memory> {
+    let params = Items::from_slice(alloc, params)?;
+    let mut pats = Items::new(alloc);
+    pats.push(Pat {
+        on: Ref::Binder(on),
+        params,
+    })?;
+    Defn::rule(alloc, pats, body)
+}
+
+pub fn place(alloc: Global, name: u32, defs: Defs, body: Proc) -> Result<Defn, Memory> {
+    Defn::place(alloc, Ref::Binder(name), defs, body)
+}
+
+/// The opening of one site, over one declaration of one argument.
+pub fn open_one(alloc: Global, name: u32, defs: Defs, body: Proc) -> Result<Numbered, Memory> {
+    let mut sites: SiteTerms = Items::new(alloc);
+    sites.push(SiteTerm { name, defs, body })?;
+    let seen = Items::from_slice(alloc, &[1])?;
+    Numbered::opening_of(alloc, &seen, &sites)
+}
+
+/// The opening of two sites, over one declaration of one argument.
+pub fn open_two(alloc: Global, one: SiteTerm, other: SiteTerm) -> Result<Numbered, Memory> {
+    let mut sites: SiteTerms = Items::new(alloc);
+    sites.push(one)?;
+    sites.push(other)?;
+    let seen = Items::from_slice(alloc, &[1])?;
+    Numbered::opening_of(alloc, &seen, &sites)
+}
+
+pub fn atom(site: u32, k: u64) -> AtomId {
+    AtomId { site, k }
+}
+
+/// That a rule takes one message of its own site.
+pub fn reaction(alloc: Global, site: u32, rule: u64, took: AtomId) -> Result<Event, Memory> {
+    let took = Items::from_slice(alloc, &[took])?;
+    Ok(Event::React {
+        rule: RuleId { site, k: rule },
+        took,
+    })
+}
+
+/// The solution after an event that is possible.
+pub fn after(alloc: Global, numbered: &Numbered, event: &Event) -> Result<Numbered, Fail> {
+    let after = numbered.apply(alloc, event)?;
+    let after = after.ok_or("the event isn't possible")?;
+    Ok(after)
+}

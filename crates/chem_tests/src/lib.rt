@@ -1,0 +1,11 @@
+//! Tests of the plain program: worked numberings of openings and events, over terms built by hand.
+#![tactic(auto)]
+
+#[cfg(test)]
+mod build;
+#[cfg(test)]
+mod events;
+#[cfg(test)]
+mod expect;
+#[cfg(test)]
+mod openings;
