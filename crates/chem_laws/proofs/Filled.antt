@@ -1,5 +1,5 @@
 -- Filling by a map that names none of a block's binders leaves the block.
-use Rattle.std.proofs.Common.{◌≡◌, ℕ, ◌≤◌, List, [], ◌∷◌, ◌++◌, Option, Some, None, true, false, refl, sym, ap, ◌∙◌, subst, ◌==◌, eq-eqb, All, AllPairs}
+use Rattle.std.proofs.Common.{◌≡◌, ℕ, ◌≤◌, List, [], ◌∷◌, ◌++◌, Option, Some, None, false, refl, sym, ap, ◌∙◌, subst, All, AllPairs}
 use Rattle.std.specs.Prelude.{is_some}
 use Rattle.chem_model.specs.declared.name.Loc.{Loc}
 use Rattle.chem_model.specs.declared.name.Name.{Name}
@@ -13,20 +13,10 @@ use Rattle.chem_model.specs.declared.name.Name.TheVariants as name
 use Rattle.chem_model.specs.Each.{Each}
 use Rattle.chem_model.specs.Fill.{Naming, name_at, or_binder, fill_ref, fill_pats, fill_definition, fill_definitions}
 use Rattle.chem_model.specs.NewNames.{IsChannelAt, IsLocation, OnBinder, NamesBlock}
-use Rattle.chem_laws.proofs.Lists.{or_left, or_right}
-use Rattle.chem_laws.proofs.Terms.{among-append}
+use Rattle.chem_laws.proofs.Terms.{among_left, among_right, among_first}
 use Rattle.chem_laws.proofs.Parts.{NamesNone, BlockFilled}
 
 -- ---- which binders a map names none of
-
-pub among_left : (bs cs : List ℕ) (b : ℕ) → is_among bs b ≡ true → is_among (bs ++ cs) b ≡ true
-among_left bs cs b e = among-append bs cs b ∙ or_left (is_among bs b) (is_among cs b) e
-
-pub among_right : (bs cs : List ℕ) (b : ℕ) → is_among cs b ≡ true → is_among (bs ++ cs) b ≡ true
-among_right bs cs b e = among-append bs cs b ∙ or_right (is_among bs b) (is_among cs b) e
-
-pub among_first : (b : ℕ) (bs : List ℕ) → is_among (b ∷ bs) b ≡ true
-among_first b bs = or_left (b == b) (is_among bs b) (eq-eqb b b refl)
 
 pub no_name : (o : Option Name) → is_some o ≡ false → o ≡ None
 no_name None e = refl

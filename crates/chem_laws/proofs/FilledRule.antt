@@ -14,9 +14,9 @@ use Rattle.chem_model.specs.Scope.{IsPattern, IsInScope, IsTerm, AreTerms, IsDef
 use Rattle.chem_model.specs.Each.{Each}
 use Rattle.chem_model.specs.Fill.{Naming, name_at, or_binder, fill_ref, fill_refs, fill_pats, fill, fill_all, fill_definition, fill_definitions}
 use Rattle.chem_laws.proofs.Lists.{either_true}
-use Rattle.chem_laws.proofs.Terms.{among-append}
+use Rattle.chem_laws.proofs.Terms.{among-append, among_left, among_right}
 use Rattle.chem_laws.proofs.Parts.{is_named, Closes, NamesNone, AreDifferent, RuleFilled}
-use Rattle.chem_laws.proofs.Filled.{among_left, among_right, names_none_left, names_none_right, pats_left, params_left, block_left, is_block_filled, are_rules_and_places_filled}
+use Rattle.chem_laws.proofs.Filled.{names_none_left, names_none_right, pats_left, params_left, block_left, is_block_filled, are_rules_and_places_filled}
 
 -- ---- a term's binders are bound once, also with those that the map names
 

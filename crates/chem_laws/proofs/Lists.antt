@@ -1,5 +1,5 @@
 -- Laws of lists and of truth values.
-use Rattle.std.proofs.Common.{◌≡◌, ℕ, ◌+◌, ◌<◌, List, [], ◌∷◌, ◌++◌, Bool, true, false, cond, refl, sym, ap, ◌∙◌, subst, arith, ◌&&◌, ◌||◌, ◌==◌, eq-eqb, eqb-true, ◌⊎◌, inl, inr, zero, suc, length}
+use Rattle.std.proofs.Common.{◌≡◌, ℕ, ◌+◌, ◌<◌, List, [], ◌∷◌, ◌++◌, Bool, true, false, refl, ap, arith, ◌&&◌, ◌||◌, ◌⊎◌, inl, inr, zero, suc, length}
 use Rattle.std.specs.Prelude.{slice_index_or}
 use Rattle.std.specs.List.{All, AllPairs}
 use Rattle.chem_model.specs.Each.{Each}
@@ -25,6 +25,10 @@ or_right false b e = e
 pub either_true : (a b : Bool) → a || b ≡ true → (a ≡ true) ⊎ (b ≡ true)
 either_true true b e = inl refl
 either_true false b e = inr e
+
+pub neither : (a b : Bool) → a || b ≡ false → (a ≡ false) × (b ≡ false)
+neither true b e = cc
+neither false b e = (refl, e)
 
 pub or_assoc : (a b c : Bool) → a || (b || c) ≡ (a || b) || c
 or_assoc true b c = refl

@@ -20,10 +20,10 @@ use Rattle.chem_model.specs.NewNames.{Pair, coded_pair, pair_of, pairs_of, HasDo
 use Rattle.chem_model.specs.Numbered.{standing, place_pairs, channel_pairs}
 use Rattle.chem_model.specs.Pour.{Drawn, name_channel, name_ref, name_pats, name_channels, name_place, name_places, naming, births_of, loc_or}
 use Rattle.chem_laws.proofs.Lists.{or_assoc, or_comm, or_right, Each-append, Each-weaker}
-use Rattle.chem_laws.proofs.Terms.{or_name, name_at-append, some_or, among-append}
+use Rattle.chem_laws.proofs.Terms.{or_name, name_at-append, some_or, among-append, among_left, among_right, among_first}
 use Rattle.chem_laws.proofs.Within.{same_loc_refl}
 use Rattle.chem_laws.proofs.Parts.{in_range, Agree, IsGivenAt, NamingIs}
-use Rattle.chem_laws.proofs.Filled.{among_left, among_right, among_first, no_name}
+use Rattle.chem_laws.proofs.Filled.{no_name}
 use Rattle.chem_laws.proofs.NamingRange.{in_range_joins, in_range_empty, in_range_once, one_in_range, pairs_of-append, channel_pairs-append, IsMade, has_name, one_binder}
 use Rattle.chem_laws.proofs.NamingLevels.{top_channels, rules_block, AreChannels, block_channels, Fresh, block_fresh}
 

@@ -1,7 +1,6 @@
 -- The levels of a block: its own channels, and of each place its name and its channels, all apart.
 use Rattle.std.proofs.Common.{◌≡◌, ℕ, ◌+◌, ◌<◌, ◌≤◌, List, [], ◌∷◌, ◌++◌, Option, Some, None, Bool, true, false, cond, refl, sym, ap, ◌∙◌, subst, suc, zero, arith, ◌==◌, ◌||◌, ◌⊎◌, inl, inr, eq-eqb, eqb-true, All, AllPairs}
 use Rattle.std.proofs.lemmas.List.Elements.{All-head, All-tail}
-use Rattle.std.proofs.lemmas.List.Sums.{sum_by-cons, sum_by-append}
 use Rattle.chem_model.specs.declared.name.Ref.{Ref}
 use Rattle.chem_model.specs.declared.name.Ref.TheVariants.{Binder, Known}
 use Rattle.chem_model.specs.declared.name.Pat.{Pat}
@@ -10,22 +9,16 @@ use Rattle.chem_model.specs.Binders.{binder_of, channels_of, block, places_of, a
 use Rattle.chem_model.specs.Scope.{IsBinder, AreRules, AreRulesAndPlaces, AreNamed, Agree, IsBlock}
 use Rattle.chem_model.specs.Each.{Each}
 use Rattle.chem_laws.proofs.Lists.{either_true}
-use Rattle.chem_laws.proofs.Terms.{among-append}
+use Rattle.chem_laws.proofs.Terms.{among-append, times-cons, times-append}
 
 -- ---- how often a binder stands in a list
-
-pub times_cons : (b : ℕ) (bs : List ℕ) (c : ℕ) → times (b ∷ bs) c ≡ cond (b == c) 1 0 + times bs c
-times_cons b bs c = sum_by-cons (λ (x : ℕ). cond (x == c) 1 0) b bs
-
-pub times-append : (bs cs : List ℕ) (c : ℕ) → times (bs ++ cs) c ≡ times bs c + times cs c
-times-append bs cs c = sum_by-append (λ (x : ℕ). cond (x == c) 1 0) bs cs
 
 pub once_first : (b : ℕ) → ◌≡◌ {A = ℕ} (cond (b == b) 1 0) 1
 once_first b = ap (λ t. cond t 1 0) (eq-eqb b b refl)
 
 pub not_among : (bs : List ℕ) (c : ℕ) → is_among bs c ≡ false → times bs c ≡ 0
 not_among [] c e = refl
-not_among (b ∷ bs) c e = times_cons b bs c ∙ go (b == c) (not_among bs c) e
+not_among (b ∷ bs) c e = times-cons b bs c ∙ go (b == c) (not_among bs c) e
   where
     go : (t : Bool) → (is_among bs c ≡ false → times bs c ≡ 0) → t || is_among bs c ≡ false → ◌≡◌ {A = ℕ} (cond t 1 0 + times bs c) 0
     go true ih e' = cc
@@ -187,7 +180,7 @@ module _ (xs : List (Option Ref × Pat)) (qs : List ℕ)
       after c = before c + cond (b == c) 1 0
 
       count_after : (c : ℕ) → times qs c ≡ after c + times (places_of ds) c
-      count_after c = omega (arith, count c, times_cons b (places_of es ++ places_of ds) c, times-append (places_of es) (places_of ds) c, ap (λ cs. times cs c) (rules_places es ok.0))
+      count_after c = omega (arith, count c, times-cons b (places_of es ++ places_of ds) c, times-append (places_of es) (places_of ds) c, ap (λ cs. times cs c) (rules_places es ok.0))
 
       b_new : before b ≡ 0
       b_new = omega (arith, count_after b, once b, once_first b)

@@ -8,8 +8,9 @@ use Rattle.chem_model.specs.Process.{Process, Definition, Rule, Place, Definitio
 use Rattle.chem_model.specs.Binders.{binder_of, channels_of, block, defined, places_of, place_of, at, patterns_of, patterns_in, is_among, times}
 use Rattle.chem_model.specs.Scope.{IsBinder, IsBlock, AreNamed, IsNamed, Agree}
 use Rattle.chem_model.specs.Each.{Each}
-use Rattle.chem_laws.proofs.Lists.{Each-weaker, Each-append, Each-left, Each-right}
-use Rattle.chem_laws.proofs.OpeningLists.{each_of, all_of, each_map, EachPair, pairs_by, all_pairs, pairs_left, pairs_right, pairs_across, pairs_map, among_left, among_right, among_either, among_head, not_among, is_false, once_apart, times-append, times-cons}
+use Rattle.chem_laws.proofs.Lists.{Each-weaker, Each-append, Each-left, Each-right, all_each, each_all, EachPair, pairs_each}
+use Rattle.chem_laws.proofs.OpeningLists.{each_map, all_pairs, pairs_left, pairs_right, pairs_across, pairs_map, among_either, not_among, is_false, once_apart}
+use Rattle.chem_laws.proofs.Terms.{among_left, among_right, among_first, times-append, times-cons}
 
 abbrev Item : Type 0
 Item = Option Ref × Pat
@@ -28,18 +29,18 @@ pub record IsBlockAt (l : Option Ref) (ds : Definitions) : Type 0 where
 
 pub of_block : (ds : Definitions) → IsBlock ds → IsBlockAt None ds
 of_block ds h = record {
-  channels = each_of (λ (x : Item). IsBinder x.1.on) (patterns_of None ds) h.channels;
+  channels = all_each (λ (x : Item). IsBinder x.1.on) (patterns_of None ds) h.channels;
   named = h.places;
-  apart = each_of (IsApart (places_of ds)) (patterns_of None ds) h.apart;
+  apart = all_each (IsApart (places_of ds)) (patterns_of None ds) h.apart;
   one_place = h.one_place;
-  agree = pairs_by Agree (patterns_of None ds) h.agree;
+  agree = pairs_each Agree (patterns_of None ds) h.agree;
 }
 
 pub to_block : (ds : Definitions) → IsBlockAt None ds → IsBlock ds
 to_block ds h = record {
-  channels = all_of (λ (x : Item). IsBinder x.1.on) (patterns_of None ds) h.channels;
+  channels = each_all (λ (x : Item). IsBinder x.1.on) (patterns_of None ds) h.channels;
   places = h.named;
-  apart = all_of (IsApart (places_of ds)) (patterns_of None ds) h.apart;
+  apart = each_all (IsApart (places_of ds)) (patterns_of None ds) h.apart;
   one_place = h.one_place;
   agree = all_pairs Agree (patterns_of None ds) h.agree;
 }
@@ -90,7 +91,7 @@ pub own_block : (l : Option Ref) (n : ℕ) (es : Definitions) (p : Process) (ds 
 own_block l n es p ds h =
     let own = patterns_of (Some (Binder n)) es in
     let others = patterns_of l ds in
-    let new : is_among (places_of es) n ≡ false = is_false (is_among (places_of es) n) (λ e. once_apart (n ∷ []) (places_of es ++ places_of ds) n (h.one_place n) (among_head n []) (among_left (places_of es) (places_of ds) n e)) in
+    let new : is_among (places_of es) n ≡ false = is_false (is_among (places_of es) n) (λ e. once_apart (n ∷ []) (places_of es ++ places_of ds) n (h.one_place n) (among_first n []) (among_left (places_of es) (places_of ds) n e)) in
     let same : patterns_of None es ≡ map (moved_item n) own = ap (λ (o : Option Ref). patterns_of o es) (sym (moved_own n)) ∙ patterns_moved n (Some (Binder n)) es new in
     let places = places_of (and_also (Place (Binder n) es p) ds) in
     let apart : Each (IsApart (places_of es)) own = Each-weaker (IsApart places) (IsApart (places_of es)) (λ x f b e. (not_among (places_of es) (places_of ds) b (not_among (n ∷ []) (places_of es ++ places_of ds) b (f b e)).1).0) own (Each-left (IsApart places) own others h.apart) in
@@ -146,7 +147,7 @@ mutual
   located_in l (Rule ps p) h = located_pats l [] ps
   located_in l (Place (Binder n) es p) h =
       let places = n ∷ places_of es in
-      Each-weaker (λ (x : Item). Located (Some (Binder n)) (places_of es) x.0) (λ (x : Item). Located l places x.0) (λ x f. located_under n l (places_of es) places (among_head n (places_of es)) (λ c e. among_right (n ∷ []) (places_of es) c e) x.0 f) (patterns_of (Some (Binder n)) es) (located (Some (Binder n)) es h.1)
+      Each-weaker (λ (x : Item). Located (Some (Binder n)) (places_of es) x.0) (λ (x : Item). Located l places x.0) (λ x f. located_under n l (places_of es) places (among_first n (places_of es)) (λ c e. among_right (n ∷ []) (places_of es) c e) x.0 f) (patterns_of (Some (Binder n)) es) (located (Some (Binder n)) es h.1)
   located_in l (Place (Known x) es p) h = absurd h.0
 
 abbrev number_of : Option Ref → ℕ
@@ -225,7 +226,7 @@ module _ (n : ℕ) (es : Definitions) (p : Process) (ds : Definitions) (h : IsBl
   stand_apart : (o q : Option Ref) → Located (Some (Binder n)) (places_of es) o → Located None (places_of ds) q → o ≡ q → ⊥
   stand_apart o q (inl e) (inl f) same = cc
   stand_apart o q (inr e) (inl f) same = let a = e.1 in cc
-  stand_apart o q (inl e) (inr f) same = apart_places n (among_head n (places_of es)) (subst (λ (c : ℕ). is_among (places_of ds) c ≡ true) (ap number_of (sym f.1 ∙ sym same ∙ e)) f.2)
+  stand_apart o q (inl e) (inr f) same = apart_places n (among_first n (places_of es)) (subst (λ (c : ℕ). is_among (places_of ds) c ≡ true) (ap number_of (sym f.1 ∙ sym same ∙ e)) f.2)
   stand_apart o q (inr e) (inr f) same = apart_places e.0 (among_right (n ∷ []) (places_of es) e.0 e.2) (subst (λ (c : ℕ). is_among (places_of ds) c ≡ true) (ap number_of (sym f.1 ∙ sym same ∙ e.1)) f.2)
 
   -- a binder of the site is none of the others'
@@ -250,6 +251,6 @@ module _ (n : ℕ) (es : Definitions) (p : Process) (ds : Definitions) (h : IsBl
   -- the site's name isn't one of its definitions'
   pub name_apart : is_among (block es) n ≡ false
   name_apart = is_false (is_among (block es) n) (λ f. elim (found IsOwn n (Some (Binder n)) es own_items f) [
-    | inl v ↦ once_apart (n ∷ []) (places_of es ++ places_of ds) n (h.one_place n) (among_head n []) (among_left (places_of es) (places_of ds) n v)
-    | inr x ↦ (let a = x.2.1 n x.1 in let c = among_head n (places_of es ++ places_of ds) in cc)
+    | inl v ↦ once_apart (n ∷ []) (places_of es ++ places_of ds) n (h.one_place n) (among_first n []) (among_left (places_of es) (places_of ds) n v)
+    | inr x ↦ (let a = x.2.1 n x.1 in let c = among_first n (places_of es ++ places_of ds) in cc)
   ])

@@ -12,16 +12,17 @@ use Rattle.chem_model.specs.ProgramFacts.{places}
 use Rattle.chem_model.specs.Bag.{one, bag, same_code}
 use Rattle.chem_model.specs.Each.{Each}
 use Rattle.chem_model.specs.Fill.{Naming, name_at}
-use Rattle.chem_model.specs.NewNames.{Pair, coded_pair, pair_of, pairs_of, HasDomain}
+use Rattle.chem_model.specs.NewNames.{Pair, coded_pair, pairs_of, HasDomain}
 use Rattle.chem_model.specs.Pour.{Drawn, naming}
 use Rattle.chem_model.specs.Opening.{root_of, root_names, level_names, level_counts}
 use Rattle.chem_model.specs.Runs.{NamesSites}
 use Rattle.chem_laws.proofs.Lists.{both_true, above}
-use Rattle.chem_laws.proofs.Bags.{one_is, bag-append}
-use Rattle.chem_laws.proofs.Terms.{or_name, name_at-append, some_or, among-append, domain-append}
+use Rattle.chem_laws.proofs.Bags.{one_is}
+use Rattle.chem_laws.proofs.Terms.{or_name, name_at-append, some_or, among-append, domain-append, among_first, among_left, among_right}
 use Rattle.chem_laws.proofs.Parts.{Agree, in_range, IsNaming, NamingIs}
-use Rattle.chem_laws.proofs.OpeningLists.{among_head, among_left, among_right, not_among, is_false}
+use Rattle.chem_laws.proofs.OpeningLists.{not_among, is_false}
 use Rattle.chem_laws.proofs.OpeningBlocks.{IsBlockAt, own_block, other_block, sites_apart, name_apart}
+use Rattle.chem_laws.proofs.NamingRange.{pairs_of-append}
 
 -- ---- each site
 
@@ -151,7 +152,7 @@ module _ (naming_is : NamingIs) where
       let es = definitions t.defs in
       let others = other_block None (Place (Binder t.name) es t.body) (places ts) h in (
         record {
-          named = same t.name (among_head t.name (block es ++ block (places ts))) ∙ at_head i t ts h g.0;
+          named = same t.name (among_first t.name (block es ++ block (places ts))) ∙ at_head i t ts h g.0;
           own = naming_is i (root_of i) (root_of i) m es 1 (one_block i t ts h g.0) g.0 (λ b e. same b (among_right (t.name ∷ []) (block es ++ block (places ts)) b (among_left (block es) (block (places ts)) b e)) ∙ here i t ts h g.0 b e);
           levels = g.0;
         },
@@ -167,10 +168,6 @@ names_sites m i (t ∷ ts) h = (h.0.named, h.0.own.whole, names_sites m (i + 1) 
 -- how often a pair is one of a name of these sites
 abbrev pub site_pairs : ℕ → List SiteTerm → Pair → ℕ
 site_pairs i ts q = bag coded_pair (pairs_of (root_names i ts)) q + bag coded_pair (pairs_of (level_names i ts)) q
-
-pub pairs_of-append : (m n : Naming) (q : Pair) → bag coded_pair (pairs_of (m ++ n)) q ≡ bag coded_pair (pairs_of m) q + bag coded_pair (pairs_of n) q
-pairs_of-append [] n q = omega arith
-pairs_of-append (e ∷ m) n q = omega (arith, bag-append coded_pair (pair_of e.name) (pairs_of (m ++ n)) q, bag-append coded_pair (pair_of e.name) (pairs_of m) q, pairs_of-append m n q)
 
 -- a pair of these sites occurs once, and is below its site's count
 pub record IsOnce (i : ℕ) (ts : List SiteTerm) (q : Pair) : Type 0 where

@@ -1,5 +1,5 @@
 -- The solution of locations and names alone is sound, and its locations and names are as the sites say.
-use Rattle.std.proofs.Common.{◌≡◌, ℕ, suc, ◌+◌, ◌<◌, ◌≤◌, List, [], ◌∷◌, ◌++◌, Option, Some, None, true, false, refl, sym, ap, ◌∙◌, subst, arith, length, ◌||◌, ◌&&◌, inl, inr}
+use Rattle.std.proofs.Common.{◌≡◌, ℕ, suc, ◌+◌, ◌<◌, ◌≤◌, List, [], ◌∷◌, Option, Some, None, true, false, refl, sym, ap, ◌∙◌, subst, arith, length, ◌||◌, ◌&&◌, inl, inr}
 use Rattle.std.specs.Prelude.{not, slice_index}
 use Rattle.chem_model.specs.declared.name.Loc.{Loc}
 use Rattle.chem_model.specs.declared.name.Name.{Name}
@@ -15,17 +15,18 @@ use Rattle.chem_model.specs.Each.{Each}
 use Rattle.chem_model.specs.Fill.{Naming, name_at, or_binder}
 use Rattle.chem_model.specs.Solution.{Places, coded_name, is_there, is_marked, host_of, or_itself, root, live}
 use Rattle.chem_model.specs.NewNames.{Pair, coded_pair, pairs_of, NamesBlock, IsLocation}
-use Rattle.chem_model.specs.Numbered.{standing, place_pairs, channel_pair, channel_pairs, pairs}
+use Rattle.chem_model.specs.Numbered.{standing, place_pairs, channel_pairs, pairs}
 use Rattle.chem_model.specs.Pour.{births_of, loc_or}
 use Rattle.chem_model.specs.Opening.{root_of, roots, root_names, level_names, level_counts, level_births, site_names, named_sites}
 use Rattle.chem_model.specs.Sound.{IsSound, IsNameOf, IsRoot, IsHosted, names_in}
 use Rattle.chem_laws.proofs.Lists.{Each-weaker, Each-append}
-use Rattle.chem_laws.proofs.Bags.{one_self, bag-append}
+use Rattle.chem_laws.proofs.Bags.{one_self}
 use Rattle.chem_laws.proofs.Places.{standing_left, there_either}
 use Rattle.chem_laws.proofs.Parts.{IsGivenAt, PlacesStand}
 use Rattle.chem_laws.proofs.OpeningLists.{each_both}
-use Rattle.chem_laws.proofs.OpeningNames.{SitesAre, own_naming, site_pairs, pairs_of-append, pairs_once}
+use Rattle.chem_laws.proofs.OpeningNames.{SitesAre, own_naming, site_pairs, pairs_once}
 use Rattle.chem_laws.proofs.OpeningPlaces.{at_root, at_pair, or_else, root_found, standing-append, place_pairs-append, counted, entries, RootsStand, AreFresh, fresh_births}
+use Rattle.chem_laws.proofs.NamingRange.{pairs_of-append, channel_pairs-append}
 
 -- ---- the pairs of the locations and of the channels are those of the names
 
@@ -36,10 +37,6 @@ root_pairs i (t ∷ ts) = ap (λ (xs : List Pair). (i, 0) ∷ xs) (root_pairs (i
 no_channel : (i : ℕ) (ts : List SiteTerm) → channel_pairs (root_names i ts) ≡ []
 no_channel i [] = refl
 no_channel i (t ∷ ts) = no_channel (i + 1) ts
-
-channel_pairs-append : (m n : Naming) (q : Pair) → bag coded_pair (channel_pairs (m ++ n)) q ≡ bag coded_pair (channel_pairs m) q + bag coded_pair (channel_pairs n) q
-channel_pairs-append [] n q = omega arith
-channel_pairs-append (e ∷ m) n q = omega (arith, bag-append coded_pair (channel_pair e.name) (channel_pairs (m ++ n)) q, bag-append coded_pair (channel_pair e.name) (channel_pairs m) q, channel_pairs-append m n q)
 
 level_split : (m : Naming) (i : ℕ) (ts : List SiteTerm) (q : Pair) → SitesAre m i ts
     → bag coded_pair (place_pairs (level_births i m ts)) q + bag coded_pair (channel_pairs (level_names i ts)) q ≡ bag coded_pair (pairs_of (level_names i ts)) q

@@ -24,11 +24,10 @@ use Rattle.chem_model.specs.Pour.{loc_or}
 use Rattle.chem_model.specs.Opening.{root_of}
 use Rattle.chem_model.specs.Runs.{processes_at}
 use Rattle.chem_model.specs.Sound.{IsSound, IsNameOf, names_in}
-use Rattle.chem_laws.proofs.Lists.{Each-left, Each-right, above}
+use Rattle.chem_laws.proofs.Lists.{Each-left, Each-right, above, all_each}
 use Rattle.chem_laws.proofs.Bags.{one_is, one_self, bag-append}
 use Rattle.chem_laws.proofs.Terms.{OnEntries, found_on, ref_filled, definition_filled, definitions_filled, process_filled}
 use Rattle.chem_laws.proofs.Parts.{IsBelow, rules_left, bodies_left}
-use Rattle.chem_laws.proofs.OpeningLists.{each_of}
 use Rattle.chem_laws.proofs.OpeningNames.{SiteIs, SitesAre}
 use Rattle.chem_laws.proofs.OpeningPlaces.{at_pair, counted, rules_all, bodies_all}
 
@@ -56,9 +55,9 @@ module _ (Q R : Name → Type 0) (f : (x : Name) → Q x → R x) where
 
   mutual
     pub term_on : (scope : List ℕ) (p : Process) → IsTerm Q scope p → OnProcess R p
-    term_on scope (Msg x vs) h = (ref_on scope x h.0, refs_on scope vs (each_of (IsInScope Q scope) vs h.1))
+    term_on scope (Msg x vs) h = (ref_on scope x h.0, refs_on scope vs (all_each (IsInScope Q scope) vs h.1))
     term_on scope (Par ps) h = terms_on scope ps h
-    term_on scope (Def ds p) h = (definitions_on (block ds ++ scope) None ds (each_of (λ (x : Option Ref × Pat). IsBinder x.1.on) (patterns_of None ds) h.0.channels) h.0.places h.2, term_on (block ds ++ scope) p h.3)
+    term_on scope (Def ds p) h = (definitions_on (block ds ++ scope) None ds (all_each (λ (x : Option Ref × Pat). IsBinder x.1.on) (patterns_of None ds) h.0.channels) h.0.places h.2, term_on (block ds ++ scope) p h.3)
     term_on scope (Go b k) h = (ref_on scope b h.0, ref_on scope k h.1)
     term_on scope (Fail b k) h = (ref_on scope b h.0, ref_on scope k h.1)
     term_on scope Halt h = tt

@@ -1,17 +1,16 @@
 -- The statements by which the parts of the laws' proofs know one another.
-use Rattle.std.proofs.Common.{◌≡◌, ℕ, ◌+◌, ◌<◌, ◌≤◌, List, [], ◌∷◌, ◌++◌, Option, Some, None, Bool, true, false, cond, length, ◌==◌, ◌&&◌, ◌⊎◌}
+use Rattle.std.proofs.Common.{◌≡◌, ℕ, ◌+◌, ◌<◌, ◌≤◌, List, [], ◌∷◌, Some, None, true, false, cond, length, ◌==◌, ◌&&◌, ◌⊎◌}
 use Rattle.std.specs.Prelude.{is_some, slice_index, nat_lt, nat_le}
 use Rattle.chem_model.specs.declared.name.Loc.{Loc}
 use Rattle.chem_model.specs.declared.name.Name.{Name}
 use Rattle.chem_model.specs.declared.name.Name.TheVariants as name
-use Rattle.chem_model.specs.declared.name.Ref.{Ref}
-use Rattle.chem_model.specs.declared.name.Ref.TheVariants.{Binder, Known}
+use Rattle.chem_model.specs.declared.name.Ref.TheVariants.{Known}
 use Rattle.chem_model.specs.declared.name.Pat.{Pat}
 use Rattle.chem_model.specs.declared.event.Out.{Out}
-use Rattle.chem_model.specs.Process.{Process, Rule, Place, Definition, Definitions, no_definition, and_also, clauses}
+use Rattle.chem_model.specs.Process.{Process, Rule, Place, Definitions, no_definition, and_also, clauses}
 use Rattle.chem_model.specs.Binders.{block, is_among, bound_in, bound_in_definition, bound_in_definitions}
-use Rattle.chem_model.specs.Scope.{IsTerm, IsDefinition, AreDefinitions, AreRules, AreRulesAndPlaces, IsBlock}
-use Rattle.chem_model.specs.Bag.{Bag, one, bag, ◌⊕◌, nothing}
+use Rattle.chem_model.specs.Scope.{IsTerm, IsDefinition, AreDefinitions, AreRulesAndPlaces, IsBlock}
+use Rattle.chem_model.specs.Bag.{one, bag, ◌⊕◌, nothing}
 use Rattle.chem_model.specs.Each.{Each}
 use Rattle.chem_model.specs.declared.numbered.Named.{Named}
 use Rattle.chem_model.specs.Fill.{Naming, name_at, fill_ref, fill_pats, fill, fill_definitions}
@@ -23,7 +22,7 @@ use Rattle.chem_model.specs.declared.numbered.Numbered.{Numbered}
 use Rattle.chem_model.specs.declared.numbered.Placed.{Placed}
 use Rattle.chem_model.specs.Numbered.{standing, erase, place_pairs, channel_pairs}
 use Rattle.chem_model.specs.Pour.{Drawn, naming, births_of, loc_or, pour_at, lay_at}
-use Rattle.chem_model.specs.Sound.{IsSound, IsNameOf, IsKnown}
+use Rattle.chem_model.specs.Sound.{IsSound, IsNameOf}
 
 -- ---- environments
 
@@ -177,5 +176,5 @@ abbrev pub PlacesReached : Type 0
 PlacesReached = (seen : List ℕ) (ds : Definitions) (pl : Places) (l r : Loc) (m : Naming) (d : Defs) (q : Procs) (tr : List Out)
     → live pl l ≡ true → root pl l ≡ r → is_there (pl r) ≡ true → FreshPlaces pl r m ds
     → IsReached seen
-      (record { places = born_all pl (births_of r m ds); defs = rules_left l m ds ⊕ d; procs = bodies_left l m ds ⊕ q; trace = tr })
-      (record { places = pl; defs = bag coded_located_definition (at l (clauses (fill_definitions m ds))) ⊕ d; procs = q; trace = tr })
+    (record { places = born_all pl (births_of r m ds); defs = rules_left l m ds ⊕ d; procs = bodies_left l m ds ⊕ q; trace = tr })
+    (record { places = pl; defs = bag coded_located_definition (at l (clauses (fill_definitions m ds))) ⊕ d; procs = q; trace = tr })

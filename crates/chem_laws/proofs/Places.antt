@@ -1,5 +1,5 @@
 -- Locations and names of a numbered solution, and facts on names in terms.
-use Rattle.std.proofs.Common.{◌≡◌, ℕ, ◌+◌, ◌<◌, ◌≤◌, List, [], ◌∷◌, ◌++◌, Option, Some, None, Bool, true, false, cond, refl, sym, ap, ◌∙◌, subst, arith, length, ◌&&◌, ◌||◌}
+use Rattle.std.proofs.Common.{◌≡◌, ℕ, ◌+◌, List, [], ◌∷◌, ◌++◌, Option, Some, None, Bool, true, false, cond, refl, sym, ap, ◌∙◌, subst, arith, ◌&&◌, ◌||◌}
 use Rattle.std.specs.Prelude.{not, slice_index_or}
 use Rattle.std.specs.List.{All}
 use Rattle.chem_model.specs.declared.name.Loc.{Loc}
@@ -7,7 +7,6 @@ use Rattle.chem_model.specs.declared.name.Name.{Name}
 use Rattle.chem_model.specs.declared.name.Name.TheVariants as name
 use Rattle.chem_model.specs.declared.name.Ref.{Ref}
 use Rattle.chem_model.specs.declared.name.Ref.TheVariants.{Binder, Known}
-use Rattle.chem_model.specs.declared.numbered.Named.{Named}
 use Rattle.chem_model.specs.declared.numbered.Placed.{Placed}
 use Rattle.chem_model.specs.declared.numbered.Numbered.{Numbered}
 use Rattle.chem_model.specs.declared.numbered.Made.{Made}
@@ -21,8 +20,8 @@ use Rattle.chem_model.specs.Solution.{Standing, Places, coded_name, same_loc, is
 use Rattle.chem_model.specs.Numbered.{standing}
 use Rattle.chem_model.specs.Pour.{add_made}
 use Rattle.chem_model.specs.Opening.{root_of}
-use Rattle.chem_model.specs.Sound.{IsSound, IsNameOf, IsRoot, IsHosted, names_in}
-use Rattle.chem_laws.proofs.Lists.{both_true}
+use Rattle.chem_model.specs.Sound.{IsSound, IsNameOf, IsKnown, IsSettled, IsRoot, IsHosted, names_in}
+use Rattle.chem_laws.proofs.Lists.{both_true, Each-weaker}
 use Rattle.chem_laws.proofs.Bags.{bag-append}
 use Rattle.chem_laws.proofs.Within.{same_loc_is}
 
@@ -152,3 +151,17 @@ module _ (Q R : Name → Type 0) (f : (n : Name) → Q n → R n) where
     pub definitions_scope_weaker : (scope : List ℕ) (ds : Definitions) → AreDefinitions Q scope ds → AreDefinitions R scope ds
     definitions_scope_weaker scope no_definition h = tt
     definitions_scope_weaker scope (and_also d ds) h = (definition_scope_weaker scope d h.0, definitions_scope_weaker scope ds h.1)
+
+  -- ---- and on the names of a message or a request
+
+  pub known_weaker : (r : Ref) → IsKnown Q r → IsKnown R r
+  known_weaker (Binder b) h = h
+  known_weaker (Known n) h = f n h
+
+  pub settled_weaker : (seen : List ℕ) (l : Loc) (p : Process) → IsSettled seen Q l p → IsSettled seen R l p
+  settled_weaker seen l (Msg x vs) h = (known_weaker x h.0, Each-weaker (IsKnown Q) (IsKnown R) known_weaker vs h.1, h.2, h.3)
+  settled_weaker seen l (Par ps) h = h
+  settled_weaker seen l (Def ds p) h = h
+  settled_weaker seen l (Go b k) h = (known_weaker b h.0, known_weaker k h.1)
+  settled_weaker seen l (Fail a k) h = (known_weaker a h.0, known_weaker k h.1)
+  settled_weaker seen l Halt h = h

@@ -5,8 +5,6 @@ use Rattle.std.proofs.Math.ListN.{length-set}
 use Rattle.std.proofs.lemmas.Grind.{common_steps}
 use Rattle.chem_model.specs.declared.name.Loc.{Loc}
 use Rattle.chem_model.specs.declared.name.Name.{Name}
-use Rattle.chem_model.specs.declared.name.Ref.{Ref}
-use Rattle.chem_model.specs.declared.name.Ref.TheVariants.{Binder, Known}
 use Rattle.chem_model.specs.declared.name.Pat.{Pat}
 use Rattle.chem_model.specs.declared.event.Out.{Out}
 use Rattle.chem_model.specs.declared.numbered.Named.{Named}
@@ -15,7 +13,7 @@ use Rattle.chem_model.specs.declared.numbered.NumberedRule.{NumberedRule}
 use Rattle.chem_model.specs.declared.numbered.NumberedAtom.{NumberedAtom}
 use Rattle.chem_model.specs.declared.numbered.Numbered.{Numbered}
 use Rattle.chem_model.specs.declared.numbered.Made.{Made}
-use Rattle.chem_model.specs.Process.{Process, Msg, Par, Def, Go, Fail, Halt, Rule}
+use Rattle.chem_model.specs.Process.{Rule}
 use Rattle.chem_model.specs.Bag.{bag}
 use Rattle.chem_model.specs.Each.{Each}
 use Rattle.chem_model.specs.Fill.{Naming}
@@ -24,12 +22,12 @@ use Rattle.chem_model.specs.NewNames.{Pair}
 use Rattle.chem_model.specs.Numbered.{standing, pairs}
 use Rattle.chem_model.specs.Pour.{add_made, pour, lay}
 use Rattle.chem_model.specs.Opening.{root_of}
-use Rattle.chem_model.specs.Sound.{IsSound, IsNameOf, IsKnown, IsSettled, IsAtom, IsHomedAt, IsRule, IsRoot, IsHosted, names_in}
+use Rattle.chem_model.specs.Sound.{IsSound, IsNameOf, IsKnown, IsAtom, IsHomedAt, IsRule, IsRoot, IsHosted, names_in}
 use Rattle.chem_laws.proofs.Lists.{Each-weaker, Each-append, above}
 use Rattle.chem_laws.proofs.Bags.{one_self}
 use Rattle.chem_laws.proofs.Within.{same_loc_refl}
 use Rattle.chem_laws.proofs.Parts.{Closes, in_range, NamingIs, RuleFilled, IsBelow, PourSound, LaySound}
-use Rattle.chem_laws.proofs.Places.{standing_left, there_either, live_parts, root_is, names_bag, name_more, term_weaker, definition_scope_weaker, definitions_scope_weaker}
+use Rattle.chem_laws.proofs.Places.{standing_left, there_either, live_parts, root_is, names_bag, name_more, term_weaker, definition_scope_weaker, definitions_scope_weaker, known_weaker, settled_weaker}
 use Rattle.chem_laws.proofs.PourSoundMade.{IsMade, IsOut, HasHost, pairs_in-append, in_range-true, in_range-le}
 use Rattle.chem_laws.proofs.PourSoundTerms.{Fits, pour_is, lay_is}
 
@@ -62,21 +60,9 @@ added_fits n s a = record {
   named = Each-weaker (λ (x : Named). 0 < bag coded_name (names_in a.named) x.name) (λ (x : Named). 0 < bag coded_name (names_in (n.named ++ a.named)) x.name) (λ x h. omega (arith, names_bag n.named a.named x.name)) a.named (names_there a.named);
 }
 
--- ---- a weaker fact on the names of a message or a request
+-- ---- a weaker fact on the names of an environment
 
 module _ (Q R : Name → Type 0) (f : (x : Name) → Q x → R x) where
-  pub known_weaker : (r : Ref) → IsKnown Q r → IsKnown R r
-  known_weaker (Binder b) h = h
-  known_weaker (Known x) h = f x h
-
-  pub settled_weaker : (seen : List ℕ) (l : Loc) (p : Process) → IsSettled seen Q l p → IsSettled seen R l p
-  settled_weaker seen l (Msg x vs) h = (known_weaker x h.0, Each-weaker (IsKnown Q) (IsKnown R) known_weaker vs h.1, h.2, h.3)
-  settled_weaker seen l (Par ps) h = h
-  settled_weaker seen l (Def ds p) h = h
-  settled_weaker seen l (Go b k) h = (known_weaker b h.0, known_weaker k h.1)
-  settled_weaker seen l (Fail b k) h = (known_weaker b h.0, known_weaker k h.1)
-  settled_weaker seen l Halt h = h
-
   pub closes_weaker : (scope : List ℕ) (m : Naming) → Closes Q scope m → Closes R scope m
   closes_weaker scope m h = record { covers = h.covers; names = Each-weaker (λ (e : Named). Q e.name) (λ (e : Named). R e.name) (λ e g. f e.name g) m h.names }
 

@@ -3,11 +3,9 @@ use Rattle.std.proofs.Common.{◌≡◌, ℕ, ◌+◌, ◌<◌, ◌≤◌, List,
 use Rattle.chem_model.specs.declared.name.Loc.{Loc}
 use Rattle.chem_model.specs.declared.name.Name.{Name}
 use Rattle.chem_model.specs.declared.name.Name.TheVariants as name
-use Rattle.chem_model.specs.declared.name.Ref.{Ref}
-use Rattle.chem_model.specs.declared.name.Ref.TheVariants.{Binder, Known}
 use Rattle.chem_model.specs.declared.name.Pat.{Pat}
 use Rattle.chem_model.specs.declared.event.Out.{Out}
-use Rattle.chem_model.specs.Process.{Process, Msg, Par, Def, Go, Fail, Halt, Rule}
+use Rattle.chem_model.specs.Process.{Rule}
 use Rattle.chem_model.specs.Bag.{one, bag}
 use Rattle.chem_model.specs.Each.{Each}
 use Rattle.chem_model.specs.Solution.{Standing, Places, same_loc, is_there, is_marked, host_of, or_itself, root, live, with_host, with_mark, rehosted, marked}
@@ -19,11 +17,11 @@ use Rattle.chem_model.specs.declared.numbered.Numbered.{Numbered}
 use Rattle.chem_model.specs.Numbered.{standing, place_pairs, atom_pairs, pairs}
 use Rattle.chem_model.specs.Opening.{root_of}
 use Rattle.chem_model.specs.Apply.{with_hosts, with_marks}
-use Rattle.chem_model.specs.Sound.{IsSound, IsNameOf, IsKnown, IsHomedAt, IsSettled, IsAtom, IsRule, IsRoot, IsHosted}
-use Rattle.chem_laws.proofs.Lists.{Each-weaker, true_both}
+use Rattle.chem_model.specs.Sound.{IsSound, IsNameOf, IsKnown, IsHomedAt, IsAtom, IsRule, IsRoot, IsHosted}
+use Rattle.chem_laws.proofs.Lists.{Each-weaker, true_both, neither}
 use Rattle.chem_laws.proofs.Bags.{one_self}
 use Rattle.chem_laws.proofs.Within.{same_loc_is, same_loc_refl}
-use Rattle.chem_laws.proofs.Places.{definition_scope_weaker, live_parts}
+use Rattle.chem_laws.proofs.Places.{definition_scope_weaker, live_parts, known_weaker, settled_weaker}
 
 -- ---- the map of the locations, with one host or one mark changed
 
@@ -108,10 +106,6 @@ mark_host None true = refl
 mark_host (Some s) true = refl
 mark_host o false = refl
 
-neither : (a b : Bool) → a || b ≡ false → (a ≡ false) × (b ≡ false)
-neither true b e = cc
-neither false b e = (refl, e)
-
 -- a live location is live with another live host
 pub moved_live : (pl : Places) (l b : Loc) → live pl l ≡ true → live pl b ≡ true → live (rehosted pl l b) l ≡ true
 moved_live pl l b h g =
@@ -174,21 +168,6 @@ module _ (n : Numbered) where
       go : (t : Bool) → IsHosted n (cond t (record p { marked = true }) p) (cond t (record p { marked = true }) p).host
       go true = hosted_marked p.host g.0
       go false = g.0
-
--- ---- a weaker fact on the names of an atom
-
-module _ (Q R : Name → Type 0) (f : (n : Name) → Q n → R n) where
-  pub known_weaker : (x : Ref) → IsKnown Q x → IsKnown R x
-  known_weaker (Binder b) h = absurd h
-  known_weaker (Known n) h = f n h
-
-  pub settled_weaker : (seen : List ℕ) (l : Loc) (p : Process) → IsSettled seen Q l p → IsSettled seen R l p
-  settled_weaker seen l (Msg x vs) h = (known_weaker x h.0, Each-weaker (IsKnown Q) (IsKnown R) known_weaker vs h.1, h.2, h.3)
-  settled_weaker seen l (Par ps) h = absurd h
-  settled_weaker seen l (Def ds p) h = absurd h
-  settled_weaker seen l (Go b k) h = (known_weaker b h.0, known_weaker k h.1)
-  settled_weaker seen l (Fail a k) h = (known_weaker a h.0, known_weaker k h.1)
-  settled_weaker seen l Halt h = tt
 
 -- ---- fewer atoms, and the same locations with other hosts or marks: soundness is kept
 

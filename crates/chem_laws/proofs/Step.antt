@@ -30,9 +30,9 @@ use Rattle.chem_model.specs.Laws.{IsReduction, EventIsAReduction}
 use Rattle.chem_laws.proofs.Lists.{Each-weaker, both_true, append_nil}
 use Rattle.chem_laws.proofs.Within.{same_loc_is}
 use Rattle.chem_laws.proofs.Parts.{is_named, IsPourable, PourSound, PourReached, beside}
-use Rattle.chem_laws.proofs.Places.{live_parts, root_is}
+use Rattle.chem_laws.proofs.Places.{live_parts, root_is, known_weaker}
 use Rattle.chem_laws.proofs.Taking.{atom_found, rule_found, rule_stands, bag-without, Each-without, pairs-without, Each-without_all, pairs-without_all, named_once, apart, all_received, received_names, ids_differ, gathered}
-use Rattle.chem_laws.proofs.Requests.{standing_hosts, standing_marks, host_there, mark_there, mark_host, moved_live, pairs_hosts, pairs_marks, place_pair_found, hosted_hosts, hosted_marks, known_weaker, name_left, left_sound}
+use Rattle.chem_laws.proofs.Requests.{standing_hosts, standing_marks, host_there, mark_there, mark_host, moved_live, pairs_hosts, pairs_marks, place_pair_found, hosted_hosts, hosted_marks, name_left, left_sound}
 
 -- a solution with one more process
 abbrev pub one_process : Numbered → Loc → Process → Solution

@@ -1,6 +1,5 @@
 -- What a rule takes: each taken atom is a message on its pattern's channel, and no two taken atoms are the same.
 use Rattle.std.proofs.Common.{◌≡◌, ◌≢◌, ℕ, suc, ◌+◌, ◌<◌, ◌≤◌, List, [], ◌∷◌, ◌++◌, Option, Some, None, Bool, true, false, cond, refl, sym, ap, ◌∙◌, subst, arith, length, ◌==◌, ◌&&◌, ◌||◌, eqb-true, eq-eqb, AllPairs, is_some, slice_index_or}
-use Rattle.std.proofs.lemmas.List.Sums.{sum_by-cons}
 use Rattle.chem_model.specs.declared.name.Loc.{Loc}
 use Rattle.chem_model.specs.declared.name.Name.{Name}
 use Rattle.chem_model.specs.declared.name.Name.TheVariants as name
@@ -26,7 +25,7 @@ use Rattle.chem_model.specs.Apply.{same_atom, same_rule, rule_at, atom_at, witho
 use Rattle.chem_model.specs.Sound.{IsKnown, IsSettled}
 use Rattle.chem_laws.proofs.Lists.{both_true, true_both, Each-append}
 use Rattle.chem_laws.proofs.Bags.{one_self}
-use Rattle.chem_laws.proofs.Terms.{domain-append}
+use Rattle.chem_laws.proofs.Terms.{domain-append, times-cons}
 use Rattle.chem_laws.proofs.Within.{same_loc_is, same_loc_refl}
 
 -- ---- tests of equality
@@ -194,9 +193,6 @@ given_domain (c ∷ bs) (n ∷ ns) e b = go (c == b) (given_domain bs ns (omega 
     go false ih = ih
 
 -- a binder that is bound has been counted
-times-cons : (c : ℕ) (bs : List ℕ) (b : ℕ) → times (c ∷ bs) b ≡ cond (c == b) 1 0 + times bs b
-times-cons c bs b = sum_by-cons (λ x. cond (x == b) 1 0) c bs
-
 pub named_once : (bs : List ℕ) (b : ℕ) → cond (is_among bs b) 1 0 ≤ times bs b
 named_once [] b = omega arith
 named_once (c ∷ bs) b = subst (λ t. cond ((c == b) || is_among bs b) 1 0 ≤ t) (sym (times-cons c bs b)) (go (c == b) (named_once bs b))

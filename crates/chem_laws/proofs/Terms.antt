@@ -1,18 +1,19 @@
 -- Names in terms: a weaker fact, and filling.
-use Rattle.std.proofs.Common.{◌≡◌, ℕ, List, [], ◌∷◌, ◌++◌, Option, Some, None, Bool, true, false, cond, refl, sym, ap, ◌∙◌, ◌==◌, ◌||◌}
+use Rattle.std.proofs.Common.{◌≡◌, ℕ, List, [], ◌∷◌, ◌++◌, Option, Some, None, Bool, true, false, cond, refl, sym, ap, ◌∙◌, ◌==◌, ◌||◌, ◌+◌, eq-eqb}
 use Rattle.std.specs.Prelude.{is_some}
+use Rattle.std.proofs.lemmas.List.Sums.{sum_by-cons, sum_by-append}
 use Rattle.chem_model.specs.declared.name.Name.{Name}
 use Rattle.chem_model.specs.declared.name.Ref.{Ref}
 use Rattle.chem_model.specs.declared.name.Ref.TheVariants.{Binder, Known}
 use Rattle.chem_model.specs.declared.name.Pat.{Pat}
 use Rattle.chem_model.specs.Process.{Process, Msg, Par, Def, Go, Fail, Halt, Processes, none, one_more, Definition, Rule, Place, Definitions, no_definition, and_also}
-use Rattle.chem_model.specs.Binders.{is_among}
+use Rattle.chem_model.specs.Binders.{is_among, times}
 use Rattle.chem_model.specs.Each.{Each}
 use Rattle.chem_model.specs.declared.numbered.Named.{Named}
 use Rattle.chem_model.specs.Fill.{Naming, name_at, or_binder, fill_ref, fill_refs, fill_pats, fill, fill_all, fill_definition, fill_definitions}
 use Rattle.chem_model.specs.OnNames.{OnRef, OnProcess, OnProcesses, OnDefinition, OnDefinitions}
 use Rattle.chem_model.specs.NewNames.{HasDomain}
-use Rattle.chem_laws.proofs.Lists.{Each-weaker, or_assoc}
+use Rattle.chem_laws.proofs.Lists.{or_assoc, or_left, or_right}
 
 -- ---- a weaker fact
 module _ (Q R : Name → Type 0) (f : (n : Name) → Q n → R n) where
@@ -159,3 +160,20 @@ among-append (b ∷ bs) cs c = ap (λ t. (b == c) || t) (among-append bs cs c) �
 pub domain-append : (bs cs : List ℕ) (m n : Naming) → HasDomain bs m → HasDomain cs n → HasDomain (bs ++ cs) (m ++ n)
 domain-append bs cs m n h g b =
     ap is_some (name_at-append m n b) ∙ some_or (name_at m b) (name_at n b) ∙ ap (λ t. t || is_some (name_at n b)) (h b) ∙ ap (λ t. is_among bs b || t) (g b) ∙ sym (among-append bs cs b)
+
+pub among_left : (bs cs : List ℕ) (b : ℕ) → is_among bs b ≡ true → is_among (bs ++ cs) b ≡ true
+among_left bs cs b h = among-append bs cs b ∙ or_left (is_among bs b) (is_among cs b) h
+
+pub among_right : (bs cs : List ℕ) (b : ℕ) → is_among cs b ≡ true → is_among (bs ++ cs) b ≡ true
+among_right bs cs b h = among-append bs cs b ∙ or_right (is_among bs b) (is_among cs b) h
+
+pub among_first : (b : ℕ) (bs : List ℕ) → is_among (b ∷ bs) b ≡ true
+among_first b bs = or_left (b == b) (is_among bs b) (eq-eqb b b refl)
+
+-- ---- how often a number stands in a list
+
+pub times-cons : (b : ℕ) (bs : List ℕ) (c : ℕ) → times (b ∷ bs) c ≡ cond (b == c) 1 0 + times bs c
+times-cons b bs c = sum_by-cons (λ (x : ℕ). cond (x == c) 1 0) b bs
+
+pub times-append : (bs cs : List ℕ) (c : ℕ) → times (bs ++ cs) c ≡ times bs c + times cs c
+times-append bs cs c = sum_by-append (λ (x : ℕ). cond (x == c) 1 0) bs cs

@@ -1,7 +1,7 @@
 -- A dead location is within a marked one.
-use Rattle.std.proofs.Common.{◌≡◌, Bool, true, false, refl, sym, ap, ◌∙◌, ◌||◌, ◌⊎◌, inl, inr, ◌==◌, eqb-true, eq-eqb, ◌&&◌}
+use Rattle.std.proofs.Common.{◌≡◌, true, refl, ap, ◌∙◌, inl, inr, ◌==◌, eqb-true, eq-eqb}
 use Rattle.chem_model.specs.declared.name.Loc.{Loc}
-use Rattle.chem_model.specs.Solution.{Places, is_marked, root, same_loc, within, dead}
+use Rattle.chem_model.specs.Solution.{is_marked, root, same_loc}
 use Rattle.chem_laws.specs.Within.{DeadIsWithin}
 use Rattle.chem_laws.proofs.Lists.{both_true, true_both, or_left, or_right, either_true}
 

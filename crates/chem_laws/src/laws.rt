@@ -4,32 +4,27 @@ ghost use Rattle.chem_laws.specs.Within.{DeadIsWithin};
 /// A location is dead exactly where it is within a marked location. It does nothing.
 pub fn dead_is_within()
     ensures { DeadIsWithin }
-{
-}
+{}
 
 /// The opening of each program is sound, and what it stands for is reached from a start of the program by heating, Comm and Out
 /// alone. It does nothing.
 pub fn opening_is_a_start()
     ensures { OpeningIsAStart }
-{
-}
+{}
 
 /// Where a sound numbered solution has an event's effect, that is sound, and what the two stand for are one React, Go, Halt or
 /// Detect apart, as the event names it, followed by heating, Comm and Out alone. It does nothing.
 pub fn event_is_a_reduction()
     ensures { EventIsAReduction }
-{
-}
+{}
 
 /// In a sound numbered solution no event is possible exactly where the machine is quiet on what it stands for. It does nothing.
 pub fn stuck_is_quiet()
     ensures { StuckIsQuiet }
-{
-}
+{}
 
 /// The solutions that the replay of a journal passes stand for a run of the machine, and the last of them is sound. It does
 /// nothing.
 pub fn replay_is_a_run()
     ensures { ReplayIsARun }
-{
-}
+{}

@@ -3,4 +3,6 @@
 
 mod laws;
 
-pub use laws::{dead_is_within, event_is_a_reduction, opening_is_a_start, replay_is_a_run, stuck_is_quiet};
+pub use laws::{
+    dead_is_within, event_is_a_reduction, opening_is_a_start, replay_is_a_run, stuck_is_quiet,
+};
