@@ -310,8 +310,8 @@ impl Numbered {
         }
         let places = with_hosts(alloc, at, to, &self.places)?;
         let atoms = without(alloc, id, &self.atoms)?;
-        let left = self.changed(alloc, places, atoms)?;
-        let after = left.pour_at(alloc, &Items::new(alloc), at, &continuation(alloc, cont))?;
+        let moved = self.changed(alloc, places, atoms)?;
+        let after = moved.pour_at(alloc, &Items::new(alloc), at, &continuation(alloc, cont))?;
         Ok(Some(after))
     }
 
