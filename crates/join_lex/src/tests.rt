@@ -136,7 +136,7 @@ fn comments(rt: HostRuntime) -> Result<(), Fail> {
     expect_size(&rt, &tokens, 1, 6);
     expect_number(&rt, &tokens, 0, (5, 6), 1);
 
-    let tokens = lex(rt.alloc(), b"# 2\r;\n\r4")?;
+    let tokens = lex(rt.alloc(), b"# 2\r;\n 4")?;
     expect_size(&rt, &tokens, 1, 8);
     expect_number(&rt, &tokens, 0, (7, 8), 4);
     Ok(())
