@@ -18,7 +18,7 @@ use crate::program::Program;
 use crate::term::{Proc, ProcNode};
 use std::alloc::Global;
 
-fn same_atom(one: AtomId, other: AtomId) -> bool
+pub(crate) fn same_atom(one: AtomId, other: AtomId) -> bool
     ensures { result ≡ same_atom one other }
 {
     one.site == other.site && one.k == other.k
@@ -31,7 +31,7 @@ fn same_rule(one: RuleId, other: RuleId) -> bool
 }
 
 /// Whether two occurrences are the same known name.
-fn same_ref(one: Ref, other: Ref) -> bool
+pub(crate) fn same_ref(one: Ref, other: Ref) -> bool
     ensures { result ≡ same_ref one other }
 {
     match (one, other) {
@@ -41,7 +41,7 @@ fn same_ref(one: Ref, other: Ref) -> bool
 }
 
 /// The message or request with this number.
-fn atom_at(atoms: &NumberedAtoms, id: AtomId) -> Option<&NumberedAtom>
+pub(crate) fn atom_at(atoms: &NumberedAtoms, id: AtomId) -> Option<&NumberedAtom>
     ensures { option_copied result ≡ atom_at atoms.now id }
 {
     for atom in atoms.as_slice() {
@@ -138,7 +138,7 @@ fn received_at(
 
 /// The names received where there is one message for each pattern, in order, each at the location.
 #[tactic(auto, using(crate::proofs::Drops::received_more))]
-fn received_all(
+pub(crate) fn received_all(
     alloc: Global,
     atoms: &NumberedAtoms,
     at: Loc,
@@ -203,14 +203,14 @@ fn with_marks(alloc: Global, at: Loc, places: &PlacedList) -> Result<PlacedList,
 }
 
 /// The message without arguments that a request becomes.
-fn continuation(alloc: Global, cont: Ref) -> Proc
+pub(crate) fn continuation(alloc: Global, cont: Ref) -> Proc
     ensures { result ≡ continuation cont }
 {
     Proc::msg(cont, Items::new(alloc))
 }
 
 /// The location that an occurrence is. None where it is another name.
-fn location_of(occurrence: Ref) -> Option<Loc>
+pub(crate) fn location_of(occurrence: Ref) -> Option<Loc>
     ensures { result ≡ location_of occurrence }
 {
     match occurrence {
@@ -220,7 +220,7 @@ fn location_of(occurrence: Ref) -> Option<Loc>
 }
 
 impl Numbered {
-    fn rule_at(&self, id: RuleId) -> Option<&NumberedRule>
+    pub(crate) fn rule_at(&self, id: RuleId) -> Option<&NumberedRule>
         ensures { option_copied result ≡ rule_at self.now.rules id }
     {
         for rule in self.rules.as_slice() {
@@ -281,14 +281,14 @@ impl Numbered {
     }
 
     /// Whether a location can move: a live location with a host may go to a live root.
-    fn can_go(&self, at: Loc, to: Loc) -> bool
+    pub(crate) fn can_go(&self, at: Loc, to: Loc) -> bool
         ensures { result ≡ can_go self.now at to }
     {
         self.is_live(at) && self.host(at).is_some() && self.is_live(to) && self.host(to).is_none()
     }
 
     /// Whether a failure can be detected: at a live location the one of a location that is there and is dead.
-    fn can_detect(&self, at: Loc, of: Loc) -> bool
+    pub(crate) fn can_detect(&self, at: Loc, of: Loc) -> bool
         ensures { result ≡ can_detect self.now at of }
     {
         self.is_live(at) && self.is_there(of) && self.is_dead(of)

@@ -2,6 +2,7 @@
 #![tactic(auto)]
 
 mod apply;
+mod commit;
 mod event;
 mod items;
 mod memory;
@@ -12,6 +13,7 @@ mod pour;
 mod program;
 mod term;
 
+pub use commit::meets;
 pub use event::{AtomId, Atoms, Event, Journal, Out, Outs, RuleId};
 pub use items::Items;
 pub use memory::Memory;

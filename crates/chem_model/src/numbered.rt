@@ -277,7 +277,7 @@ impl Numbered {
     }
 
     /// The root of a location: its host, or itself where it has none.
-    pub(crate) fn root(&self, at: Loc) -> Loc
+    pub fn root(&self, at: Loc) -> Loc
         ensures { result ≡ root (standing self.now.places) at }
     {
         match self.host(at) {
@@ -294,7 +294,7 @@ impl Numbered {
     }
 
     /// Whether this is a location that isn't dead.
-    pub(crate) fn is_live(&self, at: Loc) -> bool
+    pub fn is_live(&self, at: Loc) -> bool
         ensures { result ≡ live (standing self.now.places) at }
     {
         self.is_there(at) && !self.is_dead(at)
