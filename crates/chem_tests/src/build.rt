@@ -5,7 +5,6 @@ use chem_model::{
     SiteTerm, SiteTerms,
 };
 use std::alloc::Global;
-use std::test::Fail;
 
 pub fn loc(site: u32, k: u64) -> Loc {
     Loc { site, k }
@@ -93,18 +92,29 @@ pub fn atom(site: u32, k: u64) -> AtomId {
     AtomId { site, k }
 }
 
-/// That a rule takes one message of its own site.
-pub fn reaction(alloc: Global, site: u32, rule: u64, took: AtomId) -> Result<Event, Memory> {
+/// What a rule of site 0 makes of one message. None where it can't take it.
+pub fn reaction(
+    alloc: Global,
+    numbered: &Numbered,
+    rule: u64,
+    took: AtomId,
+) -> Result<Option<Numbered>, Memory> {
     let took = Items::from_slice(alloc, &[took])?;
-    Ok(Event::React {
-        rule: RuleId { site, k: rule },
-        took,
-    })
+    let rule = RuleId { site: 0, k: rule };
+    numbered.apply(alloc, &Event::React { rule, took })
 }
 
-/// The solution after an event that is possible.
-pub fn after(alloc: Global, numbered: &Numbered, event: &Event) -> Result<Numbered, Fail> {
-    let after = numbered.apply(alloc, event)?;
-    let after = after.ok_or("the event isn't possible")?;
-    Ok(after)
+/// What the move that a request of site 0 asks for makes.
+pub fn movement(alloc: Global, numbered: &Numbered, k: u64) -> Result<Option<Numbered>, Memory> {
+    numbered.apply(alloc, &Event::Move { atom: atom(0, k) })
+}
+
+/// What the halt that a request of site 0 asks for makes.
+pub fn halt(alloc: Global, numbered: &Numbered, k: u64) -> Result<Option<Numbered>, Memory> {
+    numbered.apply(alloc, &Event::Halt { atom: atom(0, k) })
+}
+
+/// What the failure that a request of site 0 asks for makes.
+pub fn detection(alloc: Global, numbered: &Numbered, k: u64) -> Result<Option<Numbered>, Memory> {
+    numbered.apply(alloc, &Event::Detect { atom: atom(0, k) })
 }

@@ -9,3 +9,5 @@ mod events;
 mod expect;
 #[cfg(test)]
 mod openings;
+#[cfg(test)]
+mod solutions;
