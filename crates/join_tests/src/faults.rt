@@ -43,7 +43,7 @@ fn a_text_past_the_limit(rt: HostRuntime) -> Result<(), Fail> {
         source_of(alloc, blanks.as_slice())?,
         roomy_sink(alloc)?,
     )?;
-    run.expect(&rt, 1, "", "refused\n");
+    run.expect(&rt, 1, "", "lex 1 at 1048576\n");
     let mut buffer = [0u8; 16];
     assert_eq!(rt; run.source.read(&mut buffer), Ok(3));
     Ok(())
@@ -63,6 +63,6 @@ fn the_line_of_a_fault_is_not_taken_whole(rt: HostRuntime) -> Result<(), Fail> {
     ];
     let ended = run_join(alloc, &words, &mut source, &mut out, &mut err, &OpenGate);
     assert_eq!(rt; ended.status, 1);
-    assert_eq!(rt; err.taken(), b"ref".as_slice());
+    assert_eq!(rt; err.taken(), b"gra".as_slice());
     Ok(())
 }

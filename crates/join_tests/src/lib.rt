@@ -6,6 +6,10 @@ mod faults;
 #[cfg(test)]
 mod outcome;
 #[cfg(test)]
+mod refusals;
+#[cfg(test)]
+mod sites;
+#[cfg(test)]
 mod terms;
 #[cfg(test)]
 mod texts;

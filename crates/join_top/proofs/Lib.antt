@@ -1,5 +1,4 @@
-pub mod Plain
-pub mod Numbering
-pub mod FirstRules
-pub mod FirstProgram
 pub mod Numbers
+pub mod Refusals
+pub mod Leaving
+pub mod Long

@@ -1,6 +1,3 @@
-pub mod Cursor
-pub mod FirstForm
-pub mod Scope
-pub mod Level
 pub mod Words
+pub mod Text
 pub mod RunJoin

@@ -1,17 +1,14 @@
 //! Everything that the program does: the words, the text, the run and what is written.
 #![tactic(auto)]
 
-mod book;
-mod draft;
 mod gate;
-mod level;
-mod program;
-mod refusal;
-mod scope;
-mod token;
+mod run;
+mod text;
 mod top;
-mod trace;
 mod words;
 
 pub use gate::{Gate, OpenGate, Phase};
-pub use top::{Ended, How, Kept, run_join};
+pub use run::Kept;
+pub use site_runner::How;
+pub use text::one_program;
+pub use top::{Ended, run_join};

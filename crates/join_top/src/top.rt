@@ -1,21 +1,21 @@
 //! The top call.
-ghost use Rattle.std.specs.Prelude.{◌≡◌, ◌⊎◌, ◌≤◌, map, length, string_bytes, is_some, Some, IfSome, IfOk, true, false, []};
-ghost use Rattle.join_base.specs.Bytes.{TakesAtMost};
+ghost use Rattle.std.specs.Prelude.{◌≡◌, ◌⊎◌, ◌≤◌, map, string_bytes, is_some, IfSome, IfOk, true, false, []};
+ghost use Rattle.join_base.specs.Bytes.{TakesAtMost, GainsPrefix};
+ghost use Rattle.std.specs.Io.KnownBytes.{Appends};
 ghost use Rattle.join_base.specs.Counts.{Rose};
+ghost use Rattle.site_runner.specs.declared.one_thread.How.TheVariants.{Alone};
+ghost use Rattle.join_base.specs.declared.fault.Kind.TheVariants as kind;
 ghost use Rattle.join_top.specs.Words.{asked};
-ghost use Rattle.join_top.specs.RunJoin.{ComesExactly, IsReadToEnd, IsReadOrTooLong, has_run, IsWithin, line_of, Gains};
+ghost use Rattle.join_top.specs.Text.{IsProgramOfText, NamesRefusal, refusal_line as line_of_refusal};
+ghost use Rattle.join_top.specs.RunJoin.{ComesExactly, IsReadToEnd, IsReadOrTooLong, OnTold, has_run, IsEnded, GoesWith, IsWritten, IsKept, IsRefusedWith, line_of, Gains};
 
-use crate::book::run_alone;
-use crate::draft::drafted;
 use crate::gate::Gate;
-use crate::program::program_of;
-use crate::refusal::Refusal;
-use crate::token::tokens;
-use crate::trace::trace_text;
+use crate::run::{Kept, Ran, run};
+use crate::text::{program_of, refusal_line};
 use crate::words::asked_budget;
-use chem_model::{Journal, Program, Text};
-use join_base::{ReadEnd, Sink, Source, read_all, write_piece};
+use join_base::{Front, Kind, ReadEnd, Sink, Source, read_all, write_piece};
 use std::alloc::Global;
+use trace_text::Ending;
 
 /// The most bytes of a text.
 const MOST_BYTES: u32 = 1_048_576;
@@ -34,34 +34,11 @@ const STOPPED: u8 = 5;
 
 const OUT_OF_MEMORY: u8 = 6;
 
-/// How a run was made.
-#[derive(Clone, Copy, Debug, PartialEq, Eq)]
-pub enum How {
-    /// On one thread, by the schedule of `alone`.
-    Alone,
-}
-
-/// What a run leaves: the program of the text that was run, its events, and how it was made.
-#[derive(Drop)]
-pub struct Kept {
-    pub program: Program,
-    pub journal: Journal,
-    pub how: How,
-}
-
 /// The status of the program, and what its run left.
 #[derive(Drop)]
 pub struct Ended {
     pub status: u8,
     pub kept: Option<Kept>,
-}
-
-/// A run, its text, and whether nothing can happen any more.
-#[derive(Drop)]
-struct Ran {
-    kept: Kept,
-    text: Text,
-    quiet: bool,
 }
 
 /// Does all that the program does, from its words and the bytes of its source to the bytes on `out` and `err`. Only
@@ -70,7 +47,7 @@ struct Ran {
 /// | status | comes |
 /// |---|---|
 /// | 0 | the run ended quiet, and its whole text was written |
-/// | 1 | the text is refused |
+/// | 1 | the text is refused: it has a fault, which the line on `err` names with its place |
 /// | 2 | the words are not of the line's form |
 /// | 3 | a read failed |
 /// | 4 | a write on `out` failed |
@@ -94,29 +71,35 @@ pub fn run_join<S: Source, K: Sink, E: Sink, G: Gate>(
     ensures reads_refused { result.status ≡ 1 → IsReadOrTooLong (S.left source.old) (S.left source.new) }
     ensures reads_partly { (result.status ≡ 3) ⊎ (result.status ≡ 6) → TakesAtMost (S.left source.old) (S.left source.new) 1048576 }
 
+    ensures refused { result.status ≡ 1 → IsRefusedWith (S.left source.old) (E.held err.old) (E.held err.new) (E.faults err.old) (E.faults err.new) }
+    ensures accepted { IfSome result.kept (λ kept. OnTold (S.left source.old) (λ text. IsProgramOfText text kept.program)) }
+
     ensures kept { is_some result.kept ≡ has_run result.status }
-    ensures how { IfSome result.kept (λ kept. kept.how ≡ How.Alone) }
-    ensures within_budget { IfSome result.kept (λ kept. IsWithin (asked (map string_bytes words.now)) (length kept.journal)) }
-    ensures stopped { result.status ≡ 5 → IfSome result.kept (λ kept. asked (map string_bytes words.now) ≡ Some (length kept.journal)) }
+    ensures run { IfSome result.kept (λ kept. IsKept (asked (map string_bytes words.now)) result.status kept.program kept.journal (K.held out.old) (K.held out.new)) }
+    ensures how { IfSome result.kept (λ kept. kept.how ≡ Alone) }
 
     ensures write_fault { result.status ≡ 4 → Rose (K.faults out.old) (K.faults out.new) }
     ensures out_untouched { has_run result.status ≡ false → out.new ≡ out.old }
 
-    ensures err_line { Gains (E.held err.old) (E.held err.new) (E.faults err.old) (E.faults err.new) (line_of result.status) }
-    ensures err_untouched { line_of result.status ≡ [] → err.new ≡ err.old }
+    ensures err_line { (result.status ≡ 1) ⊎ Gains (E.held err.old) (E.held err.new) (E.faults err.old) (E.faults err.new) (line_of result.status) }
+    ensures err_untouched { has_run result.status ≡ true → (result.status ≡ 4) ⊎ (err.new ≡ err.old) }
 {
     let Some(budget) = asked_budget(words) else {
         return end(err, USAGE, None);
     };
     let text = match read_all(alloc, source, MOST_BYTES) {
         Ok(text) => text,
-        Err(ReadEnd::TooLong) => return end(err, REFUSED, None),
+        Err(ReadEnd::TooLong) => return refuse_long(err),
         Err(ReadEnd::ReadFault) => return end(err, READ_FAULT, None),
         Err(ReadEnd::Memory) => return end(err, OUT_OF_MEMORY, None),
     };
-    match run_text(alloc, text.as_slice(), budget) {
-        Err(Refusal::Refused) => end(err, REFUSED, None),
-        Err(Refusal::Memory) => end(err, OUT_OF_MEMORY, None),
+    let program = match program_of(alloc, text.as_slice()) {
+        Ok(program) => program,
+        Err(Front::Refused { kind, place }) => return refuse(alloc, err, kind, place),
+        Err(Front::Memory) => return end(err, OUT_OF_MEMORY, None),
+    };
+    match run(alloc, &program, budget) {
+        Err(_) => end(err, OUT_OF_MEMORY, None),
         Ok(ran) => {
             let status = write_text(out, &ran);
             end(err, status, Some(ran.kept))
@@ -124,45 +107,67 @@ pub fn run_join<S: Source, K: Sink, E: Sink, G: Gate>(
     }
 }
 
-/// Runs a text with at most so many events.
-fn run_text(alloc: Global, text: &[u8], budget: u32) -> Result<Ran, Refusal>
-    ensures within_budget { IfOk result (λ ran. length ran.kept.journal ≤ budget) }
-    ensures stopped { IfOk result (λ ran. ran.quiet ≡ false → length ran.kept.journal ≡ budget) }
-    ensures how { IfOk result (λ ran. ran.kept.how ≡ How.Alone) }
-{
-    let tokens = tokens(alloc, text)?;
-    let draft = drafted(alloc, &tokens)?;
-    let program = program_of(alloc, &draft)?;
-    let run = run_alone(alloc, &program, budget)?;
-    let text = trace_text(alloc, &program, &run)?;
-    let quiet = run.quiet;
-    let kept = Kept {
-        program,
-        journal: run.journal,
-        how: How::Alone,
-    };
-    Ok(Ran { kept, text, quiet })
-}
-
 /// Writes the text of a run, and answers the status of its end.
 fn write_text<K: Sink>(out: &mut K, ran: &Ran) -> u8
-    ensures status { (result ≡ 0) ⊎ ((result ≡ 5) ⊎ (result ≡ 4)) }
-    ensures stopped { result ≡ 5 → ran.now.quiet ≡ false }
+    ensures status { GoesWith result ran.now.ending }
+    ensures written { IsWritten result ran.now.text (K.held out.old) (K.held out.new) }
     ensures cause { result ≡ 4 → Rose (K.faults out.old) (K.faults out.new) }
 {
     match write_piece(out, ran.text.as_slice()) {
         Err(_) => WRITE_FAULT,
-        Ok(()) => { if ran.quiet { QUIESCENT } else { STOPPED } }
+        Ok(()) => match ran.ending {
+            Ending::Quiescent => QUIESCENT,
+            Ending::Stopped => STOPPED,
+        },
     }
 }
 
-/// Writes the line that goes with a status. Where that fails, the status stays.
+/// Writes a line on `err`. Where that fails, the status stays.
+fn write_line<E: Sink>(err: &mut E, line: &[u8])
+    ensures gains { Gains (E.held err.old) (E.held err.new) (E.faults err.old) (E.faults err.new) line.now }
+    ensures untouched { line.now ≡ [] → err.new ≡ err.old }
+{
+    let _ = write_piece(err, line);
+}
+
+/// Writes the line of a text that is too long, which takes no memory.
+fn refuse_long<E: Sink>(err: &mut E) -> Ended
+    ensures ended { result ≡ record { status = 1; kept = None } }
+    ensures line { Gains (E.held err.old) (E.held err.new) (E.faults err.old) (E.faults err.new) (line_of_refusal kind.Lex1 1048576) }
+{
+    write_line(err, b"lex 1 at 1048576\n");
+    Ended {
+        status: REFUSED,
+        kept: None,
+    }
+}
+
+/// Writes the line of a refusal.
+fn refuse<E: Sink>(alloc: Global, err: &mut E, kind: Kind, place: u32) -> Ended
+    ensures kept { result.kept ≡ None }
+    ensures status { (result.status ≡ 1) ⊎ (result.status ≡ 6) }
+    ensures line { result.status ≡ 1 → Gains (E.held err.old) (E.held err.new) (E.faults err.old) (E.faults err.new) (line_of_refusal kind place) }
+    ensures memory { result.status ≡ 6 → Gains (E.held err.old) (E.held err.new) (E.faults err.old) (E.faults err.new) (line_of 6) }
+{
+    match refusal_line(alloc, kind, place) {
+        Err(_) => end(err, OUT_OF_MEMORY, None),
+        Ok(line) => {
+            write_line(err, line.as_slice());
+            Ended {
+                status: REFUSED,
+                kept: None,
+            }
+        }
+    }
+}
+
+/// Writes the line that goes with a status.
 fn end<E: Sink>(err: &mut E, status: u8, kept: Option<Kept>) -> Ended
     ensures ended { result ≡ record { status = status; kept = kept } }
     ensures line { Gains (E.held err.old) (E.held err.new) (E.faults err.old) (E.faults err.new) (line_of status) }
     ensures untouched { line_of status ≡ [] → err.new ≡ err.old }
 {
-    let _ = write_piece(err, line(status));
+    write_line(err, line(status));
     Ended { status, kept }
 }
 
@@ -171,7 +176,6 @@ fn line(status: u8) -> &'static [u8]
     ensures { result.now ≡ line_of status }
 {
     match status {
-        REFUSED => b"refused\n",
         USAGE => b"usage: join MODE [N] [OPTIONS]\n",
         READ_FAULT => b"read fault\n",
         WRITE_FAULT => b"write fault\n",

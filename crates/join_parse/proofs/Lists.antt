@@ -1,0 +1,110 @@
+-- Lists that are read from the left.
+use Rattle.std.proofs.Common.{subst, ◌≡◌, ℕ, ◌+◌, ◌≤◌, Bool, List, [], ◌∷◌, ◌++◌, length, refl, sym, ap, ◌∙◌, append_assoc, append-nil, length-append}
+use Rattle.join_lex.specs.declared.token.Key.TheVariants as key
+use Rattle.join_lex.specs.declared.token.Sign.TheVariants as sign
+use Rattle.join_lex.specs.declared.token.Token.{Token}
+use Rattle.join_parse.specs.declared.word.Word.{Word}
+use Rattle.join_parse.specs.declared.word.PatTree.{PatTree}
+use Rattle.join_parse.specs.declared.word.SeenTree.{SeenTree}
+use Rattle.join_parse.specs.declared.tree.PlaceTree.{PlaceTree}
+use Rattle.join_parse.specs.Terminals.{a_number, a_site, a_key, a_sign, named}
+use Rattle.join_parse.specs.Source.{Process, Processes, none, one_more, Definition, Definitions, no_definition, and_also, processes, definitions}
+use Rattle.join_parse.specs.Grammar.{names, applied, patterns, of_process, of_processes, of_definition, of_definitions, of_declarations, of_sites, IsSome, AreShort, IsSimple, AreProcesses, AreDefinitions, AreDeclarations, AreSites}
+use Rattle.join_parse.specs.Parsed.{terms, joined, also, ListedNames, ListedPatterns, ListedProcesses, ListedDefinitions, ListedDeclarations, ListedSites, SpellsProcess, SpellsProcesses, SpellsDefinition, SpellsDefinitions, SpellsSite}
+
+module _ (ts : List Token) where
+  -- identifiers
+  pub names-first : (at upto : ℕ) (w : Word) → terms ts at ≡ named w ∷ terms ts upto → ListedNames ts at upto (w ∷ [])
+  names-first at upto w e = λ ws rest q. e ∙ ap (λ r. named w ∷ r) q
+
+  pub names-more : (at end mid upto : ℕ) (list : List Word) (w : Word) → ListedNames ts at end list → terms ts end ≡ a_sign sign.Comma ∷ terms ts mid → terms ts mid ≡ named w ∷ terms ts upto → ListedNames ts at upto (list ++ w ∷ [])
+  names-more at end mid upto list w l comma e = λ ws rest q.
+      l (w ∷ ws) rest (comma ∙ ap (λ r. a_sign sign.Comma ∷ r) (e ∙ ap (λ r. named w ∷ r) q)) ∙ ap (λ xs. names xs rest) (sym (append_assoc list (w ∷ []) ws))
+
+  pub names-all : (at end upto : ℕ) (list : List Word) → ListedNames ts at end list → terms ts end ≡ a_sign sign.ParenRight ∷ terms ts upto → terms ts at ≡ names list (terms ts upto)
+  names-all at end upto list l close = l [] (terms ts upto) close ∙ ap (λ xs. names xs (terms ts upto)) (append-nil list)
+
+  -- patterns
+  pub patterns-first : (at upto : ℕ) (p : PatTree) → length p.params ≤ 255 → terms ts at ≡ applied p.on p.params (terms ts upto) → ListedPatterns ts at upto (p ∷ [])
+  patterns-first at upto p few e = λ ps rest a q. (tt, (few, a), e ∙ ap (applied p.on p.params) q)
+
+  pub patterns-more : (at end mid upto : ℕ) (list : List PatTree) (p : PatTree) → ListedPatterns ts at end list → terms ts end ≡ a_sign sign.Bar ∷ terms ts mid → length p.params ≤ 255 → terms ts mid ≡ applied p.on p.params (terms ts upto) → ListedPatterns ts at upto (list ++ p ∷ [])
+  patterns-more at end mid upto list p l bar few e = λ ps rest a q.
+      let h = l (p ∷ ps) rest (few, a) (bar ∙ ap (λ r. a_sign sign.Bar ∷ r) (e ∙ ap (applied p.on p.params) q)) in
+      let same : list ++ p ∷ ps ≡ (list ++ p ∷ []) ++ ps = sym (append_assoc list (p ∷ []) ps) in
+      subst (λ xs. IsSome xs × AreShort xs × (terms ts at ≡ patterns xs rest)) same h
+
+  pub patterns-all : (at end upto : ℕ) (list : List PatTree) → ListedPatterns ts at end list → terms ts end ≡ a_sign sign.Arrow ∷ terms ts upto → IsSome list × AreShort list × (terms ts at ≡ patterns list (terms ts upto))
+  patterns-all at end upto list l arrow = subst (λ xs. IsSome xs × AreShort xs × (terms ts at ≡ patterns xs (terms ts upto))) (append-nil list) (l [] (terms ts upto) tt arrow)
+
+  -- declarations
+  pub declarations-more : (at end upto : ℕ) (list : List SeenTree) (d : SeenTree) → ListedDeclarations ts at end list → d.count ≤ 255 → terms ts end ≡ a_key key.Observe ∷ named d.name ∷ a_sign sign.Slash ∷ a_number d.count ∷ a_sign sign.Semicolon ∷ terms ts upto → ListedDeclarations ts at upto (list ++ d ∷ [])
+  declarations-more at end upto list d l small e = λ ds rest a q.
+      let h = l (d ∷ ds) rest (small, a) (e ∙ ap (λ r. a_key key.Observe ∷ named d.name ∷ a_sign sign.Slash ∷ a_number d.count ∷ a_sign sign.Semicolon ∷ r) q) in
+      subst (λ xs. AreDeclarations xs × (terms ts at ≡ of_declarations xs rest)) (sym (append_assoc list (d ∷ []) ds)) h
+
+  pub declarations-all : (at end : ℕ) (list : List SeenTree) → ListedDeclarations ts at end list → AreDeclarations list × (terms ts at ≡ of_declarations list (terms ts end))
+  declarations-all at end list l = subst (λ xs. AreDeclarations xs × (terms ts at ≡ of_declarations xs (terms ts end))) (append-nil list) (l [] (terms ts end) tt refl)
+
+  -- sites
+  pub sites-none : (at : ℕ) → ListedSites ts at at []
+  sites-none at = λ ss rest a q. (a, q)
+
+  pub sites-more : (at end upto : ℕ) (list : List PlaceTree) (s : PlaceTree) → ListedSites ts at end list → SpellsSite ts end s upto → ListedSites ts at upto (list ++ s ∷ [])
+  sites-more at end upto list s l e = λ ss rest a q.
+      let h = l (s ∷ ss) rest (e.0, e.1, a) (e.2 ∙ ap (λ r. a_site s.opener ∷ named s.name ∷ a_sign sign.SquareLeft ∷ of_definitions (definitions s.defs) (a_sign sign.Colon ∷ of_processes (processes s.body) (a_sign sign.SquareRight ∷ r))) q) in
+      subst (λ xs. AreSites xs × (terms ts at ≡ of_sites xs rest)) (sym (append_assoc list (s ∷ []) ss)) h
+
+  pub sites-all : (at end : ℕ) (list : List PlaceTree) → ListedSites ts at end list → AreSites list × (terms ts at ≡ of_sites list (terms ts end))
+  sites-all at end list l = subst (λ xs. AreSites xs × (terms ts at ≡ of_sites xs (terms ts end))) (append-nil list) (l [] (terms ts end) tt refl)
+
+  -- processes
+  joined-push : (list : List Process) (q : Process) (ps : Processes) → joined (list ++ q ∷ []) ps ≡ joined list (one_more q ps)
+  joined-push [] q ps = refl
+  joined-push (p ∷ list) q ps = ap (one_more p) (joined-push list q ps)
+
+  joined-none : (list : List Process) → joined list none ≡ processes list
+  joined-none [] = refl
+  joined-none (p ∷ list) = ap (one_more p) (joined-none list)
+
+  pub processes-none : (at : ℕ) → ListedProcesses ts at at []
+  processes-none at = λ ps rest a q. (a, q)
+
+  pub processes-more : (at end mid upto : ℕ) (list : List Process) (q : Process) → ListedProcesses ts at end list → IsSimple q → SpellsProcess ts end q mid → terms ts mid ≡ a_sign sign.Bar ∷ terms ts upto → ListedProcesses ts at upto (list ++ q ∷ [])
+  processes-more at end mid upto list q l simple e bar none rest a r = absurd a
+  processes-more at end mid upto list q l simple e bar (one_more p ps) rest a r =
+      let h = l (one_more q (one_more p ps)) rest (e.0, (simple, a.0, a.1)) (e.1 ∙ ap (of_process q) (bar ∙ ap (λ x. a_sign sign.Bar ∷ x) r)) in
+      subst (λ xs. AreProcesses xs × (terms ts at ≡ of_processes xs rest)) (sym (joined-push list q (one_more p ps))) h
+
+  pub processes-last : (at end upto : ℕ) (list : List Process) (q : Process) → ListedProcesses ts at end list → SpellsProcess ts end q upto → SpellsProcesses ts at (list ++ q ∷ []) upto
+  processes-last at end upto list q l e =
+      let h = l (one_more q none) (terms ts upto) (e.0, tt) e.1 in
+      let same : joined list (one_more q none) ≡ processes (list ++ q ∷ []) = sym (joined-push list q none) ∙ joined-none (list ++ q ∷ []) in
+      subst (λ xs. AreProcesses xs × (terms ts at ≡ of_processes xs (terms ts upto))) same h
+
+  -- definitions
+  also-push : (list : List Definition) (e : Definition) (ds : Definitions) → also (list ++ e ∷ []) ds ≡ also list (and_also e ds)
+  also-push [] e ds = refl
+  also-push (d ∷ list) e ds = ap (and_also d) (also-push list e ds)
+
+  also-none : (list : List Definition) → also list no_definition ≡ definitions list
+  also-none [] = refl
+  also-none (d ∷ list) = ap (and_also d) (also-none list)
+
+  pub definitions-first : (at upto : ℕ) (within : Bool) (d : Definition) → SpellsDefinition ts at within d upto → ListedDefinitions ts at upto within (d ∷ [])
+  definitions-first at upto within d e = λ ds rest a q. ((e.0, a), e.1 ∙ ap (of_definition d) q)
+
+  pub definitions-more : (at end mid upto : ℕ) (within : Bool) (list : List Definition) (d : Definition) → ListedDefinitions ts at end within list → terms ts end ≡ a_key key.And ∷ terms ts mid → SpellsDefinition ts mid within d upto → ListedDefinitions ts at upto within (list ++ d ∷ [])
+  definitions-more at end mid upto within list d l and_is e = λ ds rest a q.
+      let h = l (and_also d ds) rest (e.0, a) (and_is ∙ ap (λ r. a_key key.And ∷ r) (e.1 ∙ ap (of_definition d) q)) in
+      subst (λ xs. AreDefinitions within xs × (terms ts at ≡ of_definitions xs rest)) (sym (also-push list d ds)) h
+
+  pub definitions-all : (at end : ℕ) (within : Bool) (list : List Definition) → ListedDefinitions ts at end within list → SpellsDefinitions ts at within list end
+  definitions-all at end within list l = subst (λ xs. AreDefinitions within xs × (terms ts at ≡ of_definitions xs (terms ts end))) (also-none list) (l no_definition (terms ts end) tt refl)
+
+pub length-push : {A : Type 0} (xs : List A) (x : A) → length (xs ++ x ∷ []) ≡ length xs + 1
+length-push xs x = simp length-append refl
+
+pub some-push : {A : Type 0} (xs : List A) (x : A) → IsSome (xs ++ x ∷ [])
+some-push [] x = tt
+some-push (y ∷ xs) x = tt

@@ -1,0 +1,14 @@
+use Rattle.std.proofs.Common.{◌≤◌, ◌-◌, ◌∷◌, [], length}
+use Rattle.join_parse.specs.Begins.{Names, MoreNames}
+use Rattle.join_parse.specs.Parsed.{AtMost, Reads, ListedNames}
+use Rattle.join_parse.proofs.names.names.Given as goal
+
+abbrev pub invariant-commas : goal.invariant-commas
+invariant-commas l = record {
+  reads : Reads l.b (AtMost l.b.levels) l.tokens l.at (Names ∷ []) l.end (MoreNames (length l.list) ∷ []);
+  listed : ListedNames l.tokens l.at l.end l.list;
+  few : length l.list ≤ 255;
+}
+
+abbrev pub decreases-commas : goal.decreases-commas
+decreases-commas l = length l.tokens - l.end

@@ -1,0 +1,5 @@
+use Rattle.join_parse.proofs.Laws as law
+use Rattle.join_parse.proofs.parser.one_outcome.Goals as goal
+
+pub returns : goal.returns
+returns c = law.one_outcome

@@ -1,0 +1,15 @@
+use Rattle.std.proofs.Common.{◌-◌, ◌∷◌, [], length, false}
+use Rattle.join_parse.specs.Grammar.{IsSome}
+use Rattle.join_parse.specs.Begins.{AName, ASite, Body, Sites}
+use Rattle.join_parse.specs.Parsed.{Exactly, Reads, ListedSites}
+use Rattle.join_parse.proofs.program.sites.Given as goal
+
+abbrev pub invariant-sites : goal.invariant-sites
+invariant-sites l = record {
+  reads : Reads l.b (Exactly 0) l.tokens l.at (ASite ∷ AName ∷ Body false ∷ Sites ∷ []) l.end (Sites ∷ []);
+  listed : ListedSites l.tokens l.at l.end l.list;
+  some : IsSome l.list;
+}
+
+abbrev pub decreases-sites : goal.decreases-sites
+decreases-sites l = length l.tokens - l.end

@@ -1,0 +1,14 @@
+-- A member of a list is less deep than the list.
+use Rattle.std.proofs.Common.{rules}
+use Rattle.join_parse.specs.Members.{procs_depth-member, defs_depth-member}
+use Rattle.join_parse.proofs.tree.+copy.Goals as goal
+
+pub copy_definitions-copy-requires : goal.copy_definitions-copy-requires
+copy_definitions-copy-requires t c =
+    let falls = rw c.as_slice-member-items.ensures.members at (defs_depth-member c.as_slice-member-items.result.now c.loop-member.member-index c.member-item.result c.loop-member-test.true c.member-item.is) in
+    (search (rules, falls), tt)
+
+pub copy_processes-copy-requires : goal.copy_processes-copy-requires
+copy_processes-copy-requires t c =
+    let falls = rw c.as_slice-member-items.ensures.members at (procs_depth-member c.as_slice-member-items.result.now c.loop-member.member-index c.member-item.result c.loop-member-test.true c.member-item.is) in
+    (search (rules, falls), tt)

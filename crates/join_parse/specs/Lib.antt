@@ -1,0 +1,17 @@
+pub mod Source
+pub mod SourceCode
+pub mod SourceSize
+pub mod Nodes
+pub mod Falls
+pub mod Members
+pub mod Terminals
+pub mod Grammar
+pub mod Levels
+pub mod Begins
+pub mod Faults
+pub mod Automaton
+pub mod Parsed
+pub mod TreeFacts
+pub mod TreeCode
+pub mod Printed
+pub mod Bare

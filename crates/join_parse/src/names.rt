@@ -1,0 +1,100 @@
+// Identifiers between parentheses, join patterns, and the two names of a request.
+ghost use Rattle.std.specs.Prelude.{◌≡◌, ◌∷◌, [], ◌≤◌, length, IfOk};
+ghost use Rattle.join_lex.specs.declared.token.Sign.TheVariants as paren;
+ghost use Rattle.join_parse.specs.Grammar.{names, applied, patterns, pair, IsSome, AreShort};
+ghost use Rattle.join_parse.specs.Begins.{AName, ASign, Names, MorePatterns};
+ghost use Rattle.join_parse.specs.Parsed.{terms, AtMost, Reads, Fails};
+
+use crate::bounds::Bounds;
+use crate::cursor::{is_sign_at, sign, word};
+use crate::word::{PatTree, PatTrees, Word, Words};
+use chem_model::Items;
+use join_base::Front;
+use join_lex::{Sign, Token};
+use std::alloc::Global;
+
+// [ ident { "," ident } ] ")", of at most 255 identifiers
+fn names(alloc: Global, tokens: &[Token], b: Bounds, at: usize) -> Result<(Words, usize), Front>
+    ensures reads { IfOk result (λ r. Reads b (AtMost b.levels) tokens.now at (Names ∷ []) r.1 []) }
+    ensures few { IfOk result (λ r. length r.0 ≤ 255) }
+    ensures spelled { IfOk result (λ r. terms tokens.now at ≡ names r.0 (terms tokens.now r.1)) }
+    ensures fails { Fails b (AtMost b.levels) tokens.now at (Names ∷ []) result }
+{
+    let mut list = Items::new(alloc);
+    if is_sign_at(tokens, at, Sign::ParenRight) {
+        return Ok((list, at + 1));
+    }
+    let (first, upto) = word(alloc, tokens, b, at)?;
+    list.push(first)?;
+    let mut end = upto;
+    'commas: while list.len() < 255 && is_sign_at(tokens, end, Sign::Comma) {
+        let (more, upto) = word(alloc, tokens, b, end + 1)?;
+        list.push(more)?;
+        end = upto;
+    }
+    let end = sign(tokens, b, end, Sign::ParenRight)?;
+    Ok((list, end))
+}
+
+// ident "(" [ ident { "," ident } ] ")"
+pub fn pattern(
+    alloc: Global,
+    tokens: &[Token],
+    b: Bounds,
+    at: usize,
+) -> Result<(PatTree, usize), Front>
+    ensures reads { IfOk result (λ r. Reads b (AtMost b.levels) tokens.now at (AName ∷ ASign paren.ParenLeft ∷ Names ∷ []) r.1 []) }
+    ensures few { IfOk result (λ r. length r.0.params ≤ 255) }
+    ensures spelled { IfOk result (λ r. terms tokens.now at ≡ applied r.0.on r.0.params (terms tokens.now r.1)) }
+    ensures fails { Fails b (AtMost b.levels) tokens.now at (AName ∷ ASign paren.ParenLeft ∷ Names ∷ []) result }
+{
+    let (on, upto) = word(alloc, tokens, b, at)?;
+    let upto = sign(tokens, b, upto, Sign::ParenLeft)?;
+    let (params, upto) = names(alloc, tokens, b, upto)?;
+    Ok((PatTree { on, params }, upto))
+}
+
+// pattern { "|" pattern } "=>"
+pub fn patterns(
+    alloc: Global,
+    tokens: &[Token],
+    b: Bounds,
+    at: usize,
+) -> Result<(PatTrees, usize), Front>
+    ensures reads { IfOk result (λ r. Reads b (AtMost b.levels) tokens.now at (AName ∷ ASign paren.ParenLeft ∷ Names ∷ MorePatterns ∷ []) r.1 []) }
+    ensures some { IfOk result (λ r. IsSome r.0) }
+    ensures short { IfOk result (λ r. AreShort r.0) }
+    ensures spelled { IfOk result (λ r. terms tokens.now at ≡ patterns r.0 (terms tokens.now r.1)) }
+    ensures fails { Fails b (AtMost b.levels) tokens.now at (AName ∷ ASign paren.ParenLeft ∷ Names ∷ MorePatterns ∷ []) result }
+{
+    let mut list = Items::new(alloc);
+    let (first, upto) = pattern(alloc, tokens, b, at)?;
+    list.push(first)?;
+    let mut end = upto;
+    'bars: while is_sign_at(tokens, end, Sign::Bar) {
+        let (more, upto) = pattern(alloc, tokens, b, end + 1)?;
+        list.push(more)?;
+        end = upto;
+    }
+    let end = sign(tokens, b, end, Sign::Arrow)?;
+    Ok((list, end))
+}
+
+// "(" ident "," ident ")"
+pub fn pair(
+    alloc: Global,
+    tokens: &[Token],
+    b: Bounds,
+    at: usize,
+) -> Result<(Word, Word, usize), Front>
+    ensures reads { IfOk result (λ r. Reads b (AtMost b.levels) tokens.now at (ASign paren.ParenLeft ∷ AName ∷ ASign paren.Comma ∷ AName ∷ ASign paren.ParenRight ∷ []) r.2 []) }
+    ensures spelled { IfOk result (λ r. terms tokens.now at ≡ pair r.0 r.1 (terms tokens.now r.2)) }
+    ensures fails { Fails b (AtMost b.levels) tokens.now at (ASign paren.ParenLeft ∷ AName ∷ ASign paren.Comma ∷ AName ∷ ASign paren.ParenRight ∷ []) result }
+{
+    let upto = sign(tokens, b, at, Sign::ParenLeft)?;
+    let (one, upto) = word(alloc, tokens, b, upto)?;
+    let upto = sign(tokens, b, upto, Sign::Comma)?;
+    let (other, upto) = word(alloc, tokens, b, upto)?;
+    let upto = sign(tokens, b, upto, Sign::ParenRight)?;
+    Ok((one, other, upto))
+}

@@ -1,0 +1,61 @@
+// Texts that are refused, with the kind and the place of their refusal.
+
+use crate::outcome::run;
+use std::alloc::Global;
+use std::process::Abort;
+use std::test::Fail;
+
+/// That a text is refused with this line, and nothing is written on `out`.
+fn expect_refused(rt: &impl Abort, alloc: Global, text: &str, line: &str) -> Result<(), Fail> {
+    let run = run(alloc, "10", text)?;
+    run.expect(rt, 1, "", line);
+    assert_eq!(rt; run.events(), None);
+    Ok(())
+}
+
+#[test]
+fn lexical_faults(rt: HostRuntime) -> Result<(), Fail> {
+    let alloc = rt.alloc();
+    expect_refused(&rt, alloc, "site [ $", "lex 2 at 7\n")?;
+    expect_refused(&rt, alloc, "site s [ x() = 0 : 0 ]", "lex 2 at 13\n")?;
+    expect_refused(&rt, alloc, "observe out/256;", "lex 3 at 12\n")
+}
+
+#[test]
+fn texts_that_are_no_sentence(rt: HostRuntime) -> Result<(), Fail> {
+    let alloc = rt.alloc();
+    expect_refused(&rt, alloc, "", "grammar 1 at 0\n")?;
+    expect_refused(&rt, alloc, "site s [ none : 0 ] x", "grammar 1 at 20\n")?;
+    expect_refused(&rt, alloc, "site s [ none : 1 ]", "grammar 1 at 16\n")
+}
+
+#[test]
+fn names_that_are_wrong(rt: HostRuntime) -> Result<(), Fail> {
+    let alloc = rt.alloc();
+    expect_refused(&rt, alloc, "site s [ none : q() ]", "scope 1 at 16\n")?;
+    expect_refused(&rt, alloc, "site a [ x() => 0 and m[ x() => 0 : 0 ] : 0 ]", "scope 2 at 25\n")?;
+    expect_refused(&rt, alloc, "site s [ s() => 0 : 0 ]", "scope 3 at 9\n")
+}
+
+#[test]
+fn names_that_are_repeated(rt: HostRuntime) -> Result<(), Fail> {
+    let alloc = rt.alloc();
+    expect_refused(&rt, alloc, "observe s/0; site s [ none : 0 ]", "scope 3 at 18\n")?;
+    expect_refused(&rt, alloc, "site s [ x(u, u) => 0 : 0 ]", "scope 4 at 14\n")?;
+    expect_refused(&rt, alloc, "site s [ x() | x() => 0 : 0 ]", "scope 5 at 15\n")
+}
+
+/// The fault of a count stands before the unknown name.
+#[test]
+fn counts_that_are_wrong(rt: HostRuntime) -> Result<(), Fail> {
+    let alloc = rt.alloc();
+    expect_refused(&rt, alloc, "site s [ x(u) => 0 : x() | q() ]", "arity 1 at 21\n")?;
+    expect_refused(&rt, alloc, "site s [ x() => 0 and x(u) => 0 : 0 ]", "arity 2 at 22\n")
+}
+
+#[test]
+fn names_of_the_other_sort(rt: HostRuntime) -> Result<(), Fail> {
+    let alloc = rt.alloc();
+    expect_refused(&rt, alloc, "site s [ none : s() ]", "arity 3 at 16\n")?;
+    expect_refused(&rt, alloc, "site s [ x() => 0 : go(x, x) ]", "arity 4 at 23\n")
+}

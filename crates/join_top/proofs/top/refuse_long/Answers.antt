@@ -1,0 +1,9 @@
+-- The line is that of the refusal.
+use Rattle.std.proofs.Common.{ℕ, List, sym, subst}
+use Rattle.join_top.specs.RunJoin.{Gains}
+use Rattle.join_top.proofs.Long.{long_line}
+use Rattle.join_top.proofs.top.refuse_long.Goals as goal
+
+pub returns-clause-line : goal.returns-clause-line
+returns-clause-line g c =
+    subst (λ (t : List ℕ). Gains (g.E.Sink.held c.args.err.now) (g.E.Sink.held c.write_line.new.err) (g.E.Sink.faults c.args.err.now) (g.E.Sink.faults c.write_line.new.err) t) (sym long_line) c.write_line.ensures.gains

@@ -1,0 +1,330 @@
+-- A tree with no fault stands for terms whose patterns, blocks and scopes are right.
+use Rattle.std.proofs.Common.{◌≡◌, ◌≢◌, ℕ, ◌+◌, ◌<◌, ◌≤◌, Bool, true, false, cond, ◌||◌, List, [], ◌∷◌, ◌++◌, Option, Some, None, length, refl, sym, ap, ◌∙◌, subst, arith}
+use Rattle.std.specs.List.{All, AllPairs, list_any}
+use Rattle.std.proofs.lemmas.List.Elements.{All-nil, All-cons}
+use Rattle.std.specs.Str.{bytes_eq}
+use Rattle.std.specs.Cmp.Lexicographic.{bytes_decides}
+use Rattle.join_base.specs.declared.fault.Kind.{Kind}
+use Rattle.join_base.specs.declared.fault.Kind.TheVariants.{Scope4, Scope5}
+use Rattle.join_parse.specs.declared.word.Word.{Word}
+use Rattle.join_parse.specs.declared.word.PatTree.{PatTree}
+use Rattle.join_parse.specs.declared.word.SeenTree.{SeenTree}
+use Rattle.join_parse.specs.Source as s
+use Rattle.join_parse.specs.Grammar as g
+use Rattle.scope_names.specs.declared.scope.Sort.{Sort}
+use Rattle.scope_names.specs.declared.scope.Sort.TheVariants.{Channel, Location, Observed, Parameter}
+use Rattle.chem_model.specs.declared.name.Ref.{Ref}
+use Rattle.chem_model.specs.declared.name.Ref.TheVariants as ref
+use Rattle.chem_model.specs.declared.name.Name.{Name}
+use Rattle.chem_model.specs.declared.name.Pat.{Pat}
+use Rattle.chem_model.specs.Process as t
+use Rattle.chem_model.specs.Binders as chem
+use Rattle.chem_model.specs.Binders.{is_among, times}
+use Rattle.chem_model.specs.Scope.{IsPattern, AreRules, AreRulesAndPlaces, IsInScope, IsTerm, AreTerms, IsDefinition, AreDefinitions}
+use Rattle.chem_model.specs.ProgramFacts.{IsDeclared}
+use Rattle.scope_check.specs.Blocks.{Defining, channels, params, parameters, defining, defining_one, places_of, block, first_in, observed_from, Scope, Resolved, resolved_in, resolve, open_at, scopes_in, scopes_in_def, scopes_in_defs}
+use Rattle.scope_check.specs.Uses.{Manner, called, headed, sent, all_sent, uses, all_uses, definition_uses, level_uses}
+use Rattle.scope_check.specs.Faults.{ons}
+use Rattle.scope_check.specs.FaultList.{used_by, use_faults, clashes, is_spelled_in, repeated_if, repeats, pattern_faults, process_faults, processes_faults, definition_faults, level_faults}
+use Rattle.scope_check.specs.Numbers.{Binder, binder, is_same, keys, in_params, in_patterns, in_process, in_processes, in_definition, in_definitions, index_of}
+use Rattle.scope_check.specs.Stands.{together, ref_as, ref_to, ref_of, refs_of, numbers, pats_of, process, members, definition, level}
+use Rattle.scope_check.proofs.Lists.{append-nil, none_left, none_right, spelled-append, same-spelling}
+use Rattle.scope_check.proofs.Among.{among-here, among-front, among-back}
+use Rattle.scope_check.proofs.Tables.{IsBinding}
+use Rattle.scope_check.proofs.Uses.{faults-append}
+use Rattle.scope_check.proofs.Size.{length-numbers, length-refs}
+use Rattle.scope_check.proofs.Sorts.{AllIn, in_front, in_back, in_both, tells, once-each}
+use Rattle.scope_check.proofs.TermBlock.{pairs-nil, pairs-cons, bound_at, level-block, params-numbers, params-bound}
+use Rattle.scope_check.proofs.BlockFacts.{block-fine, locs-all}
+
+-- observed names are declared
+abbrev pub SortFine : (seen : ℕ) → Sort → Type 0
+SortFine seen (Observed m i) = i < seen
+SortFine seen (Channel m at) = Unit {0}
+SortFine seen Location = Unit {0}
+SortFine seen Parameter = Unit {0}
+
+abbrev pub NamesFine : (seen : ℕ) → List Defining → Type 0
+NamesFine seen [] = Unit {0}
+NamesFine seen (d ∷ ds) = SortFine seen d.1 × NamesFine seen ds
+
+abbrev pub EnvFine : (seen : ℕ) → List Scope → Type 0
+EnvFine seen [] = Unit {0}
+EnvFine seen (x ∷ env) = NamesFine seen x.names × EnvFine seen env
+
+pub names-append : (seen : ℕ) (xs ys : List Defining) → NamesFine seen xs → NamesFine seen ys → NamesFine seen (xs ++ ys)
+names-append seen [] ys a b = b
+names-append seen (x ∷ xs) ys a b = (a.0, names-append seen xs ys a.1 b)
+
+channels-fine : (seen at : ℕ) (pats : List PatTree) → NamesFine seen (channels at pats)
+channels-fine seen at [] = tt
+channels-fine seen at (p ∷ ps) = (tt, channels-fine seen at ps)
+
+parameters-fine : (seen : ℕ) (ws : List Word) → NamesFine seen (parameters ws)
+parameters-fine seen [] = tt
+parameters-fine seen (w ∷ ws) = (tt, parameters-fine seen ws)
+
+mutual
+  one-fine : (seen : ℕ) (d : s.Definition) (at next : ℕ) → NamesFine seen (defining_one at next d)
+  one-fine seen (s.Rule pats body) at next = channels-fine seen at pats
+  one-fine seen (s.Place o a ds body) at next = (tt, defining-fine seen ds next (next + 1))
+
+  pub defining-fine : (seen : ℕ) (ds : s.Definitions) (at next : ℕ) → NamesFine seen (defining at next ds)
+  defining-fine seen s.no_definition at next = tt
+  defining-fine seen (s.and_also d ds) at next = names-append seen (defining_one at next d) (defining at (next + places_of d) ds) (one-fine seen d at next) (defining-fine seen ds at (next + places_of d))
+
+pub observed-fine : (ss : List SeenTree) (i seen : ℕ) → i + length ss ≤ seen → NamesFine seen (observed_from i ss)
+observed-fine [] i seen h = tt
+observed-fine (x ∷ ss) i seen h = (omega arith, observed-fine ss (i + 1) seen (omega arith))
+
+-- ---- the levels of definitions
+
+rules-one : (number : Binder → ℕ) (ds : s.Definitions) (own : ℕ) (env : List Scope) (k : ℕ) → g.AreDefinitions true ds → AreRules (t.definitions (level number own env k ds))
+rules-one number s.no_definition own env k h = tt
+rules-one number (s.and_also (s.Rule pats body) ds) own env k h = rules-one number ds own env (k + scopes_in_def (s.Rule pats body)) h.1
+rules-one number (s.and_also (s.Place o a es body) ds) own env k h = absurd h.0
+
+pub levels-fine : (number : Binder → ℕ) (ds : s.Definitions) (own : ℕ) (env : List Scope) (k : ℕ) → g.AreDefinitions false ds → AreRulesAndPlaces (t.definitions (level number own env k ds))
+levels-fine number s.no_definition own env k h = tt
+levels-fine number (s.and_also (s.Rule pats body) ds) own env k h = levels-fine number ds own env (k + scopes_in_def (s.Rule pats body)) h.1
+levels-fine number (s.and_also (s.Place o a es body) ds) own env k h = (rules-one number es own env k h.0.1, levels-fine number ds own env (k + scopes_in_def (s.Place o a es body)) h.1)
+
+-- ---- scopes
+
+in-scope-more : (known : Name → Type 0) (front scope : List ℕ) (r : Ref) → IsInScope known scope r → IsInScope known (front ++ scope) r
+in-scope-more known front scope (ref.Binder b) h = among-back front scope b h
+in-scope-more known front scope (ref.Known n) h = h
+
+module _ (bs : List Binder) (seen : ℕ) where
+  -- all that the scopes bind
+  abbrev pub bound_by : List Scope → List ℕ
+  bound_by [] = []
+  bound_by (x ∷ env) = bound_at (index_of bs) x.number x.names ++ bound_by env
+
+  here-bound : (k : ℕ) (d : Defining) (ds : List Defining) → IsBinding d.1 → is_among (bound_at (index_of bs) k (d ∷ ds)) (index_of bs (binder k d.0)) ≡ true
+  here-bound k d ds h = by d.1 refl h
+    where
+      by : (x : Sort) → d.1 ≡ x → IsBinding x → is_among (bound_at (index_of bs) k (d ∷ ds)) (index_of bs (binder k d.0)) ≡ true
+      by (Channel m at) e h = ap (λ z. is_among (bound_at (index_of bs) k ((d.0, z) ∷ ds)) (index_of bs (binder k d.0))) e ∙ among-here (bound_at (index_of bs) k ds) (index_of bs (binder k d.0))
+      by Location e h = ap (λ z. is_among (bound_at (index_of bs) k ((d.0, z) ∷ ds)) (index_of bs (binder k d.0))) e ∙ among-here (bound_at (index_of bs) k ds) (index_of bs (binder k d.0))
+      by (Observed m i) e h = absurd h
+      by Parameter e h = ap (λ z. is_among (bound_at (index_of bs) k ((d.0, z) ∷ ds)) (index_of bs (binder k d.0))) e ∙ among-here (bound_at (index_of bs) k ds) (index_of bs (binder k d.0))
+
+  first-bound : (k : ℕ) (names : List Defining) (text : List ℕ) (sort : Sort) → NamesFine seen names → first_in text names ≡ Some sort
+      → SortFine seen sort × (IsBinding sort → is_among (bound_at (index_of bs) k names) (index_of bs (record { scope = k; text = text })) ≡ true)
+  first-bound k [] text sort fine e = absurd cc
+  first-bound k (d ∷ ds) text sort fine e = by (bytes_eq text d.0.text) refl (first-bound k ds text sort fine.1) e
+    where
+      by : (b : Bool) → bytes_eq text d.0.text ≡ b
+          → (first_in text ds ≡ Some sort → SortFine seen sort × (IsBinding sort → is_among (bound_at (index_of bs) k ds) (index_of bs (record { scope = k; text = text })) ≡ true))
+          → cond b (Some d.1) (first_in text ds) ≡ Some sort
+          → SortFine seen sort × (IsBinding sort → is_among (bound_at (index_of bs) k (d ∷ ds)) (index_of bs (record { scope = k; text = text })) ≡ true)
+      by true q ih r =
+          let same : text ≡ d.0.text = (bytes_decides text d.0.text).0 q in
+          let is : d.1 ≡ sort = cc in (
+            subst (SortFine seen) is fine.0,
+            λ h. subst (λ x. is_among (bound_at (index_of bs) k (d ∷ ds)) (index_of bs (record { scope = k; text = x })) ≡ true) (sym same) (here-bound k d ds (subst IsBinding (sym is) h)),
+          )
+      by false q ih r = let i = ih r in (i.0, λ h. among-back _ (bound_at (index_of bs) k ds) (index_of bs (record { scope = k; text = text })) (i.1 h))
+
+  resolved-scope : (env : List Scope) (text : List ℕ) (r : Resolved) → EnvFine seen env → resolve env text ≡ Some r
+      → IsInScope (IsDeclared seen) (bound_by env) (ref_as (index_of bs) text r.scope r.sort)
+  resolved-scope [] text r fine e = absurd cc
+  resolved-scope (x ∷ env) text r fine e = by (first_in text x.names) refl e (resolved-scope env text r fine.1)
+    where
+      sorted : (sort : Sort) → first_in text x.names ≡ Some sort → IsInScope (IsDeclared seen) (bound_by (x ∷ env)) (ref_as (index_of bs) text x.number sort)
+      sorted (Observed m i) q = (first-bound x.number x.names text (Observed m i) fine.0 q).0
+      sorted (Channel m at) q = among-front (bound_at (index_of bs) x.number x.names) (bound_by env) (index_of bs (record { scope = x.number; text = text })) ((first-bound x.number x.names text (Channel m at) fine.0 q).1 tt)
+      sorted Location q = among-front (bound_at (index_of bs) x.number x.names) (bound_by env) (index_of bs (record { scope = x.number; text = text })) ((first-bound x.number x.names text Location fine.0 q).1 tt)
+      sorted Parameter q = among-front (bound_at (index_of bs) x.number x.names) (bound_by env) (index_of bs (record { scope = x.number; text = text })) ((first-bound x.number x.names text Parameter fine.0 q).1 tt)
+
+      by : (o : Option Sort) → first_in text x.names ≡ o → resolved_in x.number o (resolve env text) ≡ Some r
+          → (resolve env text ≡ Some r → IsInScope (IsDeclared seen) (bound_by env) (ref_as (index_of bs) text r.scope r.sort))
+          → IsInScope (IsDeclared seen) (bound_by (x ∷ env)) (ref_as (index_of bs) text r.scope r.sort)
+      by None q m ih = in-scope-more (IsDeclared seen) (bound_at (index_of bs) x.number x.names) (bound_by env) (ref_as (index_of bs) text r.scope r.sort) (ih m)
+      by (Some sort) q m ih =
+          let is : record { scope = x.number; sort = sort } ≡ r = cc in
+          subst (λ (z : Resolved). IsInScope (IsDeclared seen) (bound_by (x ∷ env)) (ref_as (index_of bs) text z.scope z.sort)) is (sorted sort q)
+
+  use-fine : (m : Manner) (env : List Scope) (w : Word) → EnvFine seen env → used_by m w (resolve env w.text) ≡ [] → IsInScope (IsDeclared seen) (bound_by env) (ref_of (index_of bs) env w)
+  use-fine m env w fine e = by (resolve env w.text) refl e
+    where
+      by : (o : Option Resolved) → resolve env w.text ≡ o → used_by m w o ≡ [] → IsInScope (IsDeclared seen) (bound_by env) (ref_to (index_of bs) w.text (resolve env w.text))
+      by None q h = absurd cc
+      by (Some r) q h = subst (λ o. IsInScope (IsDeclared seen) (bound_by env) (ref_to (index_of bs) w.text o)) (sym q) (resolved-scope env w.text r fine q)
+
+  sent-fine : (env : List Scope) (ws : List Word) → EnvFine seen env → use_faults (all_sent env ws) ≡ [] → All (IsInScope (IsDeclared seen) (bound_by env)) (refs_of (index_of bs) env ws)
+  sent-fine env [] fine e = All-nil (IsInScope (IsDeclared seen) (bound_by env))
+  sent-fine env (w ∷ ws) fine e =
+      All-cons (IsInScope (IsDeclared seen) (bound_by env)) (ref_of (index_of bs) env w) (refs_of (index_of bs) env ws)
+      (use-fine sent env w fine (none_left _ _ e)) (sent-fine env ws fine (none_right (used_by sent w (resolve env w.text)) _ e))
+
+  pub together-fine : (scope : List ℕ) (ps : List t.Process) → AreTerms (IsDeclared seen) scope (t.processes ps) → IsTerm (IsDeclared seen) scope (together ps)
+  together-fine scope [] h = tt
+  together-fine scope (p ∷ []) h = h.0
+  together-fine scope (p ∷ q ∷ ps) h = h
+
+  -- ---- join patterns
+
+  in-params-append : (k : ℕ) (xs ys : List Word) → in_params k (xs ++ ys) ≡ in_params k xs ++ in_params k ys
+  in-params-append k [] ys = refl
+  in-params-append k (x ∷ xs) ys = ap (λ l. binder k x ∷ l) (in-params-append k xs ys)
+
+  pub params-in : (own k : ℕ) (ps : List PatTree) → AllIn bs (in_patterns own k ps) → AllIn bs (in_params k (params ps))
+  params-in own k [] h = tt
+  params-in own k (p ∷ ps) h =
+      subst (AllIn bs) (sym (in-params-append k p.params (params ps)))
+      (in_both bs (in_params k p.params) (in_params k (params ps)) (in_front bs (in_params k p.params) (in_patterns own k ps) h.1) (params-in own k ps (in_back bs (in_params k p.params) (in_patterns own k ps) h.1)))
+
+  channels-in : (own k at : ℕ) (ps : List PatTree) → AllIn bs (in_patterns own k ps) → AllIn bs (keys own (channels at ps))
+  channels-in own k at [] h = tt
+  channels-in own k at (p ∷ ps) h = (h.0, channels-in own k at ps (in_back bs (in_params k p.params) (in_patterns own k ps) h.1))
+
+  or-left : (a b : Bool) → a ≡ true → (a || b) ≡ true
+  or-left true b e = refl
+  or-left false b e = absurd cc
+
+  or-right : (a b : Bool) → b ≡ true → (a || b) ≡ true
+  or-right true b e = refl
+  or-right false b e = e
+
+  if-none : (b : Bool) (kind : Kind) (w : Word) → repeated_if b kind w ≡ [] → b ≡ false
+  if-none true kind w e = absurd cc
+  if-none false kind w e = refl
+
+  other-channels : (own k : ℕ) (w : Word) (before : List Word) (ps : List PatTree) → list_any (is_same (binder own w)) bs ≡ true → is_spelled_in w.text before ≡ true
+      → repeats Scope5 before (ons ps) ≡ [] → All (λ q. ref.Binder (index_of bs (binder own w)) ≢ q.on) (pats_of (index_of bs) own k ps)
+  other-channels own k w before [] there h none = All-nil (λ (q : Pat). ref.Binder (index_of bs (binder own w)) ≢ q.on)
+  other-channels own k w before (p ∷ ps) there h none =
+      let now : is_spelled_in p.on.text before ≡ false = if-none (is_spelled_in p.on.text before) Scope5 p.on (none_left _ (repeats Scope5 (before ++ p.on ∷ []) (ons ps)) none) in
+      All-cons (λ (q : Pat). ref.Binder (index_of bs (binder own w)) ≢ q.on) (record { on = ref.Binder (index_of bs (binder own p.on)); params = numbers (index_of bs) k p.params }) (pats_of (index_of bs) own k ps)
+      (λ e.
+      let n : index_of bs (binder own w) ≡ index_of bs (binder own p.on) = cc in
+      let same : w.text ≡ p.on.text = tells bs own w.text p.on.text there n in
+      let bad : is_spelled_in p.on.text before ≡ true = ap (λ x. is_spelled_in x before) (sym same) ∙ h in
+      absurd cc)
+      (other-channels own k w (before ++ p.on ∷ []) ps there (spelled-append w.text before p.on ∙ or-left (is_spelled_in w.text before) (bytes_eq w.text p.on.text) h)
+      (none_right (repeated_if (is_spelled_in p.on.text before) Scope5 p.on) (repeats Scope5 (before ++ p.on ∷ []) (ons ps)) none))
+
+  channels-apart : (own k : ℕ) (before : List Word) (ps : List PatTree) → AllIn bs (in_patterns own k ps) → repeats Scope5 before (ons ps) ≡ [] → AllPairs (λ p q. p.on ≢ q.on) (pats_of (index_of bs) own k ps)
+  channels-apart own k before [] h none = pairs-nil (λ (p q : Pat). p.on ≢ q.on)
+  channels-apart own k before (p ∷ ps) h none =
+      let rest = none_right (repeated_if (is_spelled_in p.on.text before) Scope5 p.on) (repeats Scope5 (before ++ p.on ∷ []) (ons ps)) none in
+      pairs-cons (λ (p q : Pat). p.on ≢ q.on) (record { on = ref.Binder (index_of bs (binder own p.on)); params = numbers (index_of bs) k p.params }) (pats_of (index_of bs) own k ps)
+      (other-channels own k p.on (before ++ p.on ∷ []) ps h.0 (spelled-append p.on.text before p.on ∙ or-right (is_spelled_in p.on.text before) (bytes_eq p.on.text p.on.text) (same-spelling p.on.text)) rest)
+      (channels-apart own k (before ++ p.on ∷ []) ps (in_back bs (in_params k p.params) (in_patterns own k ps) h.1) rest)
+
+  short-fine : (own k : ℕ) (ps : List PatTree) → g.AreShort ps → All (λ p. length p.params ≤ 255) (pats_of (index_of bs) own k ps)
+  short-fine own k [] h = All-nil (λ (p : Pat). length p.params ≤ 255)
+  short-fine own k (p ∷ ps) h =
+      All-cons (λ (p : Pat). length p.params ≤ 255) (record { on = ref.Binder (index_of bs (binder own p.on)); params = numbers (index_of bs) k p.params }) (pats_of (index_of bs) own k ps)
+      (omega (arith, h.0, length-numbers (index_of bs) k p.params)) (short-fine own k ps h.1)
+
+  some-fine : (own k : ℕ) (ps : List PatTree) → g.IsSome ps → 0 < length (pats_of (index_of bs) own k ps)
+  some-fine own k [] h = absurd h
+  some-fine own k (p ∷ ps) h = omega arith
+
+  pattern-fine : (own k : ℕ) (ps : List PatTree) → g.IsSome ps → g.AreShort ps → pattern_faults ps ≡ [] → AllIn bs (in_patterns own k ps) → IsPattern (pats_of (index_of bs) own k ps)
+  pattern-fine own k ps some short none inside = record {
+    some = some-fine own k ps some;
+    channels = channels-apart own k [] ps inside (none_left (repeats Scope5 [] (ons ps)) (repeats Scope4 [] (params ps)) none);
+    params = λ b. subst (λ l. times l b ≤ 1) (sym (params-numbers (index_of bs) own k ps)) ((once-each bs Scope4 k [] (params ps) (params-in own k ps inside) (none_right (repeats Scope5 [] (ons ps)) (repeats Scope4 [] (params ps)) none)).0 b);
+    short = short-fine own k ps short;
+  }
+
+  -- ---- the binders of a block
+
+  keys-append : (k : ℕ) (xs ys : List Defining) → keys k (xs ++ ys) ≡ keys k xs ++ keys k ys
+  keys-append k [] ys = refl
+  keys-append k (x ∷ xs) ys = ap (λ l. binder k x.0 ∷ l) (keys-append k xs ys)
+
+  mutual
+    one-in : (d : s.Definition) (own k at next : ℕ) → AllIn bs (in_definition own k d) → AllIn bs (keys own (defining_one at next d))
+    one-in (s.Rule pats body) own k at next h = channels-in own k at pats (in_front bs (in_patterns own k pats) (in_processes (k + 1) body) h)
+    one-in (s.Place o a ds body) own k at next h = (h.0, all-in ds own k next (next + 1) (in_front bs (in_definitions own k ds) (in_processes (k + scopes_in_defs ds) body) h.1))
+
+    pub all-in : (ds : s.Definitions) (own k at next : ℕ) → AllIn bs (in_definitions own k ds) → AllIn bs (keys own (defining at next ds))
+    all-in s.no_definition own k at next h = tt
+    all-in (s.and_also d ds) own k at next h =
+        subst (AllIn bs) (sym (keys-append own (defining_one at next d) (defining at (next + places_of d) ds)))
+        (in_both bs (keys own (defining_one at next d)) (keys own (defining at (next + places_of d) ds))
+        (one-in d own k at next (in_front bs (in_definition own k d) (in_definitions own (k + scopes_in_def d) ds) h))
+        (all-in ds own (k + scopes_in_def d) at (next + places_of d) (in_back bs (in_definition own k d) (in_definitions own (k + scopes_in_def d) ds) h)))
+
+  -- ---- terms
+
+  mutual
+    process-term : (p : s.Process) (env : List Scope) (k : ℕ) → EnvFine seen env → g.IsProcess p → process_faults p ≡ [] → use_faults (uses env k p) ≡ [] → AllIn bs (in_process k p)
+        → IsTerm (IsDeclared seen) (bound_by env) (process (index_of bs) env k p)
+    process-term s.Zero env k fine gr d u i = tt
+    process-term (s.Msg on args) env k fine gr d u i =
+        (use-fine (called (length args)) env on fine (none_left _ _ u), sent-fine env args fine (none_right (used_by (called (length args)) on (resolve env on.text)) _ u), omega (arith, gr, length-refs (index_of bs) env args))
+    process-term (s.Go b c) env k fine gr d u i =
+        (use-fine headed env b fine (none_left _ _ u), use-fine (called 0) env c fine (none_left _ _ (none_right (used_by headed b (resolve env b.text)) _ u)))
+    process-term (s.Fail b c) env k fine gr d u i =
+        (use-fine headed env b fine (none_left _ _ u), use-fine (called 0) env c fine (none_left _ _ (none_right (used_by headed b (resolve env b.text)) _ u)))
+    process-term s.Halt env k fine gr d u i = tt
+    process-term (s.Group ps) env k fine gr d u i = together-fine (bound_by env) (members (index_of bs) env k ps) (members-term ps env k fine gr d u i)
+    process-term (s.Def ds ps) env k fine gr d u i =
+        let inner = open_at k (block ds) env in
+        let n = k + 1 + scopes_in_defs ds in
+        let term = t.definitions (level (index_of bs) k inner (k + 1) ds) in
+        let body = members (index_of bs) inner n ps in
+        let fine' : EnvFine seen inner = (defining-fine seen ds 0 1, fine) in
+        let d1 = none_right (clashes [] (block ds)) (level_faults ds ++ processes_faults ps) d in
+        let u1 = sym (faults-append (level_uses inner (k + 1) ds) (all_uses inner n ps)) ∙ u in
+        let i0 = in_front bs (in_definitions k (k + 1) ds) (in_processes n ps) i in
+        let i1 = in_back bs (in_definitions k (k + 1) ds) (in_processes n ps) i in
+        let a = level-term ds k inner (k + 1) false fine' gr.0 (none_left (level_faults ds) (processes_faults ps) d1) (none_left _ _ u1) i0 in
+        let b = together-fine (bound_by inner) body (members-term ps inner n fine' gr.1 (none_right (level_faults ds) (processes_faults ps) d1) (none_right (use_faults (level_uses inner (k + 1) ds)) _ u1) i1) in
+        let is : bound_at (index_of bs) k (block ds) ≡ chem.block term = sym (level-block (index_of bs) ds k (k + 1) 0 1 inner) in (
+          block-fine bs ds k (k + 1) inner (block ds) [] [] (sym (append-nil (block ds))) (none_left (clashes [] (block ds)) (level_faults ds ++ processes_faults ps) d) (locs-all ds 0 1) (all-in ds k (k + 1) 0 1 i0),
+          levels-fine (index_of bs) ds k inner (k + 1) gr.0,
+          subst (λ l. AreDefinitions (IsDeclared seen) (l ++ bound_by env) term) is a,
+          subst (λ l. IsTerm (IsDeclared seen) (l ++ bound_by env) (together body)) is b,
+        )
+
+    pub members-term : (ps : s.Processes) (env : List Scope) (k : ℕ) → EnvFine seen env → g.AreProcesses ps → processes_faults ps ≡ [] → use_faults (all_uses env k ps) ≡ [] → AllIn bs (in_processes k ps)
+        → AreTerms (IsDeclared seen) (bound_by env) (t.processes (members (index_of bs) env k ps))
+    members-term s.none env k fine gr d u i = absurd gr
+    members-term (s.one_more p ps) env k fine gr d u i =
+        let u1 = sym (faults-append (uses env k p) (all_uses env (k + scopes_in p) ps)) ∙ u in (
+          process-term p env k fine gr.0 (none_left (process_faults p) (processes_faults ps) d) (none_left _ _ u1) (in_front bs (in_process k p) (in_processes (k + scopes_in p) ps) i),
+          more-term ps p env (k + scopes_in p) fine gr.1 (none_right (process_faults p) (processes_faults ps) d) (none_right (use_faults (uses env k p)) _ u1) (in_back bs (in_process k p) (in_processes (k + scopes_in p) ps) i),
+        )
+
+    more-term : (ps : s.Processes) (p : s.Process) (env : List Scope) (k : ℕ) → EnvFine seen env → g.AreMore p ps → processes_faults ps ≡ [] → use_faults (all_uses env k ps) ≡ [] → AllIn bs (in_processes k ps)
+        → AreTerms (IsDeclared seen) (bound_by env) (t.processes (members (index_of bs) env k ps))
+    more-term s.none p env k fine gr d u i = tt
+    more-term (s.one_more q ps) p env k fine gr d u i =
+        let u1 = sym (faults-append (uses env k q) (all_uses env (k + scopes_in q) ps)) ∙ u in (
+          process-term q env k fine gr.1 (none_left (process_faults q) (processes_faults ps) d) (none_left _ _ u1) (in_front bs (in_process k q) (in_processes (k + scopes_in q) ps) i),
+          more-term ps q env (k + scopes_in q) fine gr.2 (none_right (process_faults q) (processes_faults ps) d) (none_right (use_faults (uses env k q)) _ u1) (in_back bs (in_process k q) (in_processes (k + scopes_in q) ps) i),
+        )
+
+    definition-term : (d : s.Definition) (own : ℕ) (env : List Scope) (k : ℕ) (within : Bool) → EnvFine seen env → g.IsDefinition within d → definition_faults d ≡ [] → use_faults (definition_uses env k d) ≡ [] → AllIn bs (in_definition own k d)
+        → IsDefinition (IsDeclared seen) (bound_by env) (definition (index_of bs) own env k d)
+    definition-term (s.Rule pats body) own env k within fine gr d u i =
+        let inner = open_at k (parameters (params pats)) env in
+        let i0 = in_front bs (in_patterns own k pats) (in_processes (k + 1) body) i in
+        let i1 = in_back bs (in_patterns own k pats) (in_processes (k + 1) body) i in
+        let b = together-fine (bound_by inner) (members (index_of bs) inner (k + 1) body) (members-term body inner (k + 1) (parameters-fine seen (params pats), fine) gr.2 (none_right (pattern_faults pats) (processes_faults body) d) u i1) in (
+          pattern-fine own k pats gr.0 gr.1 (none_left (pattern_faults pats) (processes_faults body) d) i0,
+          subst (λ l. IsTerm (IsDeclared seen) (l ++ bound_by env) (together (members (index_of bs) inner (k + 1) body))) (sym (params-bound (index_of bs) own k pats)) b,
+        )
+    definition-term (s.Place o a ds body) own env k true fine gr d u i = absurd gr
+    definition-term (s.Place o a ds body) own env k false fine gr d u i =
+        let u1 = sym (faults-append (level_uses env k ds) (all_uses env (k + scopes_in_defs ds) body)) ∙ u in (
+          level-term ds own env k true fine gr.1 (none_left (level_faults ds) (processes_faults body) d) (none_left _ _ u1) (in_front bs (in_definitions own k ds) (in_processes (k + scopes_in_defs ds) body) i.1),
+          together-fine (bound_by env) (members (index_of bs) env (k + scopes_in_defs ds) body)
+              (members-term body env (k + scopes_in_defs ds) fine gr.2 (none_right (level_faults ds) (processes_faults body) d) (none_right (use_faults (level_uses env k ds)) _ u1) (in_back bs (in_definitions own k ds) (in_processes (k + scopes_in_defs ds) body) i.1)),
+        )
+
+    pub level-term : (ds : s.Definitions) (own : ℕ) (env : List Scope) (k : ℕ) (within : Bool) → EnvFine seen env → g.AreDefinitions within ds → level_faults ds ≡ [] → use_faults (level_uses env k ds) ≡ [] → AllIn bs (in_definitions own k ds)
+        → AreDefinitions (IsDeclared seen) (bound_by env) (t.definitions (level (index_of bs) own env k ds))
+    level-term s.no_definition own env k within fine gr d u i = tt
+    level-term (s.and_also x ds) own env k within fine gr d u i =
+        let u1 = sym (faults-append (definition_uses env k x) (level_uses env (k + scopes_in_def x) ds)) ∙ u in (
+          definition-term x own env k within fine gr.0 (none_left (definition_faults x) (level_faults ds) d) (none_left _ _ u1) (in_front bs (in_definition own k x) (in_definitions own (k + scopes_in_def x) ds) i),
+          level-term ds own env (k + scopes_in_def x) within fine gr.1 (none_right (definition_faults x) (level_faults ds) d) (none_right (use_faults (definition_uses env k x)) _ u1) (in_back bs (in_definition own k x) (in_definitions own (k + scopes_in_def x) ds) i),
+        )

@@ -1,0 +1,71 @@
+-- With the tables of the tree's scopes, the second walk notes the faults of the tree's uses.
+use Rattle.std.proofs.Common.{◌≡◌, ℕ, ◌+◌, List, [], ◌∷◌, ◌++◌, Option, Some, None, length, refl, sym, ap, ◌∙◌, append_assoc}
+use Rattle.join_parse.specs.declared.word.Word.{Word}
+use Rattle.join_parse.specs.Source.{Process, Zero, Msg, Go, Fail, Halt, Group, Def, Processes, none, one_more, Definition, Rule, Place, Definitions, no_definition, and_also}
+use Rattle.scope_check.specs.Blocks.{params, parameters, block, Scope, Resolved, resolve, open_at, scopes_in, scopes_in_def, scopes_in_defs}
+use Rattle.scope_check.specs.Uses.{called, headed, sent, Use, all_sent, uses, all_uses, definition_uses, level_uses}
+use Rattle.scope_check.specs.FaultList.{used_by, use_faults}
+use Rattle.scope_check.specs.Numbers.{Binder}
+use Rattle.scope_check.specs.Twin.{Table, called_by, headed_by, sent_by, sent_in, table_at, uses_in, all_uses_in, definition_uses_in, level_uses_in}
+use Rattle.scope_names.specs.Frames.{in_env}
+use Rattle.scope_check.specs.declared.fault.Fault.{Fault}
+use Rattle.scope_check.proofs.Tables.{EnvStandsFor, entered_resolved, env-resolves, Fits, AllFit, DefinitionFits, LevelFits}
+
+pub faults-append : (us vs : List Use) → use_faults (us ++ vs) ≡ use_faults us ++ use_faults vs
+faults-append [] vs = refl
+faults-append (u ∷ us) vs =
+    let here = used_by u.manner u.word (resolve u.around u.word.text) in
+    ap (λ l. here ++ l) (faults-append us vs) ∙ sym (append_assoc here (use_faults us) (use_faults vs))
+
+append-nil-faults : (xs : List Fault) → xs ≡ xs ++ []
+append-nil-faults [] = refl
+append-nil-faults (x ∷ xs) = ap (λ l. x ∷ l) (append-nil-faults xs)
+
+module _ (number : Binder → ℕ) where
+  called-same : (w : Word) (n : ℕ) (r : Option Resolved) → called_by w n (entered_resolved number w.text r) ≡ used_by (called n) w r
+  called-same w n None = refl
+  called-same w n (Some r) = refl
+
+  headed-same : (w : Word) (r : Option Resolved) → headed_by w (entered_resolved number w.text r) ≡ used_by headed w r
+  headed-same w None = refl
+  headed-same w (Some r) = refl
+
+  sent-same : (w : Word) (r : Option Resolved) → sent_by w (entered_resolved number w.text r) ≡ used_by sent w r
+  sent-same w None = refl
+  sent-same w (Some r) = refl
+
+  module _ (tables : List Table) where
+    called-is : (a : List Table) (env : List Scope) (w : Word) (n : ℕ) → EnvStandsFor number a env → called_by w n (in_env w.text a) ≡ used_by (called n) w (resolve env w.text)
+    called-is a env w n h = ap (called_by w n) (env-resolves number a env w.text h) ∙ called-same w n (resolve env w.text)
+
+    headed-is : (a : List Table) (env : List Scope) (w : Word) → EnvStandsFor number a env → headed_by w (in_env w.text a) ≡ used_by headed w (resolve env w.text)
+    headed-is a env w h = ap (headed_by w) (env-resolves number a env w.text h) ∙ headed-same w (resolve env w.text)
+
+    sent-is : (a : List Table) (env : List Scope) (ws : List Word) → EnvStandsFor number a env → sent_in a ws ≡ use_faults (all_sent env ws)
+    sent-is a env [] h = refl
+    sent-is a env (w ∷ ws) h = λ i. (ap (sent_by w) (env-resolves number a env w.text h) ∙ sent-same w (resolve env w.text)) i ++ sent-is a env ws h i
+
+    mutual
+      pub uses-are : (p : Process) (a : List Table) (env : List Scope) (k : ℕ) → EnvStandsFor number a env → Fits number tables k p → uses_in tables a k p ≡ use_faults (uses env k p)
+      uses-are Zero a env k h f = refl
+      uses-are (Msg on args) a env k h f = λ i. called-is a env on (length args) h i ++ sent-is a env args h i
+      uses-are (Go b c) a env k h f = λ i. headed-is a env b h i ++ (called-is a env c 0 h ∙ append-nil-faults (used_by (called 0) c (resolve env c.text))) i
+      uses-are (Fail b c) a env k h f = λ i. headed-is a env b h i ++ (called-is a env c 0 h ∙ append-nil-faults (used_by (called 0) c (resolve env c.text))) i
+      uses-are Halt a env k h f = refl
+      uses-are (Group ps) a env k h f = all-uses-are ps a env k h f
+      uses-are (Def ds ps) a env k h f =
+          let own = table_at tables k in let more = open_at k (block ds) env in
+          (λ i. level-uses-are ds (own ∷ a) more (k + 1) (f.0, h) f.2 i ++ all-uses-are ps (own ∷ a) more (k + 1 + scopes_in_defs ds) (f.0, h) f.3 i)
+          ∙ sym (faults-append (level_uses more (k + 1) ds) (all_uses more (k + 1 + scopes_in_defs ds) ps))
+
+      pub all-uses-are : (ps : Processes) (a : List Table) (env : List Scope) (k : ℕ) → EnvStandsFor number a env → AllFit number tables k ps → all_uses_in tables a k ps ≡ use_faults (all_uses env k ps)
+      all-uses-are none a env k h f = refl
+      all-uses-are (one_more p ps) a env k h f = (λ i. uses-are p a env k h f.0 i ++ all-uses-are ps a env (k + scopes_in p) h f.1 i) ∙ sym (faults-append (uses env k p) (all_uses env (k + scopes_in p) ps))
+
+      pub one-uses-are : (d : Definition) (a : List Table) (env : List Scope) (k : ℕ) → EnvStandsFor number a env → DefinitionFits number tables k d → definition_uses_in tables a k d ≡ use_faults (definition_uses env k d)
+      one-uses-are (Rule pats body) a env k h f = all-uses-are body (table_at tables k ∷ a) (open_at k (parameters (params pats)) env) (k + 1) (f.0, h) f.1
+      one-uses-are (Place o n ds body) a env k h f = (λ i. level-uses-are ds a env k h f.0 i ++ all-uses-are body a env (k + scopes_in_defs ds) h f.1 i) ∙ sym (faults-append (level_uses env k ds) (all_uses env (k + scopes_in_defs ds) body))
+
+      pub level-uses-are : (ds : Definitions) (a : List Table) (env : List Scope) (k : ℕ) → EnvStandsFor number a env → LevelFits number tables k ds → level_uses_in tables a k ds ≡ use_faults (level_uses env k ds)
+      level-uses-are no_definition a env k h f = refl
+      level-uses-are (and_also d ds) a env k h f = (λ i. one-uses-are d a env k h f.0 i ++ level-uses-are ds a env (k + scopes_in_def d) h f.1 i) ∙ sym (faults-append (definition_uses env k d) (level_uses env (k + scopes_in_def d) ds))

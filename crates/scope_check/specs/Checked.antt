@@ -1,0 +1,30 @@
+-- What the check of a tree answers.
+use Rattle.std.specs.Prelude.{◌≡◌, ℕ, Some, None}
+use Rattle.join_base.specs.declared.fault.Front.{Front}
+use Rattle.join_base.specs.declared.fault.Front.TheVariants.{Refused, Memory}
+use Rattle.join_parse.specs.Grammar.{TreeOfText}
+use Rattle.chem_model.specs.ProgramFacts.{ProgramTerms}
+use Rattle.scope_check.specs.declared.fault.Fault.{Fault}
+use Rattle.scope_check.specs.Order.{IsFirst}
+use Rattle.scope_check.specs.Faults.{IsFault}
+use Rattle.scope_check.specs.Stands.{program}
+
+-- how many sites a text may have
+abbrev pub most_sites : ℕ
+most_sites = 64
+
+-- The tree has no fault, and this is its program.
+pub record IsProgramOf (t : TreeOfText) (p : ProgramTerms) : Type 0 where
+  pub is : p ≡ program t
+  pub none : IsFirst (IsFault most_sites t) None
+
+-- The tree's first fault is of this kind at this place.
+abbrev pub IsRefusedAs : TreeOfText → Front → Type 0
+IsRefusedAs t (Refused kind place) = IsFirst (IsFault most_sites t) (Some (record { kind = kind; place = place }))
+IsRefusedAs t Memory = Unit {0}
+
+-- A tree has one program or one first fault, and never both.
+pub record OneOutcome (t : TreeOfText) : Type 0 where
+  pub one_program : (p q : ProgramTerms) → IsProgramOf t p → IsProgramOf t q → p ≡ q
+  pub one_fault : (f g : Fault) → IsFirst (IsFault most_sites t) (Some f) → IsFirst (IsFault most_sites t) (Some g) → f ≡ g
+  pub never_both : (p : ProgramTerms) (f : Fault) → IsProgramOf t p → IsFirst (IsFault most_sites t) (Some f) → ⊥

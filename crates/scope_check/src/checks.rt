@@ -1,0 +1,167 @@
+// The check of a tree.
+ghost use Rattle.std.specs.Prelude.{◌≡◌, ◌+◌, ◌≤◌, ◌++◌, ◌∷◌, [], get_or, length, drop, IfOk, IfErr, OnOk};
+ghost use Rattle.scope_check.specs.Order.{first_of};
+ghost use Rattle.scope_check.specs.Blocks.{observed_from, defining, sites_of, scopes_in_defs};
+ghost use Rattle.scope_check.specs.FaultList.{many, level_faults};
+ghost use Rattle.scope_check.specs.Clashes.{clashes_in};
+ghost use Rattle.scope_check.specs.Naming.{name_all as named_all, walk_level as walked_level};
+ghost use Rattle.scope_check.specs.Twin.{site_terms_in, level_uses_in};
+ghost use Rattle.scope_check.specs.Stands.{seen_decls};
+ghost use Rattle.scope_check.specs.Checked.{IsProgramOf, IsRefusedAs, OneOutcome};
+ghost use Rattle.join_parse.specs.Grammar.{TreeOfText};
+
+use crate::block::{Defining, observed, sites};
+use crate::clashes::{clashes, place};
+use crate::fault::{Fault, note};
+use crate::naming::{fill, name_all, walk_sites};
+use crate::translate;
+use chem_model::{Memory, Program, SeenDecl, SeenDecls, SiteTerms, Texts};
+use join_base::{Front, Kind};
+use join_parse::{PlaceTree, SeenTree, Tree};
+use scope_names::{Env, Scope};
+use std::alloc::Global;
+
+// How many sites a text may have.
+const SITES: usize = 64;
+
+/// Notes the sites above the limit.
+fn above(limit: usize, sites: &[PlaceTree], least: &mut Option<Fault>)
+    ensures { least.new ≡ first_of least.old (many (drop limit sites.now)) }
+{
+    for number in limit..sites.len() {
+        note(
+            least,
+            Fault {
+                kind: Kind::Scope6,
+                place: sites[number].opener,
+            },
+        );
+    }
+}
+
+/// The names of the outermost block.
+fn names<'a>(
+    alloc: Global,
+    seen: &'a [SeenTree],
+    trees: &'a [PlaceTree],
+) -> Result<Vec<Defining<'a>>, Memory>
+    ensures { IfOk result (λ list. list.items ≡ observed_from 0 seen.now ++ defining 0 1 (sites_of trees.now)) }
+{
+    let mut list = Vec::new(alloc);
+    observed(&mut list, seen)?;
+    sites(&mut list, trees)?;
+    Ok(list)
+}
+
+/// The faults of all definitions within sites.
+fn within(alloc: Global, trees: &[PlaceTree], least: &mut Option<Fault>) -> Result<(), Memory>
+    ensures { OnOk result (least.new ≡ first_of least.old (level_faults (sites_of trees.now))) }
+{
+    for tree in trees {
+        place(alloc, tree, least)?;
+    }
+    Ok(())
+}
+
+/// The tables of all scopes, the outermost one first, the spellings of all binders in the order of their numbers, and the number of
+/// those that the sites define.
+#[derive(Drop)]
+struct Tables<'a> {
+    scopes: Vec<Scope<'a>>,
+    spell: Texts,
+    tops: u32,
+}
+
+fn numbered<'a>(
+    alloc: Global,
+    names: &[Defining<'a>],
+    trees: &'a [PlaceTree],
+) -> Result<Tables<'a>, Memory>
+    ensures tops { IfOk result (λ r. r.tops ≡ length (named_all [] [] names.now).spell) }
+    ensures spell { IfOk result (λ r. r.spell ≡ (walked_level 0 1 (named_all [] [] names.now).spell (named_all [] [] names.now).table (sites_of trees.now)).spell) }
+    ensures scopes { IfOk result (λ r. r.scopes.items ≡ (walked_level 0 1 (named_all [] [] names.now).spell (named_all [] [] names.now).table (sites_of trees.now)).own ∷ (walked_level 0 1 (named_all [] [] names.now).spell (named_all [] [] names.now).table (sites_of trees.now)).tables) }
+{
+    let mut own = Scope::new(alloc);
+    let mut spell = Texts::new(alloc);
+    name_all(alloc, &mut own, &mut spell, names)?;
+    let tops = spell.len() as u32;
+    let mut scopes = Vec::new(alloc);
+    scopes.push(Scope::new(alloc))?;
+    walk_sites(alloc, &mut scopes, &mut spell, &mut own, trees)?;
+    fill(&mut scopes, 0, own)?;
+    Ok(Tables {
+        scopes,
+        spell,
+        tops,
+    })
+}
+
+/// The terms of all sites.
+fn terms(
+    alloc: Global,
+    scopes: &[Scope<'_>],
+    trees: &[PlaceTree],
+    least: &mut Option<Fault>,
+) -> Result<SiteTerms, Memory>
+    requires { 1 + scopes_in_defs (sites_of trees.now) ≤ length scopes.now }
+    ensures value { IfOk result (λ r. r ≡ site_terms_in scopes.now (get_or scopes.now 0 []) (get_or scopes.now 0 [] ∷ []) 1 trees.now) }
+    ensures faults { OnOk result (least.new ≡ first_of least.old (level_uses_in scopes.now (get_or scopes.now 0 [] ∷ []) 1 (sites_of trees.now))) }
+{
+    let own = &scopes[0];
+    let env = Env::outermost(own);
+    let list = translate::sites(alloc, scopes, own, &env, trees, least)?;
+    Ok(list)
+}
+
+/// The declarations of observed names.
+fn declarations(alloc: Global, trees: &[SeenTree]) -> Result<SeenDecls, Memory>
+    ensures { IfOk result (λ list. list ≡ seen_decls trees.now) }
+{
+    let mut list = SeenDecls::new(alloc);
+    for tree in trees {
+        let spell = tree.name.text.copy(alloc)?;
+        list.push(SeenDecl {
+            count: tree.count,
+            spell,
+        })?;
+    }
+    Ok(list)
+}
+
+/// The program that a tree stands for, or its first fault of scope or arity.
+///
+/// The first fault has the least place, and at one place the kind that stands first among `Scope1` to `Arity4`. Its place is a byte
+/// offset from 0: of the identifier that is wrong, or of the keyword `site` of the 65th site. No other kind is answered.
+pub fn check(alloc: Global, tree: &Tree) -> Result<Program, Front>
+    ensures program { IfOk result (IsProgramOf tree.now) }
+    ensures fault { IfErr result (IsRefusedAs tree.now) }
+{
+    let mut least = None;
+    let trees = tree.sites.as_slice();
+    above(SITES, trees, &mut least);
+    let names = names(alloc, tree.seen.as_slice(), trees)?;
+    clashes(alloc, names.as_slice(), &mut least)?;
+    within(alloc, trees, &mut least)?;
+    let tables = numbered(alloc, names.as_slice(), trees)?;
+    let sites = terms(alloc, tables.scopes.as_slice(), trees, &mut least)?;
+    if let Some(fault) = least {
+        return Err(Front::Refused {
+            kind: fault.kind,
+            place: fault.place,
+        });
+    }
+    let seen = declarations(alloc, tree.seen.as_slice())?;
+    Ok(Program {
+        seen,
+        sites,
+        tops: tables.tops,
+        spell: tables.spell,
+    })
+}
+
+/// A tree has one program or one first fault, and never both. So `check` answers exactly by the definitions, save for want of
+/// memory.
+#[tactic(auto, using(crate::proofs::Answer::one_outcome))]
+pub fn one_outcome()
+    ensures { (t : TreeOfText) → OneOutcome t }
+{}

@@ -1,0 +1,15 @@
+//! The program that a tree stands for, or its first fault of scope or arity.
+#![tactic(auto)]
+
+mod block;
+mod checks;
+mod clashes;
+mod fault;
+mod naming;
+#[cfg(test)]
+mod tests;
+mod translate;
+mod words;
+
+pub use checks::{check, one_outcome};
+pub use fault::Fault;

@@ -1,0 +1,167 @@
+// Uses of words under the scopes around them.
+ghost use Rattle.std.specs.Prelude.{◌≡◌, IfOk, OnOk, None, length};
+ghost use Rattle.scope_check.specs.Order.{first_of};
+ghost use Rattle.scope_check.specs.Twin.{called_by, headed_by, sent_in, sent_by, ref_by, refs_in, binder_by, binder_in, binders_in, pats_in};
+ghost use Rattle.scope_check.specs.FaultList.{called_as, headed_for};
+ghost use Rattle.scope_names.specs.Frames.{in_env, in_frame};
+
+use crate::fault::{Fault, note};
+use chem_model::{Memory, Name, Nums, Pat, Pats, Ref, Refs};
+use join_base::Kind;
+use join_parse::{PatTree, Word};
+use scope_names::{Entry, Env, Scope, Sort};
+use std::alloc::Global;
+
+/// What a resolved word stands for.
+fn reference(entry: Option<Entry>) -> Ref
+    ensures { result ≡ ref_by entry }
+{
+    match entry {
+        None => Ref::Binder(0),
+        Some(entry) => match entry.sort {
+            Sort::Observed { index, .. } => Ref::Known(Name::Seen(index)),
+            Sort::Channel { .. } | Sort::Location | Sort::Parameter => Ref::Binder(entry.binder),
+        },
+    }
+}
+
+/// A word as a message's name.
+pub fn called(env: &Env<'_>, word: &Word, given: usize, least: &mut Option<Fault>) -> Ref
+    ensures value { result ≡ ref_by (in_env word.now.text env.now) }
+    ensures faults { least.new ≡ first_of least.old (called_by word.now given (in_env word.now.text env.now)) }
+{
+    let entry = env.resolve(word.text.as_slice());
+    match entry {
+        None => note(
+            least,
+            Fault {
+                kind: Kind::Scope1,
+                place: word.place,
+            },
+        ),
+        Some(entry) => match entry.sort {
+            Sort::Channel { count, .. } | Sort::Observed { count, .. } => {
+                if count as usize != given {
+                    note(
+                        least,
+                        Fault {
+                            kind: Kind::Arity1,
+                            place: word.place,
+                        },
+                    );
+                }
+            }
+            Sort::Location => note(
+                least,
+                Fault {
+                    kind: Kind::Arity3,
+                    place: word.place,
+                },
+            ),
+            Sort::Parameter => {}
+        },
+    }
+    reference(entry)
+}
+
+/// A word as the first name of `go` or `fail`.
+pub fn headed(env: &Env<'_>, word: &Word, least: &mut Option<Fault>) -> Ref
+    ensures value { result ≡ ref_by (in_env word.now.text env.now) }
+    ensures faults { least.new ≡ first_of least.old (headed_by word.now (in_env word.now.text env.now)) }
+{
+    let entry = env.resolve(word.text.as_slice());
+    match entry {
+        None => note(
+            least,
+            Fault {
+                kind: Kind::Scope1,
+                place: word.place,
+            },
+        ),
+        Some(entry) => match entry.sort {
+            Sort::Channel { .. } | Sort::Observed { .. } => note(
+                least,
+                Fault {
+                    kind: Kind::Arity4,
+                    place: word.place,
+                },
+            ),
+            Sort::Location | Sort::Parameter => {}
+        },
+    }
+    reference(entry)
+}
+
+fn sent(env: &Env<'_>, word: &Word, least: &mut Option<Fault>) -> Ref
+    ensures value { result ≡ ref_by (in_env word.now.text env.now) }
+    ensures faults { least.new ≡ first_of least.old (sent_by word.now (in_env word.now.text env.now)) }
+{
+    let entry = env.resolve(word.text.as_slice());
+    if entry.is_none() {
+        note(
+            least,
+            Fault {
+                kind: Kind::Scope1,
+                place: word.place,
+            },
+        );
+    }
+    reference(entry)
+}
+
+/// Words as arguments.
+pub fn all_sent(
+    alloc: Global,
+    env: &Env<'_>,
+    words: &[Word],
+    least: &mut Option<Fault>,
+) -> Result<Refs, Memory>
+    ensures value { IfOk result (λ refs. refs ≡ refs_in env.now words.now) }
+    ensures faults { OnOk result (least.new ≡ first_of least.old (sent_in env.now words.now)) }
+{
+    let mut refs = Refs::new(alloc);
+    for word in words {
+        refs.push(sent(env, word, least))?;
+    }
+    Ok(refs)
+}
+
+/// The number of a word in its scope.
+pub fn binder_of(scope: &Scope<'_>, word: &Word) -> u32
+    ensures { result ≡ binder_in scope.now word.now }
+{
+    match scope.find(word.text.as_slice()) {
+        Some(entry) => entry.binder,
+        None => 0,
+    }
+}
+
+fn binders_of(alloc: Global, scope: &Scope<'_>, words: &[Word]) -> Result<Nums, Memory>
+    ensures { IfOk result (λ ns. ns ≡ binders_in scope.now words.now) }
+{
+    let mut numbers = Nums::new(alloc);
+    for word in words {
+        numbers.push(binder_of(scope, word))?;
+    }
+    Ok(numbers)
+}
+
+/// A join pattern.
+pub fn patterns_of(
+    alloc: Global,
+    own: &Scope<'_>,
+    params: &Scope<'_>,
+    pats: &[PatTree],
+) -> Result<Pats, Memory>
+    ensures { IfOk result (λ ps. ps ≡ pats_in own.now params.now pats.now) }
+{
+    let mut list = Pats::new(alloc);
+    for pat in pats {
+        let numbers = binders_of(alloc, params, pat.params.as_slice())?;
+        list.push(Pat {
+            on: Ref::Binder(binder_of(own, &pat.on)),
+            params: numbers,
+        })?;
+    }
+    Ok(list)
+}

@@ -1,0 +1,6 @@
+//! Runs of a program.
+#![tactic(auto)]
+
+mod one_thread;
+
+pub use one_thread::{Done, How, alone};

@@ -1,0 +1,64 @@
+// The run on one thread.
+ghost use Rattle.std.specs.Prelude.{◌≡◌, [], ◌<◌, ◌≤◌, ◌^◌, length, IfOk};
+ghost use Rattle.site_runner.specs.Schedule.{after, ScheduleOf};
+ghost use Rattle.site_runner.specs.Run.{RunsOn};
+
+use chem_model::Memory;
+use std::alloc::Global;
+use trace_history::Book;
+
+/// How a run was made.
+#[derive(Clone, Copy, PartialEq, Eq, Debug)]
+pub enum How {
+    /// On one thread, one event after another.
+    Alone,
+}
+
+/// A run that has ended: its book, and how it was made.
+#[derive(Drop)]
+pub struct Done {
+    pub book: Book,
+    pub how: How,
+}
+
+/// The site whose turn comes after this one.
+fn after(sites: usize, site: u32) -> u32
+    requires within { site < sites }
+    requires short { sites < 2 ^ 32 }
+    ensures after { result ≡ after sites site }
+    ensures within { result < sites }
+{
+    if site as usize + 1 == sites { 0 } else { site + 1 }
+}
+
+/// Makes the event that comes first, from the site after the last one's, until none is possible or the journal has
+/// `budget` events. It begins at the first site.
+pub fn alone(alloc: Global, book: Book, budget: u32) -> Result<Done, Memory>
+    requires { length book.journal ≤ budget }
+    ensures run { IfOk result (λ done. RunsOn book budget done.book) }
+    ensures whole { IfOk result (λ done. book.journal ≡ [] → ScheduleOf book.program budget done.book.journal) }
+{
+    let mut run = book;
+    run.replays();
+    let program = run.program();
+    let sites = program.sites.len();
+    let mut from = 0;
+    for _place in run.journal().len()..budget as usize {
+        match run.first_enabled(alloc, from)? {
+            Some(found) => {
+                let _commit = run.commit(alloc, &found.event)?;
+                from = after(sites, found.site);
+            }
+            None => {
+                return Ok(Done {
+                    book: run,
+                    how: How::Alone,
+                });
+            }
+        }
+    }
+    Ok(Done {
+        book: run,
+        how: How::Alone,
+    })
+}

@@ -1,0 +1,7 @@
+pub mod Order
+pub mod FirstOf
+pub mod Least
+pub mod Founds
+pub mod Answered
+pub mod Replays
+pub mod Quiets

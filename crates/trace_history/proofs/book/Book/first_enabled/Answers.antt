@@ -1,0 +1,16 @@
+-- The site of the event is one of the program.
+use Rattle.std.proofs.Common.{◌≡◌, ◌<◌, length, Some}
+use Rattle.std.specs.Prelude.{IfSome}
+use Rattle.std.proofs.lemmas.Result.{IfOk-weaker}
+use Rattle.trace_history.specs.Kept.{solution}
+use Rattle.trace_history.specs.Search.{IsFound}
+use Rattle.trace_history.proofs.Quiets.{found_site}
+use Rattle.trace_history.proofs.book.Book.first_enabled.Goals as goal
+
+pub first_event-requires : goal.first_event-requires
+first_event-requires c = c.is_sound.ensures c.self.inside.solution (rw (← c.self.view_is) c.self.invariant)
+
+pub returns-clause-site : goal.returns-clause-site
+returns-clause-site c =
+    let leads : solution c.args.self.now ≡ Some c.self.inside.solution = rw (← c.self.view_is) c.self.invariant in
+    IfOk-weaker c.first_event.result (IsFound c.self.inside.solution c.args.from) (λ o. IfSome o (λ f. f.site < length c.args.self.now.program.sites)) (found_site c.args.self.now c.self.inside.solution leads c.args.from) c.first_event.ensures

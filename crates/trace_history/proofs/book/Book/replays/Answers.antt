@@ -1,0 +1,6 @@
+-- The solution that the book holds.
+use Rattle.std.proofs.Common.{◌≡◌}
+use Rattle.trace_history.proofs.book.Book.replays.Goals as goal
+
+pub returns : goal.returns
+returns c = (c.self.inside.solution, rw (← c.self.view_is) c.self.invariant)

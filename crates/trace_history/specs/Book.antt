@@ -1,0 +1,39 @@
+-- What the calls of a book promise.
+use Rattle.std.specs.Prelude.{◌≡◌, ℕ, List, [], ◌∷◌, ◌++◌, length, Option, Some, None, true, false, ◌↔◌}
+use Rattle.chem_model.specs.declared.event.Event.{Event}
+use Rattle.chem_model.specs.declared.event.Out.{Out}
+use Rattle.chem_model.specs.declared.numbered.Numbered.{Numbered}
+use Rattle.chem_model.specs.ProgramFacts.{ProgramTerms, IsProgram}
+use Rattle.chem_model.specs.Reduction.{Quiet}
+use Rattle.chem_model.specs.Numbered.{erase}
+use Rattle.trace_history.specs.declared.book.Commit.{Commit}
+use Rattle.trace_history.specs.declared.book.Commit.TheVariants.{Place, NotEnabled}
+use Rattle.trace_history.specs.declared.book.Found.{Found}
+use Rattle.trace_history.specs.Kept.{Kept, solution, is_enabled}
+use Rattle.trace_history.specs.First.{IsFirst}
+
+-- the event was made and stands last in the journal, exactly where it is possible; else nothing changed
+abbrev pub Commits : Kept → Event → Commit → Kept → Type 0
+Commits old e (Place k) new = (is_enabled old e ≡ true) × (k ≡ length old.journal) × (new ≡ record { program = old.program; journal = old.journal ++ e ∷ [] })
+Commits old e NotEnabled new = (is_enabled old e ≡ false) × (new ≡ old)
+
+-- what holds of the solution to which the journal leads
+abbrev pub OnSolution : Kept → (Numbered → Type 0) → Type 0
+OnSolution b P = (n : Numbered) → solution b ≡ Some n → P n
+
+-- no event is possible
+abbrev pub IsStuck : Kept → Type 0
+IsStuck b = (e : Event) → is_enabled b e ≡ false
+
+-- the machine is quiet on what the solution stands for
+abbrev pub IsQuiet : Kept → Type 0
+IsQuiet b = OnSolution b (λ n. Quiet n.seen (erase n))
+
+-- the first event, where one is possible
+abbrev pub Finds : Kept → ℕ → Option Found → Type 0
+Finds b from None = IsStuck b
+Finds b from (Some f) = OnSolution b (λ n. IsFirst n from f.site f.event)
+
+-- the journal leads to a solution
+abbrev pub Replays : Kept → Type 0
+Replays b = (n : Numbered) × (solution b ≡ Some n)

@@ -1,0 +1,4 @@
+pub mod Kept
+pub mod First
+pub mod Book
+pub mod Search

@@ -1,0 +1,182 @@
+// A book: what contracts see of it is a program and a journal alone.
+ghost use Rattle.std.specs.Prelude.{◌≡◌, [], ◌<◌, ◌-◌, ◌^◌, length, IfOk, IfSome, OnErr, IsTrue, ◌↔◌};
+ghost use Rattle.chem_model.specs.Numbered.{binder_in};
+ghost use Rattle.chem_model.specs.Sound.{IsSound};
+ghost use Rattle.chem_model.specs.Runs.{IsRun};
+ghost use Rattle.chem_model.specs.Laws.{erase_all};
+ghost use Rattle.chem_model.specs.Apply.{states};
+ghost use Rattle.trace_history.specs.Kept.{is_enabled};
+ghost use Rattle.trace_history.specs.Book.{Commits, OnSolution, IsStuck, IsQuiet, Finds, Replays};
+
+use crate::search::{first_event, is_stuck};
+use chem_laws::{replay_is_a_run, stuck_is_quiet};
+use chem_model::{Event, Items, Journal, Memory, Name, Naming, Numbered, Outs, Program};
+use std::alloc::Global;
+use std::marker::Model;
+
+/// What became of an event that was to be made.
+#[derive(Clone, Copy, PartialEq, Eq, Debug)]
+pub enum Commit {
+    /// It was made, and stands at this place of the journal.
+    Place(u64),
+    /// It isn't possible.
+    NotEnabled,
+}
+
+/// An event that is possible, and the site within whose root it is.
+#[derive(Drop)]
+pub struct Found {
+    pub site: u32,
+    pub event: Event,
+}
+
+/// A program, the events since its opening, and the numbered solution to which they lead.
+#[derive(Drop)]
+pub struct Book {
+    program: Program,
+    journal: Journal,
+    solution: Numbered,
+}
+
+impl Model for Book {
+    ghost use Rattle.std.specs.Prelude.{◌≡◌, Some};
+    ghost use Rattle.chem_model.specs.Apply.{replay};
+    ghost use Rattle.trace_history.specs.Kept.{Kept, kept_code};
+
+    ghost Value = { Kept };
+
+    ghost coded = { kept_code };
+
+    ghost view = { λ b. record { program = b.program; journal = b.journal } };
+
+    ghost invariant = { λ b. replay b.program b.journal ≡ Some b.solution };
+}
+
+impl Book {
+    /// The book of a program's opening.
+    pub fn start(alloc: Global, program: &Program) -> Result<Book, Memory>
+        ensures { IfOk result (λ book. book ≡ record { program = program.now; journal = [] }) }
+    {
+        let program = program.copy(alloc)?;
+        let solution = Numbered::opening(alloc, &program)?;
+        Ok(Book {
+            program,
+            journal: Items::new(alloc),
+            solution,
+        })
+    }
+
+    /// Makes an event where it is possible, and appends it to the journal. Where it isn't possible, and on want of
+    /// memory, nothing changes.
+    pub fn commit(&mut self, alloc: Global, event: &Event) -> Result<Commit, Memory>
+        requires { length self.old.journal < 2 ^ 32 - 1 }
+        ensures done { IfOk result (λ c. Commits self.old event.now c self.new) }
+        ensures err { OnErr result (self.new ≡ self.old) }
+    {
+        match self.solution.apply(alloc, event)? {
+            Some(after) => {
+                let place = self.journal.len() as u64;
+                let made = event.copy(alloc)?;
+                self.journal.push(made)?;
+                self.solution = after;
+                Ok(Commit::Place(place))
+            }
+            None => Ok(Commit::NotEnabled),
+        }
+    }
+
+    /// Whether an event is possible.
+    pub fn enabled(&self, event: &Event) -> bool
+        ensures { result ≡ is_enabled self.now event.now }
+    {
+        self.solution.is_enabled(event)
+    }
+
+    /// Whether no event is possible, which is so exactly where the machine is quiet.
+    pub fn quiet(&self) -> bool
+        ensures stuck { IsTrue result ↔ IsStuck self.now }
+        ensures machine { IsTrue result ↔ IsQuiet self.now }
+    {
+        self.is_sound();
+        stuck_is_quiet();
+        is_stuck(&self.solution)
+    }
+
+    /// The event that comes first, where the site `from` is looked at first, and its site. None where no event is possible.
+    pub fn first_enabled(&self, alloc: Global, from: u32) -> Result<Option<Found>, Memory>
+        requires { from < length self.now.program.sites }
+        ensures first { IfOk result (λ found. Finds self.now from found) }
+        ensures site { IfOk result (λ found. IfSome found (λ f. f.site < length self.now.program.sites)) }
+    {
+        self.is_sound();
+        first_event(alloc, &self.solution, from)
+    }
+
+    /// The events since the opening.
+    pub fn journal(&self) -> &Journal
+        ensures { result.now ≡ self.now.journal }
+    {
+        &self.journal
+    }
+
+    /// The observables so far.
+    pub fn trace(&self) -> &Outs
+        ensures { OnSolution self.now (λ n. result.now ≡ n.trace) }
+    {
+        &self.solution.trace
+    }
+
+    pub fn program(&self) -> &Program
+        ensures { result.now ≡ self.now.program }
+    {
+        &self.program
+    }
+
+    /// The binder for which a location or a channel was made. None where this book made no such name.
+    pub fn binder_of(&self, name: &Name) -> Option<u32>
+        ensures { OnSolution self.now (λ n. result ≡ binder_in n.named name.now) }
+    {
+        self.solution.binder_of(name)
+    }
+
+    /// The names that were given in the run, each with the binder for which it was made.
+    pub fn names(&self) -> &Naming
+        ensures { OnSolution self.now (λ n. result.now ≡ n.named) }
+    {
+        &self.solution.named
+    }
+
+    /// The program, and the events since its opening.
+    pub fn into_parts(self) -> (Program, Journal)
+        ensures program { result.0 ≡ self.program }
+        ensures journal { result.1 ≡ self.journal }
+    {
+        (self.program, self.journal)
+    }
+
+    /// The solutions that the journal passes stand for a run of the machine. It does nothing.
+    pub fn is_a_run(&self)
+        ensures { IsRun self.now.program (erase_all (states self.now.program self.now.journal)) }
+    {
+        self.replays();
+        let program = &self.program;
+        let _ = &program.tops;
+        replay_is_a_run();
+    }
+
+    /// The journal replays. It does nothing.
+    pub fn replays(&self)
+        ensures { Replays self.now }
+    {
+        let _ = &self.solution;
+    }
+
+    /// The solution is sound. It does nothing.
+    fn is_sound(&self)
+        ensures { OnSolution self.now IsSound }
+    {
+        let program = &self.program;
+        let _ = &program.tops;
+        replay_is_a_run();
+    }
+}

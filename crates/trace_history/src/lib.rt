@@ -1,0 +1,7 @@
+//! The book of a run: a program, and the events since its opening.
+#![tactic(auto)]
+
+mod book;
+mod search;
+
+pub use book::{Book, Commit, Found};

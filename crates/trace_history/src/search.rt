@@ -1,0 +1,243 @@
+// The search for the event that comes first, over the plain lists.
+ghost use Rattle.std.specs.Prelude.{◌≡◌, ◌<◌, ◌^◌, length, true, IfOk, IsTrue, ◌↔◌, None};
+ghost use Rattle.std.specs.List.{list_all};
+ghost use Rattle.std.specs.Option.{option_copied};
+ghost use Rattle.chem_model.specs.Sound.{IsSound};
+ghost use Rattle.trace_history.specs.First.{turns, less};
+ghost use Rattle.trace_history.specs.Search.{IsFirstOf, beats, receives, atom_before, is_met, AreLeast, is_ready, turn, rule_before, can_act, request_before, event_of, IsReaction, IsMeeting, IsFound};
+
+use crate::book::Found;
+use chem_model::{AtomId, Atoms, Event, Items, Loc, Memory, Numbered, NumberedAtom, NumberedRule, Pat, Pats, Proc, ProcNode, meets};
+use std::alloc::Global;
+
+/// How many turns after the site that is looked at first a site comes.
+fn turns(sites: usize, from: u32, site: u32) -> u64
+    requires { sites < 2 ^ 32 }
+    ensures { result ≡ turns sites from site }
+{
+    if site < from {
+        site as u64 + (sites as u64).saturating_sub(from as u64)
+    } else {
+        (site - from) as u64
+    }
+}
+
+/// The turn of the site at which a location is.
+fn turn(numbered: &Numbered, from: u32, at: Loc) -> u64
+    ensures { result ≡ turn numbered.now from at }
+{
+    turns(numbered.counts.len(), from, numbered.root(at).site)
+}
+
+/// Whether a site and a number come before others.
+fn less(site: u32, k: u64, other_site: u32, other_k: u64) -> bool
+    ensures { result ≡ less site k other_site other_k }
+{
+    site < other_site || (site == other_site && k < other_k)
+}
+
+/// Whether a message has a lesser number than the one that was found so far.
+fn is_lesser(atom: &NumberedAtom, least: Option<&NumberedAtom>) -> bool
+    ensures { result ≡ beats atom_before atom.now (option_copied least.entry) }
+{
+    match least {
+        Some(other) => less(atom.id.site, atom.id.k, other.id.site, other.id.k),
+        None => true,
+    }
+}
+
+/// The message with the least number that a pattern receives at a location.
+fn least_message<'a>(numbered: &'a Numbered, at: Loc, pat: &Pat) -> Option<&'a NumberedAtom>
+    ensures { IsFirstOf (receives at pat.now) atom_before numbered.now.atoms (option_copied result) }
+{
+    let mut least: Option<&NumberedAtom> = None;
+    for atom in numbered.atoms.as_slice() {
+        if is_lesser(atom, least) && meets(at, pat, atom) {
+            least = Some(atom);
+        }
+    }
+    least
+}
+
+/// The least message for each pattern of a rule.
+fn least_messages(alloc: Global, numbered: &Numbered, at: Loc, pats: &Pats) -> Result<Atoms, Memory>
+    requires { list_all (is_met numbered.now.atoms at) pats.now ≡ true }
+    ensures { IfOk result (λ took. AreLeast numbered.now.atoms at pats.now took) }
+{
+    let mut took = Items::new(alloc);
+    for pat in pats.as_slice() {
+        match least_message(numbered, at, pat) {
+            Some(atom) => took.push(atom.id)?,
+            None => {}
+        }
+    }
+    Ok(took)
+}
+
+/// Whether a pattern receives a message at a location.
+fn is_met(numbered: &Numbered, at: Loc, pat: &Pat) -> bool
+    ensures { result ≡ is_met numbered.now.atoms at pat.now }
+{
+    for atom in numbered.atoms.as_slice() {
+        if meets(at, pat, atom) {
+            return true;
+        }
+    }
+    false
+}
+
+/// Whether a rule stands at a live location and each of its patterns receives a message.
+fn is_ready(numbered: &Numbered, rule: &NumberedRule) -> bool
+    ensures { result ≡ is_ready numbered.now rule.now }
+{
+    if !numbered.is_live(rule.loc) {
+        return false;
+    }
+    for pat in rule.pats.as_slice() {
+        if !is_met(numbered, rule.loc, pat) {
+            return false;
+        }
+    }
+    true
+}
+
+/// Whether a rule comes before the one that was found so far.
+fn is_earlier_rule(numbered: &Numbered, from: u32, rule: &NumberedRule, first: Option<&NumberedRule>) -> bool
+    ensures { result ≡ beats (rule_before numbered.now from) rule.now (option_copied first.entry) }
+{
+    match first {
+        Some(other) => {
+            let here = turn(numbered, from, rule.loc);
+            let there = turn(numbered, from, other.loc);
+            here < there || (here == there && less(rule.id.site, rule.id.k, other.id.site, other.id.k))
+        }
+        None => true,
+    }
+}
+
+/// The first of the rules that are ready.
+fn first_rule(numbered: &Numbered, from: u32) -> Option<&NumberedRule>
+    ensures { IsFirstOf (is_ready numbered.now) (rule_before numbered.now from) numbered.now.rules (option_copied result) }
+{
+    let mut first: Option<&NumberedRule> = None;
+    for rule in numbered.rules.as_slice() {
+        if is_earlier_rule(numbered, from, rule, first) && is_ready(numbered, rule) {
+            first = Some(rule);
+        }
+    }
+    first
+}
+
+/// Whether this is a request that can be met.
+fn can_act(numbered: &Numbered, atom: &NumberedAtom) -> bool
+    ensures { result ≡ can_act numbered.now atom.now }
+{
+    numbered.can_move(atom.id, atom) || (numbered.can_halt(atom.id, atom) || numbered.can_be_told(atom.id, atom))
+}
+
+/// Whether a request comes before the one that was found so far.
+fn is_earlier_request(numbered: &Numbered, from: u32, atom: &NumberedAtom, first: Option<&NumberedAtom>) -> bool
+    ensures { result ≡ beats (request_before numbered.now from) atom.now (option_copied first.entry) }
+{
+    match first {
+        Some(other) => {
+            let here = turn(numbered, from, atom.loc);
+            let there = turn(numbered, from, other.loc);
+            here < there || (here == there && less(atom.id.site, atom.id.k, other.id.site, other.id.k))
+        }
+        None => true,
+    }
+}
+
+/// The first of the requests that can be met.
+fn first_request(numbered: &Numbered, from: u32) -> Option<&NumberedAtom>
+    ensures { IsFirstOf (can_act numbered.now) (request_before numbered.now from) numbered.now.atoms (option_copied result) }
+{
+    let mut first: Option<&NumberedAtom> = None;
+    for atom in numbered.atoms.as_slice() {
+        if is_earlier_request(numbered, from, atom, first) && can_act(numbered, atom) {
+            first = Some(atom);
+        }
+    }
+    first
+}
+
+/// The reaction of a rule, by the least message for each of its patterns.
+fn reaction(alloc: Global, numbered: &Numbered, rule: &NumberedRule) -> Result<Found, Memory>
+    requires { is_ready numbered.now rule.now ≡ true }
+    ensures { IfOk result (λ found. IsReaction numbered.now rule.now found) }
+{
+    let took = least_messages(alloc, numbered, rule.loc, &rule.pats)?;
+    Ok(Found {
+        site: numbered.root(rule.loc).site,
+        event: Event::React {
+            rule: rule.id,
+            took,
+        },
+    })
+}
+
+/// The event that meets a request.
+fn event_of(id: AtomId, term: &Proc) -> Option<Event>
+    ensures { result ≡ event_of id term.now }
+{
+    match term.node() {
+        ProcNode::Go { .. } => Some(Event::Move { atom: id }),
+        ProcNode::Halt => Some(Event::Halt { atom: id }),
+        ProcNode::Fail { .. } => Some(Event::Detect { atom: id }),
+        _ => None,
+    }
+}
+
+/// The event that meets a request, and its site.
+fn meeting(numbered: &Numbered, atom: &NumberedAtom) -> Option<Found>
+    ensures { IsMeeting numbered.now atom.now result }
+{
+    match event_of(atom.id, &atom.term) {
+        Some(event) => Some(Found {
+            site: numbered.root(atom.loc).site,
+            event,
+        }),
+        None => None,
+    }
+}
+
+/// The event that comes first. A reaction comes before a request at the same site.
+pub(crate) fn first_event(alloc: Global, numbered: &Numbered, from: u32) -> Result<Option<Found>, Memory>
+    requires { IsSound numbered.now }
+    ensures { IfOk result (λ found. IsFound numbered.now from found) }
+{
+    match first_rule(numbered, from) {
+        Some(rule) => match first_request(numbered, from) {
+            Some(request) => {
+                if turn(numbered, from, request.loc) < turn(numbered, from, rule.loc) {
+                    return Ok(meeting(numbered, request));
+                }
+                let found = reaction(alloc, numbered, rule)?;
+                Ok(Some(found))
+            }
+            None => {
+                let found = reaction(alloc, numbered, rule)?;
+                Ok(Some(found))
+            }
+        },
+        None => match first_request(numbered, from) {
+            Some(request) => Ok(meeting(numbered, request)),
+            None => Ok(None),
+        },
+    }
+}
+
+/// Whether no event is possible.
+pub(crate) fn is_stuck(numbered: &Numbered) -> bool
+    requires { IsSound numbered.now }
+    ensures { IsTrue result ↔ IsFound numbered.now 0 None }
+{
+    match first_rule(numbered, 0) {
+        Some(_) => false,
+        None => match first_request(numbered, 0) {
+            Some(_) => false,
+            None => true,
+        },
+    }
+}

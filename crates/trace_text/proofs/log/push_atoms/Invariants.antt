@@ -1,0 +1,6 @@
+use Rattle.std.proofs.Common.{◌≡◌, ◌++◌, drop}
+use Rattle.trace_text.specs.LogText.{atoms_text}
+use Rattle.trace_text.proofs.log.push_atoms.Given as goal
+
+abbrev pub invariant-loop-atom : goal.invariant-loop-atom
+invariant-loop-atom l = l.text ++ atoms_text (drop l.atom-index l.atom-items) ≡ l.initial.text ++ atoms_text l.atom-items

@@ -1,0 +1,6 @@
+use Rattle.std.proofs.Common.{◌≡◌, drop}
+use Rattle.trace_text.specs.TraceText.{ranked_after}
+use Rattle.trace_text.proofs.names.add_ranked.Given as goal
+
+abbrev pub invariant-loop-arg : goal.invariant-loop-arg
+invariant-loop-arg l = ranked_after l.program l.named l.names (drop l.arg-index l.arg-items) ≡ ranked_after l.program l.named l.initial.names l.arg-items

@@ -1,0 +1,6 @@
+use Rattle.std.proofs.Common.{◌≡◌, ◌++◌, drop}
+use Rattle.trace_text.specs.Later.{later_text}
+use Rattle.trace_text.proofs.trace.push_later.Given as goal
+
+abbrev pub invariant-loop-name : goal.invariant-loop-name
+invariant-loop-name l = l.text ++ later_text l.program l.named l.ranks (drop l.name-index l.names) ≡ l.initial.text ++ later_text l.program l.named l.ranks l.names

@@ -1,0 +1,13 @@
+//! The texts that a run prints: its trace, and its log.
+#![tactic(auto)]
+
+mod log;
+mod names;
+#[cfg(test)]
+mod tests;
+mod text;
+mod trace;
+
+pub use log::{log_text_of, one_spelling};
+pub use text::{Ending, push_all, push_number};
+pub use trace::run_text;

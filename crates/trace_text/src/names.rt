@@ -1,0 +1,139 @@
+// The names of a run: the binders for which they were made, and their ranks.
+ghost use Rattle.std.specs.Prelude.{◌≡◌, ◌<◌, ◌^◌, IfOk, OnOk};
+ghost use Rattle.chem_model.specs.Solution.{same_loc};
+ghost use Rattle.chem_model.specs.Numbered.{same_name, binder_in};
+ghost use Rattle.trace_text.specs.TraceText.{seen_spelling, binder_spelling, is_ranked, is_in, ranked_after, ranked, place_in};
+
+use chem_model::{Items, Loc, Memory, Name, Names, Naming, Outs, Program};
+use std::alloc::Global;
+
+/// Whether two names are the same.
+fn same_name(one: Name, other: Name) -> bool
+    ensures { result ≡ same_name one other }
+{
+    match (one, other) {
+        (Name::Seen(on), Name::Seen(other_on)) => on == other_on,
+        (Name::Place(loc), Name::Place(other_loc)) => same_loc(loc, other_loc),
+        (
+            Name::Chan { site, k, home },
+            Name::Chan {
+                site: other_site,
+                k: other_k,
+                home: other_home,
+            },
+        ) => site == other_site && k == other_k && same_loc(home, other_home),
+        _ => false,
+    }
+}
+
+/// The binder for which a name was made. Of two entries the first counts.
+pub(crate) fn binder_of(named: &Naming, name: Name) -> Option<u32>
+    ensures { result ≡ binder_in named.now name }
+{
+    for entry in named.as_slice() {
+        if same_name(entry.name, name) {
+            return Some(entry.binder);
+        }
+    }
+    None
+}
+
+/// The spelling of the observed name of a declaration.
+pub(crate) fn seen_spelling(program: &Program, declaration: u32) -> &[u8]
+    ensures { result.now ≡ seen_spelling program.now.seen declaration }
+{
+    match program.seen.as_slice().get(declaration as usize) {
+        Some(declared) => declared.spell.as_slice(),
+        None => &[],
+    }
+}
+
+/// The spelling of the binder for which a name was made.
+pub(crate) fn binder_spelling(program: &Program, binder: Option<u32>) -> &[u8]
+    ensures { result.now ≡ binder_spelling program.now binder }
+{
+    match binder {
+        Some(binder) => match program.spell.as_slice().get(binder as usize) {
+            Some(spelling) => spelling.as_slice(),
+            None => &[],
+        },
+        None => &[],
+    }
+}
+
+/// Whether a name has a rank: it is neither observed nor site-level.
+pub(crate) fn is_ranked(program: &Program, named: &Naming, name: Name) -> bool
+    ensures { result ≡ is_ranked program.now named.now name }
+{
+    match name {
+        Name::Seen(_) => false,
+        Name::Place(_) | Name::Chan { .. } => match binder_of(named, name) {
+            Some(binder) => binder >= program.tops,
+            None => false,
+        },
+    }
+}
+
+fn is_in(name: Name, names: &Names) -> bool
+    ensures { result ≡ is_in name names.now }
+{
+    for other in names.as_slice() {
+        if same_name(*other, name) {
+            return true;
+        }
+    }
+    false
+}
+
+/// How many names come before the first that is this one.
+pub(crate) fn place_in(name: Name, names: &Names) -> usize
+    ensures place { result ≡ place_in name names.now }
+    ensures small { result < 2 ^ 32 }
+{
+    for (place, other) in names.as_slice().iter().enumerate() {
+        if same_name(*other, name) {
+            return place;
+        }
+    }
+    names.len()
+}
+
+/// The names of a trace that have a rank, in order of first appearance.
+pub(crate) fn ranked(
+    alloc: Global,
+    program: &Program,
+    named: &Naming,
+    outs: &Outs,
+) -> Result<Names, Memory>
+    ensures { IfOk result (λ names. names ≡ ranked program.now named.now outs.now) }
+{
+    let mut names = Items::new(alloc);
+    for out in outs.as_slice() {
+        add_ranked(&mut names, program, named, &out.args)?;
+    }
+    Ok(names)
+}
+
+/// Appends those arguments that have a rank and don't stand there yet.
+fn add_ranked(
+    names: &mut Names,
+    program: &Program,
+    named: &Naming,
+    args: &Names,
+) -> Result<(), Memory>
+    ensures { OnOk result (names.new ≡ ranked_after program.now named.now names.old args.now) }
+{
+    for arg in args.as_slice() {
+        if is_ranked(program, named, *arg) && !is_in(*arg, names) {
+            names.push(*arg)?;
+        }
+    }
+    Ok(())
+}
+
+/// Whether two locations are the same.
+fn same_loc(one: Loc, other: Loc) -> bool
+    ensures { result ≡ same_loc one other }
+{
+    one.site == other.site && one.k == other.k
+}

@@ -1,0 +1,41 @@
+// Texts of logs, byte for byte. The expected texts were written out by hand.
+use crate::log::log_text_of;
+use chem_model::{AtomId, Event, Items, RuleId};
+use std::test::Fail;
+
+#[test]
+fn a_run_without_an_event(rt: HostRuntime) -> Result<(), Fail> {
+    let source = b"observe out/0; site s [ none : out() ]";
+    let journal = Items::new(rt.alloc());
+    let log = log_text_of(rt.alloc(), source, 10, &journal, b"out()\nquiescent\n")?;
+    let want: &[u8] =
+        b"joinlog 1\nsource 38\nobserve out/0; site s [ none : out() ]\nbudget 10\nevents 0\ntrace 16\nout()\nquiescent\n";
+    assert_eq!(rt; log.as_slice(), want);
+    Ok(())
+}
+
+#[test]
+fn an_event_of_each_kind(rt: HostRuntime) -> Result<(), Fail> {
+    let atom = AtomId {
+        site: 4_294_967_295,
+        k: 18_446_744_073_709_551_615,
+    };
+    let took = Items::from_slice(rt.alloc(), &[AtomId { site: 0, k: 3 }, atom])?;
+    let mut journal = Items::new(rt.alloc());
+    journal.push(Event::React {
+        rule: RuleId { site: 0, k: 2 },
+        took,
+    })?;
+    journal.push(Event::Move { atom })?;
+    journal.push(Event::Halt {
+        atom: AtomId { site: 10, k: 100 },
+    })?;
+    journal.push(Event::Detect {
+        atom: AtomId { site: 7, k: 0 },
+    })?;
+    let log = log_text_of(rt.alloc(), b"", 1_000_000, &journal, b"stopped\n")?;
+    let want: &[u8] =
+        b"joinlog 1\nsource 0\n\nbudget 1000000\nevents 4\nreact 0.2 0.3 4294967295.18446744073709551615\nmove 4294967295.18446744073709551615\nhalt 10.100\ndetect 7.0\ntrace 8\nstopped\n";
+    assert_eq!(rt; log.as_slice(), want);
+    Ok(())
+}

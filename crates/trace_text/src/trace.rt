@@ -1,0 +1,146 @@
+ghost use Rattle.std.specs.Prelude.{◌≡◌, ◌+◌, ◌++◌, codes, decimal, IfOk, OnOk};
+ghost use Rattle.trace_text.specs.TraceText.{place_in, name_text, made_text, names_text, out_text, outs_text, ending_text, trace_text};
+ghost use Rattle.trace_text.specs.Later.{later_text};
+
+use crate::names::{binder_of, binder_spelling, is_ranked, place_in, ranked, seen_spelling};
+use crate::text::{Ending, push_all, push_number};
+use chem_model::{Items, Memory, Name, Names, Naming, Out, Outs, Program, Text};
+use std::alloc::Global;
+
+/// The text of a run: a line for each observable in order, then how the run ended. Each line ends with a line feed.
+///
+/// A line is the observed name's spelling and, in round brackets, the arguments joined by a comma and a space.
+/// Observed and site-level names are written by their spelling. Any other name has `'` and its rank behind it, which
+/// counts such names from 1 by first appearance in the trace. `named` are the names that were given in the run.
+pub fn run_text(
+    alloc: Global,
+    program: &Program,
+    named: &Naming,
+    outs: &Outs,
+    ending: Ending,
+) -> Result<Text, Memory>
+    ensures { IfOk result (λ text. text ≡ trace_text program.now named.now outs.now ending) }
+{
+    let ranks = ranked(alloc, program, named, outs)?;
+    let mut text = Items::new(alloc);
+    push_outs(&mut text, program, named, &ranks, outs)?;
+    push_ending(&mut text, ending)?;
+    Ok(text)
+}
+
+fn push_ending(text: &mut Text, ending: Ending) -> Result<(), Memory>
+    ensures { OnOk result (text.new ≡ text.old ++ ending_text ending) }
+{
+    match ending {
+        Ending::Quiescent => push_all(text, b"quiescent\n"),
+        Ending::Stopped => push_all(text, b"stopped\n"),
+    }
+}
+
+/// Appends the line of each observable.
+fn push_outs(
+    text: &mut Text,
+    program: &Program,
+    named: &Naming,
+    ranks: &Names,
+    outs: &Outs,
+) -> Result<(), Memory>
+    ensures { OnOk result (text.new ≡ text.old ++ outs_text program.now named.now ranks.now outs.now) }
+{
+    for out in outs.as_slice() {
+        push_out(text, program, named, ranks, out)?;
+    }
+    Ok(())
+}
+
+fn push_out(
+    text: &mut Text,
+    program: &Program,
+    named: &Naming,
+    ranks: &Names,
+    out: &Out,
+) -> Result<(), Memory>
+    ensures { OnOk result (text.new ≡ text.old ++ out_text program.now named.now ranks.now out.now) }
+{
+    push_all(text, seen_spelling(program, out.on))?;
+    push_all(text, b"(")?;
+    push_names(text, program, named, ranks, &out.args)?;
+    push_all(text, b")\n")
+}
+
+/// Appends names, joined by a comma and a space.
+fn push_names(
+    text: &mut Text,
+    program: &Program,
+    named: &Naming,
+    ranks: &Names,
+    names: &Names,
+) -> Result<(), Memory>
+    ensures { OnOk result (text.new ≡ text.old ++ names_text program.now named.now ranks.now names.now) }
+{
+    let members = names.as_slice();
+    let [first, others @ ..] = members else {
+        return Ok(());
+    };
+    push_name(text, program, named, ranks, *first)?;
+    push_later(text, program, named, ranks, others)?;
+    Ok(())
+}
+
+/// Appends names, each behind a comma and a space.
+fn push_later(
+    text: &mut Text,
+    program: &Program,
+    named: &Naming,
+    ranks: &Names,
+    names: &[Name],
+) -> Result<(), Memory>
+    ensures { OnOk result (text.new ≡ text.old ++ later_text program.now named.now ranks.now names.now) }
+{
+    for name in names {
+        push_all(text, b", ")?;
+        push_name(text, program, named, ranks, *name)?;
+    }
+    Ok(())
+}
+
+fn push_name(
+    text: &mut Text,
+    program: &Program,
+    named: &Naming,
+    ranks: &Names,
+    name: Name,
+) -> Result<(), Memory>
+    ensures { OnOk result (text.new ≡ text.old ++ name_text program.now named.now ranks.now name) }
+{
+    match name {
+        Name::Seen(declaration) => push_all(text, seen_spelling(program, declaration)),
+        Name::Place(_) | Name::Chan { .. } => push_made(text, program, named, ranks, name),
+    }
+}
+
+/// Appends a name that was made.
+fn push_made(
+    text: &mut Text,
+    program: &Program,
+    named: &Naming,
+    ranks: &Names,
+    name: Name,
+) -> Result<(), Memory>
+    ensures { OnOk result (text.new ≡ text.old ++ made_text program.now named.now ranks.now name) }
+{
+    push_all(text, binder_spelling(program, binder_of(named, name)))?;
+    if is_ranked(program, named, name) {
+        push_rank(text, ranks, name)
+    } else {
+        Ok(())
+    }
+}
+
+/// Appends `'` and the rank of a name.
+fn push_rank(text: &mut Text, ranks: &Names, name: Name) -> Result<(), Memory>
+    ensures { OnOk result (text.new ≡ text.old ++ codes "'" ++ decimal (place_in name ranks.now + 1)) }
+{
+    push_all(text, b"'")?;
+    push_number(text, place_in(name, ranks) as u64 + 1)
+}
