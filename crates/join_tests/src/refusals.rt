@@ -33,29 +33,59 @@ fn texts_that_are_no_sentence(rt: HostRuntime) -> Result<(), Fail> {
 fn names_that_are_wrong(rt: HostRuntime) -> Result<(), Fail> {
     let alloc = rt.alloc();
     expect_refused(&rt, alloc, "site s [ none : q() ]", "scope 1 at 16\n")?;
-    expect_refused(&rt, alloc, "site a [ x() => 0 and m[ x() => 0 : 0 ] : 0 ]", "scope 2 at 25\n")?;
+    expect_refused(
+        &rt,
+        alloc,
+        "site a [ x() => 0 and m[ x() => 0 : 0 ] : 0 ]",
+        "scope 2 at 25\n",
+    )?;
     expect_refused(&rt, alloc, "site s [ s() => 0 : 0 ]", "scope 3 at 9\n")
 }
 
 #[test]
 fn names_that_are_repeated(rt: HostRuntime) -> Result<(), Fail> {
     let alloc = rt.alloc();
-    expect_refused(&rt, alloc, "observe s/0; site s [ none : 0 ]", "scope 3 at 18\n")?;
+    expect_refused(
+        &rt,
+        alloc,
+        "observe s/0; site s [ none : 0 ]",
+        "scope 3 at 18\n",
+    )?;
     expect_refused(&rt, alloc, "site s [ x(u, u) => 0 : 0 ]", "scope 4 at 14\n")?;
-    expect_refused(&rt, alloc, "site s [ x() | x() => 0 : 0 ]", "scope 5 at 15\n")
+    expect_refused(
+        &rt,
+        alloc,
+        "site s [ x() | x() => 0 : 0 ]",
+        "scope 5 at 15\n",
+    )
 }
 
 /// The fault of a count stands before the unknown name.
 #[test]
 fn counts_that_are_wrong(rt: HostRuntime) -> Result<(), Fail> {
     let alloc = rt.alloc();
-    expect_refused(&rt, alloc, "site s [ x(u) => 0 : x() | q() ]", "arity 1 at 21\n")?;
-    expect_refused(&rt, alloc, "site s [ x() => 0 and x(u) => 0 : 0 ]", "arity 2 at 22\n")
+    expect_refused(
+        &rt,
+        alloc,
+        "site s [ x(u) => 0 : x() | q() ]",
+        "arity 1 at 21\n",
+    )?;
+    expect_refused(
+        &rt,
+        alloc,
+        "site s [ x() => 0 and x(u) => 0 : 0 ]",
+        "arity 2 at 22\n",
+    )
 }
 
 #[test]
 fn names_of_the_other_sort(rt: HostRuntime) -> Result<(), Fail> {
     let alloc = rt.alloc();
     expect_refused(&rt, alloc, "site s [ none : s() ]", "arity 3 at 16\n")?;
-    expect_refused(&rt, alloc, "site s [ x() => 0 : go(x, x) ]", "arity 4 at 23\n")
+    expect_refused(
+        &rt,
+        alloc,
+        "site s [ x() => 0 : go(x, x) ]",
+        "arity 4 at 23\n",
+    )
 }

@@ -28,20 +28,23 @@ fn a_move_between_sites(rt: HostRuntime) -> Result<(), Fail> {
 /// The target isn't a site, and a root asks to move.
 #[test]
 fn moves_that_never_come(rt: HostRuntime) -> Result<(), Fail> {
-    let text = "site a [ n[ none : 0 ] and m[ k() => 0 : go(n, k) ] : go(b, d) ] site b [ d() => 0 : 0 ]";
+    let text =
+        "site a [ n[ none : 0 ] and m[ k() => 0 : go(n, k) ] : go(b, d) ] site b [ d() => 0 : 0 ]";
     expect_run(&rt, rt.alloc(), text, "quiescent\n", 0)
 }
 
 #[test]
 fn an_agent_fails_with_its_host(rt: HostRuntime) -> Result<(), Fail> {
-    let text = "observe out/1; site a [ m[ k() => kill() : go(b, k) ] and d() => out(m) : fail(m, d) ] \
+    let text =
+        "observe out/1; site a [ m[ k() => kill() : go(b, k) ] and d() => out(m) : fail(m, d) ] \
         site b [ kill() => halt() : 0 ]";
     expect_run(&rt, rt.alloc(), text, "out(m)\nquiescent\n", 6)
 }
 
 #[test]
 fn a_whole_site_is_dead(rt: HostRuntime) -> Result<(), Fail> {
-    let text = "observe out/0; site a [ none : halt() ] site b [ d() => x() : fail(a, d) ] site c [ x() \
+    let text =
+        "observe out/0; site a [ none : halt() ] site b [ d() => x() : fail(a, d) ] site c [ x() \
         => out() : 0 ]";
     expect_run(&rt, rt.alloc(), text, "out()\nquiescent\n", 4)
 }
@@ -54,14 +57,16 @@ fn a_message_stays_in_the_dead_site(rt: HostRuntime) -> Result<(), Fail> {
 
 #[test]
 fn a_fresh_name_is_printed(rt: HostRuntime) -> Result<(), Fail> {
-    let text = "observe out/1; site s [ y() => 0 and x(f) => f(f) and z() => def r(u) => 0 in out(r) : \
+    let text =
+        "observe out/1; site s [ y() => 0 and x(f) => f(f) and z() => def r(u) => 0 in out(r) : \
         x(y) | z() ]";
     expect_run(&rt, rt.alloc(), text, "out(r'1)\nquiescent\n", 2)
 }
 
 #[test]
 fn the_least_message_first(rt: HostRuntime) -> Result<(), Fail> {
-    let text = "observe out/1; site s [ a(u) | b() => out(u) : a(s) | a(t) | b() ] site t [ none : 0 ]";
+    let text =
+        "observe out/1; site s [ a(u) | b() => out(u) : a(s) | a(t) | b() ] site t [ none : 0 ]";
     expect_run(&rt, rt.alloc(), text, "out(s)\nquiescent\n", 1)
 }
 
@@ -86,21 +91,24 @@ fn a_move_to_the_present_host(rt: HostRuntime) -> Result<(), Fail> {
 
 #[test]
 fn all_that_waits_moves_along(rt: HostRuntime) -> Result<(), Fail> {
-    let text = "observe out/1; site a [ m[ k() => p() | q() and q() | h(u) => out(u) and p() => out(a) : \
+    let text =
+        "observe out/1; site a [ m[ k() => p() | q() and q() | h(u) => out(u) and p() => out(a) : \
         h(m) | go(b, k) ] : 0 ] site b [ none : 0 ]";
     expect_run(&rt, rt.alloc(), text, "out(m)\nout(a)\nquiescent\n", 4)
 }
 
 #[test]
 fn a_hosted_location_is_dead(rt: HostRuntime) -> Result<(), Fail> {
-    let text = "observe out/0; site a [ n[ x() => out() : 0 ] : halt() ] site b [ d() => x() : fail(n, \
+    let text =
+        "observe out/0; site a [ n[ x() => out() : 0 ] : halt() ] site b [ d() => x() : fail(n, \
         d) ]";
     expect_run(&rt, rt.alloc(), text, "quiescent\n", 3)
 }
 
 #[test]
 fn a_location_that_moved_is_alive(rt: HostRuntime) -> Result<(), Fail> {
-    let text = "observe out/0; site a [ m[ k() => 0 : go(b, k) ] and d() => out() : fail(m, d) ] site b \
+    let text =
+        "observe out/0; site a [ m[ k() => 0 : go(b, k) ] and d() => out() : fail(m, d) ] site b \
         [ none : 0 ]";
     expect_run(&rt, rt.alloc(), text, "quiescent\n", 2)
 }

@@ -28,7 +28,11 @@ pub struct Ran {
 fn ending_of(quiet: bool) -> Ending
     ensures { result ≡ ending_of quiet }
 {
-    if quiet { Ending::Quiescent } else { Ending::Stopped }
+    if quiet {
+        Ending::Quiescent
+    } else {
+        Ending::Stopped
+    }
 }
 
 /// Runs a program with at most so many events.

@@ -28,7 +28,11 @@ fn after(sites: usize, site: u32) -> u32
     ensures after { result ≡ after sites site }
     ensures within { result < sites }
 {
-    if site as usize + 1 == sites { 0 } else { site + 1 }
+    if site as usize + 1 == sites {
+        0
+    } else {
+        site + 1
+    }
 }
 
 /// Makes the event that comes first, from the site after the last one's, until none is possible or the journal has

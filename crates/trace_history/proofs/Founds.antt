@@ -85,9 +85,9 @@ reacting n i took h = reacting_rule n i took (rule_at n.rules i) refl h
 pub is_reacting : (n : Numbered) (i : RuleId) (took : List AtomId) (r : NumberedRule) → rule_at n.rules i ≡ Some r → live (standing n.places) r.loc ≡ true → is_some (received_all n.atoms r.loc r.pats took) ≡ true → is_some (apply n (event.React i took)) ≡ true
 is_reacting n i took r e c h =
     ap (λ o. is_some (react_rule n took o)) e
-        ∙ ap (λ t. is_some (cond t (react_received n r took (received_all n.atoms r.loc r.pats took)) None)) c
-        ∙ some_received n r took (received_all n.atoms r.loc r.pats took)
-        ∙ h
+    ∙ ap (λ t. is_some (cond t (react_received n r took (received_all n.atoms r.loc r.pats took)) None)) c
+    ∙ some_received n r took (received_all n.atoms r.loc r.pats took)
+    ∙ h
 
 -- a rule that reacts is ready
 pub ready : (n : Numbered) (i : RuleId) (took : List AtomId) (a : Reacting n i took) → is_ready n a.rule ≡ true
@@ -129,7 +129,6 @@ detecting n j None e h = cc
 detecting n j (Some a) e h =
     let has = atom_has n.atoms j a e in
     record { atom = a; found = e; has = has; acts = or_third (is_some (move_atom n a.id a.loc a.term)) (is_some (halt_atom n a.id a.loc a.term)) (is_some (detect_atom n a.id a.loc a.term)) (ap (λ i. is_some (detect_atom n i a.loc a.term)) has ∙ h) }
-
 
 -- an event that is no reaction is the one of its request
 requesting : (n : Numbered) (f : Event) (j : AtomId) → request_of f ≡ Some j → is_some (apply n f) ≡ true → Requesting n j

@@ -105,8 +105,8 @@ least_received atoms d l (p ∷ ps) (i ∷ took) h =
     let found : atom_at atoms i ≡ Some least.0 = ap (atom_at atoms) (sym least.1) ∙ member_found atoms d least.0 least.2.0 in
     let here : is_some (received_at l p (atom_at atoms i)) ≡ true = ap (λ o. is_some (received_at l p o)) found ∙ least.2.1 in
     some_both (received_at l p (atom_at atoms i)) (received_all atoms l ps took)
-        ∙ ap (λ t. t && is_some (received_all atoms l ps took)) here
-        ∙ least_received atoms d l ps took h.1
+    ∙ ap (λ t. t && is_some (received_all atoms l ps took)) here
+    ∙ least_received atoms d l ps took h.1
 least_received atoms d l [] (i ∷ took) h = absurd h
 least_received atoms d l (p ∷ ps) [] h = absurd h
 

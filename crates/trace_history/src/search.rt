@@ -7,7 +7,10 @@ ghost use Rattle.trace_history.specs.First.{turns, less};
 ghost use Rattle.trace_history.specs.Search.{IsFirstOf, beats, receives, atom_before, is_met, AreLeast, is_ready, turn, rule_before, can_act, request_before, event_of, IsReaction, IsMeeting, IsFound};
 
 use crate::book::Found;
-use chem_model::{AtomId, Atoms, Event, Items, Loc, Memory, Numbered, NumberedAtom, NumberedRule, Pat, Pats, Proc, ProcNode, meets};
+use chem_model::{
+    AtomId, Atoms, Event, Items, Loc, Memory, Numbered, NumberedAtom, NumberedRule, Pat, Pats,
+    Proc, ProcNode, meets,
+};
 use std::alloc::Global;
 
 /// How many turns after the site that is looked at first a site comes.
@@ -102,14 +105,20 @@ fn is_ready(numbered: &Numbered, rule: &NumberedRule) -> bool
 }
 
 /// Whether a rule comes before the one that was found so far.
-fn is_earlier_rule(numbered: &Numbered, from: u32, rule: &NumberedRule, first: Option<&NumberedRule>) -> bool
+fn is_earlier_rule(
+    numbered: &Numbered,
+    from: u32,
+    rule: &NumberedRule,
+    first: Option<&NumberedRule>,
+) -> bool
     ensures { result ≡ beats (rule_before numbered.now from) rule.now (option_copied first.entry) }
 {
     match first {
         Some(other) => {
             let here = turn(numbered, from, rule.loc);
             let there = turn(numbered, from, other.loc);
-            here < there || (here == there && less(rule.id.site, rule.id.k, other.id.site, other.id.k))
+            here < there
+                || (here == there && less(rule.id.site, rule.id.k, other.id.site, other.id.k))
         }
         None => true,
     }
@@ -132,18 +141,25 @@ fn first_rule(numbered: &Numbered, from: u32) -> Option<&NumberedRule>
 fn can_act(numbered: &Numbered, atom: &NumberedAtom) -> bool
     ensures { result ≡ can_act numbered.now atom.now }
 {
-    numbered.can_move(atom.id, atom) || (numbered.can_halt(atom.id, atom) || numbered.can_be_told(atom.id, atom))
+    numbered.can_move(atom.id, atom)
+        || (numbered.can_halt(atom.id, atom) || numbered.can_be_told(atom.id, atom))
 }
 
 /// Whether a request comes before the one that was found so far.
-fn is_earlier_request(numbered: &Numbered, from: u32, atom: &NumberedAtom, first: Option<&NumberedAtom>) -> bool
+fn is_earlier_request(
+    numbered: &Numbered,
+    from: u32,
+    atom: &NumberedAtom,
+    first: Option<&NumberedAtom>,
+) -> bool
     ensures { result ≡ beats (request_before numbered.now from) atom.now (option_copied first.entry) }
 {
     match first {
         Some(other) => {
             let here = turn(numbered, from, atom.loc);
             let there = turn(numbered, from, other.loc);
-            here < there || (here == there && less(atom.id.site, atom.id.k, other.id.site, other.id.k))
+            here < there
+                || (here == there && less(atom.id.site, atom.id.k, other.id.site, other.id.k))
         }
         None => true,
     }
@@ -203,7 +219,11 @@ fn meeting(numbered: &Numbered, atom: &NumberedAtom) -> Option<Found>
 }
 
 /// The event that comes first. A reaction comes before a request at the same site.
-pub(crate) fn first_event(alloc: Global, numbered: &Numbered, from: u32) -> Result<Option<Found>, Memory>
+pub(crate) fn first_event(
+    alloc: Global,
+    numbered: &Numbered,
+    from: u32,
+) -> Result<Option<Found>, Memory>
     requires { IsSound numbered.now }
     ensures { IfOk result (λ found. IsFound numbered.now from found) }
 {

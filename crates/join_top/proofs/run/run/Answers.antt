@@ -15,8 +15,8 @@ returns-clause-ended c =
     let k : Kept = c.in_ok-done.done.book in
     let none : start.journal ≡ [] = ap (λ (b : Kept). b.journal) c.in_ok-book.ensures in
     let is : c.in_ok-text.text ≡ trace_text k.program c.names.result.now c.trace.result.now c.ending_of-ending.result =
-        c.in_ok-text.ensures ∙ ap (λ (p : ProgramTerms). trace_text p c.names.result.now c.trace.result.now c.ending_of-ending.result) c.program.ensures in
+    c.in_ok-text.ensures ∙ ap (λ (p : ProgramTerms). trace_text p c.names.result.now c.trace.result.now c.ending_of-ending.result) c.program.ensures in
     let left = ended c.args.budget start k c.quiet.result c.ending_of-ending.result c.in_ok-text.text c.names.result.now c.trace.result.now
-        c.in_ok-done.ensures.run none (c.in_ok-done.ensures.whole none) c.replays.ensures c.is_a_run.ensures c.quiet.ensures.stuck c.quiet.ensures.machine c.ending_of-ending.ensures c.names.ensures c.trace.ensures is in
+    c.in_ok-done.ensures.run none (c.in_ok-done.ensures.whole none) c.replays.ensures c.is_a_run.ensures c.quiet.ensures.stuck c.quiet.ensures.machine c.ending_of-ending.ensures c.names.ensures c.trace.ensures is in
     let at_program = subst (λ (p : ProgramTerms). IsEnded c.args.budget p k.journal c.in_ok-text.text c.ending_of-ending.result) (sym c.into_parts-program.ensures.program) left in
     subst (λ (j : List Event). IsEnded c.args.budget c.into_parts-program.result.0 j c.in_ok-text.text c.ending_of-ending.result) (sym c.into_parts-program.ensures.journal) at_program
