@@ -1,6 +1,6 @@
 // Texts that are refused, with the kind and the place of their refusal.
 
-use crate::outcome::run;
+use crate::outcome::{Outcome, call, roomy_sink, run, source_of};
 use std::alloc::Global;
 use std::process::Abort;
 use std::test::Fail;
@@ -88,4 +88,35 @@ fn names_of_the_other_sort(rt: HostRuntime) -> Result<(), Fail> {
         "site s [ x() => 0 : go(x, x) ]",
         "arity 4 at 23\n",
     )
+}
+
+/// The run of a process within so many parentheses.
+fn nested(alloc: Global, depth: usize) -> Result<Outcome, Fail> {
+    let mut text = Vec::from_slice(alloc, b"site s [ none : ")?;
+    for _ in 0..depth {
+        text.push(b'(')?;
+    }
+    text.push(b'0')?;
+    for _ in 0..depth {
+        text.push(b')')?;
+    }
+    text.push(b']')?;
+    let source = source_of(alloc, text.as_slice())?;
+    let outcome = call(
+        alloc,
+        &["alone", "--budget", "10"],
+        source,
+        roomy_sink(alloc)?,
+    )?;
+    Ok(outcome)
+}
+
+/// The site's bracket is the first level.
+#[test]
+fn levels(rt: HostRuntime) -> Result<(), Fail> {
+    let within = nested(rt.alloc(), 199)?;
+    within.expect(&rt, 0, "quiescent\n", "");
+    let above = nested(rt.alloc(), 200)?;
+    above.expect(&rt, 1, "", "grammar 2 at 215\n");
+    Ok(())
 }

@@ -130,3 +130,12 @@ fn an_agent_asks_a_shop(rt: HostRuntime) -> Result<(), Fail> {
     let expected = "log(shop, cheap)\nlog(home, agent)\nquiescent\n";
     expect_run(&rt, rt.alloc(), text, expected, 8)
 }
+
+/// Of each site its places' processes are poured before its own.
+#[test]
+fn the_order_of_an_opening(rt: HostRuntime) -> Result<(), Fail> {
+    let text = "observe out/1; site a [ m[ none : out(m) ] : out(a) ] \
+        site b [ n[ none : out(n) ] : out(b) ]";
+    let expected = "out(m)\nout(a)\nout(n)\nout(b)\nquiescent\n";
+    expect_run(&rt, rt.alloc(), text, expected, 0)
+}
