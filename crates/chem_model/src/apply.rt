@@ -18,7 +18,7 @@ use crate::program::Program;
 use crate::term::{Proc, ProcNode};
 use std::alloc::Global;
 
-pub(crate) fn same_atom(one: AtomId, other: AtomId) -> bool
+pub fn same_atom(one: AtomId, other: AtomId) -> bool
     ensures { result ≡ same_atom one other }
 {
     one.site == other.site && one.k == other.k
@@ -41,7 +41,7 @@ pub(crate) fn same_ref(one: Ref, other: Ref) -> bool
 }
 
 /// The message or request with this number.
-pub(crate) fn atom_at(atoms: &NumberedAtoms, id: AtomId) -> Option<&NumberedAtom>
+pub fn atom_at(atoms: &NumberedAtoms, id: AtomId) -> Option<&NumberedAtom>
     ensures { option_copied result ≡ atom_at atoms.now id }
 {
     for atom in atoms.as_slice() {
@@ -138,7 +138,7 @@ fn received_at(
 
 /// The names received where there is one message for each pattern, in order, each at the location.
 #[tactic(auto, using(crate::proofs::Drops::received_more))]
-pub(crate) fn received_all(
+pub fn received_all(
     alloc: Global,
     atoms: &NumberedAtoms,
     at: Loc,
@@ -203,14 +203,14 @@ fn with_marks(alloc: Global, at: Loc, places: &PlacedList) -> Result<PlacedList,
 }
 
 /// The message without arguments that a request becomes.
-pub(crate) fn continuation(alloc: Global, cont: Ref) -> Proc
+pub fn continuation(alloc: Global, cont: Ref) -> Proc
     ensures { result ≡ continuation cont }
 {
     Proc::msg(cont, Items::new(alloc))
 }
 
 /// The location that an occurrence is. None where it is another name.
-pub(crate) fn location_of(occurrence: Ref) -> Option<Loc>
+pub fn location_of(occurrence: Ref) -> Option<Loc>
     ensures { result ≡ location_of occurrence }
 {
     match occurrence {
@@ -220,7 +220,8 @@ pub(crate) fn location_of(occurrence: Ref) -> Option<Loc>
 }
 
 impl Numbered {
-    pub(crate) fn rule_at(&self, id: RuleId) -> Option<&NumberedRule>
+    /// The rule with this number.
+    pub fn rule_at(&self, id: RuleId) -> Option<&NumberedRule>
         ensures { option_copied result ≡ rule_at self.now.rules id }
     {
         for rule in self.rules.as_slice() {
@@ -281,14 +282,14 @@ impl Numbered {
     }
 
     /// Whether a location can move: a live location with a host may go to a live root.
-    pub(crate) fn can_go(&self, at: Loc, to: Loc) -> bool
+    pub fn can_go(&self, at: Loc, to: Loc) -> bool
         ensures { result ≡ can_go self.now at to }
     {
         self.is_live(at) && self.host(at).is_some() && self.is_live(to) && self.host(to).is_none()
     }
 
     /// Whether a failure can be detected: at a live location the one of a location that is there and is dead.
-    pub(crate) fn can_detect(&self, at: Loc, of: Loc) -> bool
+    pub fn can_detect(&self, at: Loc, of: Loc) -> bool
         ensures { result ≡ can_detect self.now at of }
     {
         self.is_live(at) && self.is_there(of) && self.is_dead(of)

@@ -1,4 +1,4 @@
-ghost use Rattle.std.specs.Prelude.{◌≡◌, [], ◌∷◌, ◌++◌, ◌<◌, ◌^◌, length, IfOk, OnOk, OnErr, IsTrue, ◌↔◌};
+ghost use Rattle.std.specs.Prelude.{◌≡◌, [], ◌∷◌, ◌++◌, ◌<◌, ◌+◌, ◌^◌, length, take, drop, slice_set, IfOk, OnOk, OnErr, IsTrue, ◌↔◌};
 
 use crate::memory::Memory;
 use std::alloc::Global;
@@ -76,9 +76,46 @@ impl<T: Drop> Items<T> {
         self.items.push(member)?;
         Ok(())
     }
+
+    /// Moves the members of the other list to the end. Where the list would have 2^32 members or more, that is answered
+    /// as want of memory, and both keep theirs.
+    pub fn append(&mut self, other: &mut Items<T>) -> Result<(), Memory>
+        ensures ok { OnOk result (self.new ≡ self.old ++ other.old) }
+        ensures err { OnErr result (self.new ≡ self.old) }
+    {
+        if other.len() > u32::MAX as usize - self.len() {
+            return Err(Memory);
+        }
+        self.items.append(&mut other.items)?;
+        Ok(())
+    }
+
+    /// Keeps at most so many members, the first ones.
+    pub fn truncate(&mut self, count: usize)
+        ensures { self.new ≡ take count self.old }
+    {
+        self.items.truncate(count);
+    }
+
+    /// Takes the member at this index out. The later ones move down.
+    pub fn remove(&mut self, index: usize)
+        requires { index < length self.old }
+        ensures { self.new ≡ take index self.old ++ drop (index + 1) self.old }
+    {
+        self.items.remove(index);
+    }
 }
 
 impl<T: Copy> Items<T> {
+    /// Puts another member in place of the one at this index, where there is one.
+    pub fn set(&mut self, index: usize, member: T)
+        ensures { self.new ≡ slice_set self.old index member }
+    {
+        if let Some(place) = self.items.get_mut(index) {
+            *place = member;
+        }
+    }
+
     /// A list with these members.
     pub fn from_slice(alloc: Global, members: &[T]) -> Result<Items<T>, Memory>
         ensures { IfOk result (λ list. list ≡ members.now) }

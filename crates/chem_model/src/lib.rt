@@ -13,6 +13,7 @@ mod pour;
 mod program;
 mod term;
 
+pub use apply::{atom_at, continuation, location_of, received_all, same_atom};
 pub use commit::meets;
 pub use event::{AtomId, Atoms, Event, Journal, Out, Outs, RuleId};
 pub use items::Items;
@@ -20,7 +21,7 @@ pub use memory::Memory;
 pub use name::{Loc, Name, Names, Nums, Pat, Pats, Ref, Refs, Text, Texts};
 pub use numbered::{
     Counts, Made, Named, Naming, Numbered, NumberedAtom, NumberedAtoms, NumberedRule,
-    NumberedRules, Placed, PlacedList,
+    NumberedRules, Placed, PlacedList, same_loc,
 };
 pub use program::{Program, SeenDecl, SeenDecls, SiteTerm, SiteTerms};
 pub use term::{Defn, DefnNode, Defs, Proc, ProcNode, Procs};

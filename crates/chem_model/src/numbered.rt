@@ -174,14 +174,14 @@ impl Made {
 }
 
 /// Whether two locations are the same.
-pub(crate) fn same_loc(one: Loc, other: Loc) -> bool
+pub fn same_loc(one: Loc, other: Loc) -> bool
     ensures { result ≡ same_loc one other }
 {
     one.site == other.site && one.k == other.k
 }
 
 /// Whether two names are the same.
-pub(crate) fn same_name(one: Name, other: Name) -> bool
+pub fn same_name(one: Name, other: Name) -> bool
     ensures { result ≡ same_name one other }
 {
     match (one, other) {
@@ -301,7 +301,7 @@ impl Numbered {
     }
 
     /// The next number of a site.
-    pub(crate) fn next_of(&self, site: u32) -> u64
+    pub fn next_of(&self, site: u32) -> u64
         ensures { result ≡ slice_index self.now.counts site }
     {
         match self.counts.as_slice().get(site as usize) {

@@ -1,9 +1,9 @@
 // The opening of a program: three walks over its sites, in order.
-ghost use Rattle.std.specs.Prelude.{◌≡◌, ◌++◌, IfOk, OnOk, slice_set};
+ghost use Rattle.std.specs.Prelude.{◌≡◌, ◌++◌, IfOk, OnOk, slice_index, slice_set};
 ghost use Rattle.chem_model.specs.Process.{definitions};
 ghost use Rattle.chem_model.specs.Solution.{root};
 ghost use Rattle.chem_model.specs.Numbered.{standing};
-ghost use Rattle.chem_model.specs.Pour.{pour_at, lay_at};
+ghost use Rattle.chem_model.specs.Pour.{pour_at, lay_at, pour as made_by};
 ghost use Rattle.chem_model.specs.Opening.{counts_of, root_of, roots, root_names, level_names, level_counts, level_births, site_names, named_sites, open_sites, opening};
 
 use crate::event::Outs;
@@ -136,6 +136,29 @@ fn open_sites(
 }
 
 impl Numbered {
+    /// What pouring a process at a location with these names makes, where the root above is this one. Nothing changes.
+    pub fn made_at(
+        &self,
+        alloc: Global,
+        names: &Naming,
+        root: Loc,
+        at: Loc,
+        process: &Proc,
+    ) -> Result<Made, Memory>
+        ensures { IfOk result (λ made. made ≡ made_by self.now.seen root.site root names.now at (slice_index self.now.counts root.site) process.now) }
+    {
+        let mut made = Made {
+            next: self.next_of(root.site),
+            births: Items::new(alloc),
+            named: Items::new(alloc),
+            rules: Items::new(alloc),
+            atoms: Items::new(alloc),
+            outs: Items::new(alloc),
+        };
+        pour(alloc, &mut made, &self.seen, root, names, at, process)?;
+        Ok(made)
+    }
+
     /// The solution with a process poured at a location with these names. The site is the one of the root above.
     pub(crate) fn pour_at(
         self,
