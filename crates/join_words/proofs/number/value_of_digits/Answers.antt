@@ -1,6 +1,6 @@
 use Rattle.std.proofs.Common.{◌<◌, arith, get_or, length}
-use Rattle.join_top.proofs.Numbers.{below, digit-at, digits-of, in_range, one_digit_more}
-use Rattle.join_top.proofs.words.value_of_digits.Goals as goal
+use Rattle.join_words.proofs.Numbers.{below, digit-at, digits-of, in_range, one_digit_more}
+use Rattle.join_words.proofs.number.value_of_digits.Goals as goal
 
 pub overflow_mul-value : goal.overflow_mul-value
 overflow_mul-value c =

@@ -1,0 +1,12 @@
+//! What the words of the command line ask for.
+#![tactic(auto)]
+
+mod answer;
+mod line;
+mod number;
+mod read;
+#[cfg(test)]
+mod tests;
+
+pub use answer::{Asked, By, WordEnd};
+pub use read::read_words;

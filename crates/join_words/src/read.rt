@@ -1,0 +1,100 @@
+// From the texts of a line to what it asks for.
+ghost use Rattle.std.specs.Prelude.{◌≡◌, map, option_map, string_bytes, IfOk, IfSome};
+ghost use Rattle.join_words.specs.Asks.{Answers, IsWithin, asked, by_named, by_or_alone, judged};
+ghost use Rattle.join_words.specs.Command.{line_given};
+
+use crate::answer::{Asked, By, WordEnd};
+use crate::line::{LineTexts, texts_given, texts_of};
+use crate::number::{number, number_unless};
+use std::alloc::Global;
+
+/// The budget of events where none is given.
+const DEFAULT_BUDGET: u32 = 100_000;
+
+/// The largest budget of events.
+const MOST_EVENTS: u32 = 1_000_000;
+
+/// The number of threads where none is given.
+const DEFAULT_WORKERS: u32 = 4;
+
+/// The most threads.
+const MOST_WORKERS: u32 = 16;
+
+/// The most sites of a ring.
+const MOST_SITES: u32 = 64;
+
+fn named(text: &str) -> Option<By>
+    ensures { result ≡ by_named text.now }
+{
+    match text {
+        "alone" => Some(By::Alone),
+        "rounds" => Some(By::Rounds),
+        "run" => Some(By::Run),
+        _ => None,
+    }
+}
+
+fn named_unless(text: Option<&str>) -> Option<By>
+    ensures { result ≡ by_or_alone (option_map (λ s. s.now) text.entry) }
+{
+    match text {
+        None => Some(By::Alone),
+        Some(text) => named(text),
+    }
+}
+
+/// What a line of these texts asks for.
+fn asked_of(given: &LineTexts) -> Option<Asked>
+    ensures asked { result ≡ judged (line_given given.now) }
+    ensures within { IfSome result IsWithin }
+{
+    let budget = number_unless(given.budget, DEFAULT_BUDGET, 0, MOST_EVENTS)?;
+    let workers = number_unless(given.workers, DEFAULT_WORKERS, 1, MOST_WORKERS)?;
+    let mode = given.mode?;
+    if mode == "gen" {
+        let sites = number(given.ring?, 1, MOST_SITES)?;
+        if given.log {
+            return None;
+        }
+        let by = named_unless(given.by)?;
+        return Some(Asked {
+            by,
+            ring: Some(sites),
+            budget,
+            workers,
+            log: false,
+        });
+    }
+    if given.ring.is_some() || given.by.is_some() {
+        return None;
+    }
+    let by = named(mode)?;
+    Some(Asked {
+        by,
+        ring: None,
+        budget,
+        workers,
+        log: given.log,
+    })
+}
+
+/// What the words after the program's name ask for:
+///
+/// ```text
+/// alone|rounds|run [--budget B] [--workers W] [--log]
+/// gen N [--by alone|rounds|run] [--budget B] [--workers W]
+/// ```
+///
+/// The options stand anywhere, each at most once, and with their value in the next word or after `=` in the same one. After
+/// the word `--` every word is a plain word. A number is 1 to 7 decimal digits. B is 0 to 1,000,000, and 100,000 where it
+/// isn't given; W is 1 to 16, and 4 where it isn't given; N is 1 to 64. `--by` is `alone` where it isn't given.
+///
+/// `Form` comes exactly where the words aren't of this form, and `Memory` only for want of memory.
+pub fn read_words(alloc: Global, words: &[String]) -> Result<Asked, WordEnd>
+    ensures asked { Answers (asked (map string_bytes words.now)) result }
+    ensures within { IfOk result IsWithin }
+{
+    let texts = texts_of(alloc, words)?;
+    let given = texts_given(alloc, texts.as_slice())?;
+    asked_of(&given).ok_or(WordEnd::Form)
+}
