@@ -1,5 +1,5 @@
 // Texts of logs, byte for byte. The expected texts were written out by hand.
-use crate::log::log_text_of;
+use crate::log::log_of_parts;
 use chem_model::{AtomId, Event, Items, RuleId};
 use std::test::Fail;
 
@@ -7,7 +7,7 @@ use std::test::Fail;
 fn a_run_without_an_event(rt: HostRuntime) -> Result<(), Fail> {
     let source = b"observe out/0; site s [ none : out() ]";
     let journal = Items::new(rt.alloc());
-    let log = log_text_of(rt.alloc(), source, 10, &journal, b"out()\nquiescent\n")?;
+    let log = log_of_parts(rt.alloc(), source, 10, &journal, b"out()\nquiescent\n")?;
     let want: &[u8] =
         b"joinlog 1\nsource 38\nobserve out/0; site s [ none : out() ]\nbudget 10\nevents 0\ntrace 16\nout()\nquiescent\n";
     assert_eq!(rt; log.as_slice(), want);
@@ -33,7 +33,7 @@ fn an_event_of_each_kind(rt: HostRuntime) -> Result<(), Fail> {
     journal.push(Event::Detect {
         atom: AtomId { site: 7, k: 0 },
     })?;
-    let log = log_text_of(rt.alloc(), b"", 1_000_000, &journal, b"stopped\n")?;
+    let log = log_of_parts(rt.alloc(), b"", 1_000_000, &journal, b"stopped\n")?;
     let want: &[u8] =
         b"joinlog 1\nsource 0\n\nbudget 1000000\nevents 4\nreact 0.2 0.3 4294967295.18446744073709551615\nmove 4294967295.18446744073709551615\nhalt 10.100\ndetect 7.0\ntrace 8\nstopped\n";
     assert_eq!(rt; log.as_slice(), want);
