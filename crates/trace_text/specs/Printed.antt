@@ -4,7 +4,7 @@ use Rattle.trace_history.specs.Kept.{Kept}
 use Rattle.trace_history.specs.Book.{OnSolution}
 use Rattle.trace_text.specs.declared.text.Ending.{Ending}
 use Rattle.trace_text.specs.TraceText.{trace_text}
-use Rattle.trace_text.specs.LogText.{LogParts, Spells}
+use Rattle.trace_text.specs.LogText.{Spells}
 
 -- the text of a book's trace, where the run ends so
 abbrev pub IsTraceOf : Kept → Ending → List ℕ → Type 0
