@@ -1,3 +1,5 @@
 pub mod TraceText
 pub mod LogText
 pub mod Later
+pub mod Bounds
+pub mod Printed

@@ -8,6 +8,6 @@ mod tests;
 mod text;
 mod trace;
 
-pub use log::{log_text_of, one_spelling};
+pub use log::{log_bytes, one_spelling};
 pub use text::{Ending, push_all, push_number};
-pub use trace::run_text;
+pub use trace::{push_ending, trace_bytes};

@@ -1,22 +1,59 @@
-ghost use Rattle.std.specs.Prelude.{◌≡◌, ◌++◌, ℕ, List, length, codes, decimal, IfOk, OnOk};
-ghost use Rattle.trace_text.specs.LogText.{LogParts, Spells, pair_text, atoms_text, event_text, events_text, log_text};
+ghost use Rattle.std.specs.Prelude.{◌≡◌, ◌≤◌, ◌++◌, ℕ, List, length, codes, decimal, IfOk, OnOk};
+ghost use Rattle.chem_model.specs.Each.{Each};
+ghost use Rattle.trace_text.specs.LogText.{LogParts, IsPair, IsAtom, Spells, pair_text, atoms_text, event_text, events_text, log_text};
+ghost use Rattle.trace_text.specs.Bounds.{IsBounded, TakesSome};
+ghost use Rattle.trace_text.specs.Printed.{IsLogOf};
 
-use crate::text::{push_all, push_number};
+use crate::text::{Ending, push_all, push_number};
+use crate::trace::trace_bytes;
+use chem_laws::{event_is_a_reduction, opening_is_a_start};
 use chem_model::{Atoms, Event, Items, Journal, Memory, Text};
 use std::alloc::Global;
+use trace_history::Book;
 
-/// The log of a run: its source, its budget of events, its journal and the text of its trace.
+/// The log of a run: its source, its budget of events, the journal of its book, and the text of its trace, where it
+/// ends so.
 ///
 /// Source and trace stand there as they are, each behind its length in bytes, and the journal behind its length in
 /// events.
-pub fn log_text_of(
+pub fn log_bytes(
+    alloc: Global,
+    source: &[u8],
+    budget: u32,
+    book: &Book,
+    ending: Ending,
+) -> Result<Text, Memory>
+    requires source { length source.now ≤ 1048576 }
+    requires budget { budget ≤ 1000000 }
+    requires events { length book.now.journal ≤ budget }
+    ensures { IfOk result (λ text. IsLogOf source.now budget book.now ending text) }
+{
+    each_reaction_takes(book);
+    let trace = trace_bytes(alloc, book, ending)?;
+    log_of_parts(alloc, source, budget, book.journal(), trace.as_slice())
+}
+
+/// Each reaction of a book's journal takes an atom. It does nothing.
+fn each_reaction_takes(book: &Book)
+    ensures { Each TakesSome book.now.journal }
+{
+    book.replays();
+    let program = book.program();
+    let _ = &program.tops;
+    opening_is_a_start();
+    event_is_a_reduction();
+}
+
+/// The log of these parts, the last of which is the text of a trace.
+pub(crate) fn log_of_parts(
     alloc: Global,
     source: &[u8],
     budget: u32,
     journal: &Journal,
     trace: &[u8],
 ) -> Result<Text, Memory>
-    ensures { IfOk result (λ text. text ≡ log_text (record { source = source.now; budget = budget; events = journal.now; trace = trace.now })) }
+    ensures is { IfOk result (λ text. text ≡ log_text (record { source = source.now; budget = budget; events = journal.now; trace = trace.now })) }
+    ensures bounded { OnOk result (Each IsBounded journal.now) }
 {
     let mut text = Items::new(alloc);
     push_counted(&mut text, b"joinlog 1\nsource ", source)?;
@@ -52,7 +89,8 @@ fn push_counted(text: &mut Text, literal: &[u8], bytes: &[u8]) -> Result<(), Mem
 
 /// Appends a line for each event.
 fn push_events(text: &mut Text, journal: &Journal) -> Result<(), Memory>
-    ensures { OnOk result (text.new ≡ text.old ++ events_text journal.now) }
+    ensures is { OnOk result (text.new ≡ text.old ++ events_text journal.now) }
+    ensures bounded { OnOk result (Each IsBounded journal.now) }
 {
     for event in journal.as_slice() {
         push_event(text, event)?;
@@ -62,7 +100,8 @@ fn push_events(text: &mut Text, journal: &Journal) -> Result<(), Memory>
 
 /// Appends the line of an event.
 fn push_event(text: &mut Text, event: &Event) -> Result<(), Memory>
-    ensures { OnOk result (text.new ≡ text.old ++ event_text event.now) }
+    ensures is { OnOk result (text.new ≡ text.old ++ event_text event.now) }
+    ensures bounded { OnOk result (IsBounded event.now) }
 {
     match event {
         Event::React { rule, took } => {
@@ -88,7 +127,8 @@ fn push_event(text: &mut Text, event: &Event) -> Result<(), Memory>
 
 /// Appends each atom after one space.
 fn push_atoms(text: &mut Text, atoms: &Atoms) -> Result<(), Memory>
-    ensures { OnOk result (text.new ≡ text.old ++ atoms_text atoms.now) }
+    ensures is { OnOk result (text.new ≡ text.old ++ atoms_text atoms.now) }
+    ensures bounded { OnOk result (Each IsAtom atoms.now) }
 {
     for atom in atoms.as_slice() {
         push_all(text, b" ")?;
@@ -99,7 +139,8 @@ fn push_atoms(text: &mut Text, atoms: &Atoms) -> Result<(), Memory>
 
 /// Appends a pair: its site and its number, with a point between.
 fn push_pair(text: &mut Text, site: u32, k: u64) -> Result<(), Memory>
-    ensures { OnOk result (text.new ≡ text.old ++ pair_text site k) }
+    ensures is { OnOk result (text.new ≡ text.old ++ pair_text site k) }
+    ensures bounded { IsPair site k }
 {
     push_number(text, site as u64)?;
     push_all(text, b".")?;

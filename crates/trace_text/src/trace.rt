@@ -1,18 +1,27 @@
 ghost use Rattle.std.specs.Prelude.{◌≡◌, ◌+◌, ◌++◌, codes, decimal, IfOk, OnOk};
 ghost use Rattle.trace_text.specs.TraceText.{place_in, name_text, made_text, names_text, out_text, outs_text, ending_text, trace_text};
 ghost use Rattle.trace_text.specs.Later.{later_text};
+ghost use Rattle.trace_text.specs.Printed.{IsTraceOf};
 
 use crate::names::{binder_of, binder_spelling, is_ranked, place_in, ranked, seen_spelling};
 use crate::text::{Ending, push_all, push_number};
 use chem_model::{Items, Memory, Name, Names, Naming, Out, Outs, Program, Text};
 use std::alloc::Global;
+use trace_history::Book;
 
-/// The text of a run: a line for each observable in order, then how the run ended. Each line ends with a line feed.
+/// The text of a book's trace, where the run ends so: a line for each observable in order, then how the run ended. Each line ends with a line feed.
 ///
 /// A line is the observed name's spelling and, in round brackets, the arguments joined by a comma and a space.
 /// Observed and site-level names are written by their spelling. Any other name has `'` and its rank behind it, which
-/// counts such names from 1 by first appearance in the trace. `named` are the names that were given in the run.
-pub fn run_text(
+/// counts such names from 1 by first appearance in the trace.
+pub fn trace_bytes(alloc: Global, book: &Book, ending: Ending) -> Result<Text, Memory>
+    ensures { IfOk result (λ text. IsTraceOf book.now ending text) }
+{
+    run_text(alloc, book.program(), book.names(), book.trace(), ending)
+}
+
+/// The text of these observables, where `named` are the names that were given in the run.
+fn run_text(
     alloc: Global,
     program: &Program,
     named: &Naming,
@@ -28,7 +37,8 @@ pub fn run_text(
     Ok(text)
 }
 
-fn push_ending(text: &mut Text, ending: Ending) -> Result<(), Memory>
+/// Appends the line of an ending.
+pub fn push_ending(text: &mut Text, ending: Ending) -> Result<(), Memory>
     ensures { OnOk result (text.new ≡ text.old ++ ending_text ending) }
 {
     match ending {
