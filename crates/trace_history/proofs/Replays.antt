@@ -21,6 +21,7 @@ use Rattle.chem_model.specs.Numbered.{standing}
 use Rattle.chem_model.specs.Pour.{pour, pour_at, lay, lay_at}
 use Rattle.chem_model.specs.Opening.{opening, open_sites, level_counts, site_names, named_sites, counts_of, root_of}
 use Rattle.chem_model.specs.Apply.{rule_at, atom_at, received_all, react_received, react_rule, without, without_all, with_hosts, with_marks, can_go, can_detect, move_atom, halt_atom, detect_atom, with_atom, apply, apply_if, replay, replay_from}
+use Rattle.chem_commit.specs.Replaces.{Replaces}
 
 pub replay_from-append : (o : Option Numbered) (es fs : List Event) → replay_from o (es ++ fs) ≡ replay_from (replay_from o es) fs
 replay_from-append o [] fs = refl
@@ -31,6 +32,11 @@ replay_more p es e n m h a = replay_from-append (Some (opening p)) es (e ∷ [])
 
 pub replay_pushed : (p : ProgramTerms) (es fs : List Event) (e made : Event) (n m : Numbered) → replay p es ≡ Some n → fs ≡ es ++ made ∷ [] → made ≡ e → apply n e ≡ Some m → replay p fs ≡ Some m
 replay_pushed p es fs e made n m h f g a = ap (replay p) f ∙ replay_more p es made n m h (ap (apply n) g ∙ a)
+
+-- what is made in place is the event's effect
+pub replaced : (o : Option Numbered) (n m : Numbered) (made : Bool) → Replaces o n made m → made ≡ true → o ≡ Some m
+replaced None n m made h is = let not = h.0 in cc
+replaced (Some after) n m made h is = ap Some (sym h.1)
 
 -- ---- the counts
 

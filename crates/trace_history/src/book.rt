@@ -9,6 +9,7 @@ ghost use Rattle.trace_history.specs.Kept.{is_enabled};
 ghost use Rattle.trace_history.specs.Book.{Commits, OnSolution, IsStuck, IsQuiet, Finds, Replays};
 
 use crate::search::{first_event, is_stuck};
+use chem_commit::make_event;
 use chem_laws::{replay_is_a_run, stuck_is_quiet};
 use chem_model::{Event, Items, Journal, Memory, Name, Naming, Numbered, Outs, Program};
 use std::alloc::Global;
@@ -73,15 +74,19 @@ impl Book {
         ensures done { IfOk result (λ c. Commits self.old event.now c self.new) }
         ensures err { OnErr result (self.new ≡ self.old) }
     {
-        match self.solution.apply(alloc, event)? {
-            Some(after) => {
-                let place = self.journal.len() as u64;
-                let made = event.copy(alloc)?;
-                self.journal.push(made)?;
-                self.solution = after;
-                Ok(Commit::Place(place))
+        let place = self.journal.len();
+        let copy = event.copy(alloc)?;
+        self.journal.push(copy)?;
+        match make_event(alloc, &mut self.solution, event) {
+            Ok(true) => Ok(Commit::Place(place as u64)),
+            Ok(false) => {
+                self.journal.truncate(place);
+                Ok(Commit::NotEnabled)
             }
-            None => Ok(Commit::NotEnabled),
+            Err(memory) => {
+                self.journal.truncate(place);
+                Err(memory)
+            }
         }
     }
 

@@ -1,0 +1,2 @@
+pub mod Replaces
+pub mod Parts

@@ -1,0 +1,66 @@
+// What was made, added at the ends of the lists.
+ghost use Rattle.std.specs.Prelude.{◌≡◌, OnOk, OnErr};
+ghost use Rattle.chem_model.specs.Pour.{add_made};
+ghost use Rattle.chem_commit.specs.Parts.{appended, cut, Keeps};
+
+use chem_model::{Made, Memory, Numbered};
+
+/// Moves what was made to the ends of the lists. On want of memory each list still begins with what it held.
+fn append(solution: &mut Numbered, made: &mut Made) -> Result<(), Memory>
+    ensures ok { OnOk result (solution.new ≡ appended solution.old made.old) }
+    ensures err { OnErr result (Keeps solution.old solution.new) }
+{
+    solution.places.append(&mut made.births)?;
+    solution.named.append(&mut made.named)?;
+    solution.rules.append(&mut made.rules)?;
+    solution.atoms.append(&mut made.atoms)?;
+    solution.trace.append(&mut made.outs)?;
+    Ok(())
+}
+
+/// How many members each list has.
+#[derive(Clone, Copy, Debug)]
+struct Lengths {
+    places: usize,
+    named: usize,
+    rules: usize,
+    atoms: usize,
+    trace: usize,
+}
+
+/// Cuts each list back.
+fn cut_back(solution: &mut Numbered, lengths: Lengths)
+    ensures { solution.new ≡ cut lengths solution.old }
+{
+    solution.places.truncate(lengths.places);
+    solution.named.truncate(lengths.named);
+    solution.rules.truncate(lengths.rules);
+    solution.atoms.truncate(lengths.atoms);
+    solution.trace.truncate(lengths.trace);
+}
+
+/// Adds what was made at a site. On want of memory nothing changes.
+pub(crate) fn add(solution: &mut Numbered, site: u32, made: Made) -> Result<(), Memory>
+    ensures ok { OnOk result (solution.new ≡ add_made solution.old site made) }
+    ensures err { OnErr result (solution.new ≡ solution.old) }
+{
+    let lengths = Lengths {
+        places: solution.places.len(),
+        named: solution.named.len(),
+        rules: solution.rules.len(),
+        atoms: solution.atoms.len(),
+        trace: solution.trace.len(),
+    };
+    let next = made.next;
+    let mut made = made;
+    match append(solution, &mut made) {
+        Ok(()) => {
+            solution.counts.set(site as usize, next);
+            Ok(())
+        }
+        Err(memory) => {
+            cut_back(solution, lengths);
+            Err(memory)
+        }
+    }
+}

@@ -1,0 +1,196 @@
+// What an event pours or marks, found before anything changes.
+ghost use Rattle.std.specs.Prelude.{◌≡◌, [], IfOk, slice_index, Some};
+ghost use Rattle.chem_model.specs.Solution.{root};
+ghost use Rattle.chem_model.specs.Numbered.{standing};
+ghost use Rattle.chem_model.specs.Reduction.{continuation};
+ghost use Rattle.chem_model.specs.Pour.{pour as made_by};
+ghost use Rattle.chem_model.specs.Apply.{rule_at, atom_at, without, without_all, react_rule, with_atom, move_to, move_atom, halt_atom, detect_of, detect_atom};
+ghost use Rattle.chem_commit.specs.Parts.{poured, moved, halted};
+
+use chem_model::{
+    AtomId, Atoms, Items, Loc, Made, Memory, Numbered, NumberedAtom, NumberedRule, ProcNode, Ref,
+    RuleId, atom_at, continuation, location_of, received_all,
+};
+use std::alloc::Global;
+
+/// What an event pours at a location, and the root above, at whose site it is made.
+#[derive(Drop)]
+pub(crate) struct Effect {
+    pub(crate) at: Loc,
+    pub(crate) root: Loc,
+    pub(crate) made: Made,
+}
+
+/// What pouring the continuation of a request makes at a location under this root.
+fn continued(
+    alloc: Global,
+    solution: &Numbered,
+    root: Loc,
+    at: Loc,
+    cont: Ref,
+) -> Result<Made, Memory>
+    ensures { IfOk result (λ made. made ≡ made_by solution.now.seen root.site root [] at (slice_index solution.now.counts root.site) (continuation cont)) }
+{
+    let process = continuation(alloc, cont);
+    solution.made_at(alloc, &Items::new(alloc), root, at, &process)
+}
+
+/// What a rule pours where it takes these messages. None where it can't.
+fn reaction_of(
+    alloc: Global,
+    solution: &Numbered,
+    rule: &NumberedRule,
+    took: &Atoms,
+) -> Result<Option<Effect>, Memory>
+    ensures { IfOk result (λ effect. poured (record solution.now { atoms = without_all took.now solution.now.atoms }) effect ≡ react_rule solution.now took.now (Some rule.now)) }
+{
+    if !solution.is_live(rule.loc) {
+        return Ok(None);
+    }
+    match received_all(alloc, &solution.atoms, rule.loc, &rule.pats, took)? {
+        Some(names) => {
+            let at = rule.loc;
+            let root = solution.root(at);
+            let made = solution.made_at(alloc, &names, root, at, &rule.body)?;
+            Ok(Some(Effect { at, root, made }))
+        }
+        None => Ok(None),
+    }
+}
+
+/// What the rule with this number pours where it takes these messages. None where it isn't there or can't.
+pub(crate) fn reaction(
+    alloc: Global,
+    solution: &Numbered,
+    id: RuleId,
+    took: &Atoms,
+) -> Result<Option<Effect>, Memory>
+    ensures { IfOk result (λ effect. poured (record solution.now { atoms = without_all took.now solution.now.atoms }) effect ≡ react_rule solution.now took.now (rule_at solution.now.rules id)) }
+{
+    match solution.rule_at(id) {
+        Some(rule) => reaction_of(alloc, solution, rule, took),
+        None => Ok(None),
+    }
+}
+
+fn move_to(
+    alloc: Global,
+    solution: &Numbered,
+    id: AtomId,
+    at: Loc,
+    cont: Ref,
+    to: Loc,
+) -> Result<Option<Effect>, Memory>
+    ensures { IfOk result (λ effect. moved solution.now id effect ≡ move_to solution.now id at cont to) }
+{
+    if !solution.can_go(at, to) {
+        return Ok(None);
+    }
+    let made = continued(alloc, solution, to, at, cont)?;
+    Ok(Some(Effect { at, root: to, made }))
+}
+
+fn move_of(
+    alloc: Global,
+    solution: &Numbered,
+    id: AtomId,
+    atom: &NumberedAtom,
+) -> Result<Option<Effect>, Memory>
+    ensures { IfOk result (λ effect. moved solution.now id effect ≡ move_atom solution.now id atom.now.loc atom.now.term) }
+{
+    match atom.term.node() {
+        ProcNode::Go { target, cont } => match location_of(*target) {
+            Some(to) => move_to(alloc, solution, id, atom.loc, *cont, to),
+            None => Ok(None),
+        },
+        _ => Ok(None),
+    }
+}
+
+/// What the request to move with this number pours at its location, under the new root. None where it isn't there or can't be met.
+pub(crate) fn departure(
+    alloc: Global,
+    solution: &Numbered,
+    id: AtomId,
+) -> Result<Option<Effect>, Memory>
+    ensures { IfOk result (λ effect. moved solution.now id effect ≡ with_atom (atom_at solution.now.atoms id) (move_atom solution.now id)) }
+{
+    match atom_at(&solution.atoms, id) {
+        Some(atom) => move_of(alloc, solution, id, atom),
+        None => Ok(None),
+    }
+}
+
+fn halt_of(solution: &Numbered, id: AtomId, atom: &NumberedAtom) -> Option<Loc>
+    ensures { halted solution.now id result ≡ halt_atom solution.now id atom.now.loc atom.now.term }
+{
+    match atom.term.node() {
+        ProcNode::Halt => {
+            if solution.is_live(atom.loc) {
+                Some(atom.loc)
+            } else {
+                None
+            }
+        }
+        _ => None,
+    }
+}
+
+/// The location that the request to halt with this number marks. None where it isn't there or can't be met.
+pub(crate) fn failing(solution: &Numbered, id: AtomId) -> Option<Loc>
+    ensures { halted solution.now id result ≡ with_atom (atom_at solution.now.atoms id) (halt_atom solution.now id) }
+{
+    match atom_at(&solution.atoms, id) {
+        Some(atom) => halt_of(solution, id, atom),
+        None => None,
+    }
+}
+
+fn detect_of(
+    alloc: Global,
+    solution: &Numbered,
+    id: AtomId,
+    at: Loc,
+    cont: Ref,
+    of: Loc,
+) -> Result<Option<Effect>, Memory>
+    ensures { IfOk result (λ effect. poured (record solution.now { atoms = without id solution.now.atoms }) effect ≡ detect_of solution.now id at cont of) }
+{
+    if !solution.can_detect(at, of) {
+        return Ok(None);
+    }
+    let root = solution.root(at);
+    let made = continued(alloc, solution, root, at, cont)?;
+    Ok(Some(Effect { at, root, made }))
+}
+
+fn detection_of(
+    alloc: Global,
+    solution: &Numbered,
+    id: AtomId,
+    atom: &NumberedAtom,
+) -> Result<Option<Effect>, Memory>
+    ensures { IfOk result (λ effect. poured (record solution.now { atoms = without id solution.now.atoms }) effect ≡ detect_atom solution.now id atom.now.loc atom.now.term) }
+{
+    match atom.term.node() {
+        ProcNode::Fail { target, cont } => match location_of(*target) {
+            Some(of) => detect_of(alloc, solution, id, atom.loc, *cont, of),
+            None => Ok(None),
+        },
+        _ => Ok(None),
+    }
+}
+
+/// What the request to be told of a failure with this number pours. None where it isn't there or can't be met.
+pub(crate) fn detection(
+    alloc: Global,
+    solution: &Numbered,
+    id: AtomId,
+) -> Result<Option<Effect>, Memory>
+    ensures { IfOk result (λ effect. poured (record solution.now { atoms = without id solution.now.atoms }) effect ≡ with_atom (atom_at solution.now.atoms id) (detect_atom solution.now id)) }
+{
+    match atom_at(&solution.atoms, id) {
+        Some(atom) => detection_of(alloc, solution, id, atom),
+        None => Ok(None),
+    }
+}

@@ -1,0 +1,92 @@
+// An event made in place: first all that takes memory, then what can't fail.
+ghost use Rattle.std.specs.Prelude.{◌≡◌, IfOk, OnErr};
+ghost use Rattle.chem_model.specs.Apply.{rule_at, atom_at, react_rule, with_atom, move_atom, halt_atom, detect_atom, apply};
+ghost use Rattle.chem_commit.specs.Replaces.{Replaces};
+
+use crate::add::add;
+use crate::effect::{departure, detection, failing, reaction};
+use crate::take::{set_host, set_mark, take_out, take_out_all};
+use chem_model::{AtomId, Atoms, Event, Memory, Numbered, RuleId};
+use std::alloc::Global;
+
+/// The messages go, and what the rule pours is there.
+fn react(alloc: Global, solution: &mut Numbered, id: RuleId, took: &Atoms) -> Result<bool, Memory>
+    ensures done { IfOk result (λ made. Replaces (react_rule solution.old took.now (rule_at solution.old.rules id)) solution.old made solution.new) }
+    ensures err { OnErr result (solution.new ≡ solution.old) }
+{
+    match reaction(alloc, solution, id, took)? {
+        Some(effect) => {
+            let count = solution.atoms.len();
+            add(solution, effect.root.site, effect.made)?;
+            take_out_all(&mut solution.atoms, count, took);
+            Ok(true)
+        }
+        None => Ok(false),
+    }
+}
+
+/// The request goes, its location is under another root, and its continuation is poured there.
+fn depart(alloc: Global, solution: &mut Numbered, id: AtomId) -> Result<bool, Memory>
+    ensures done { IfOk result (λ made. Replaces (with_atom (atom_at solution.old.atoms id) (move_atom solution.old id)) solution.old made solution.new) }
+    ensures err { OnErr result (solution.new ≡ solution.old) }
+{
+    match departure(alloc, solution, id)? {
+        Some(effect) => {
+            let atoms = solution.atoms.len();
+            let places = solution.places.len();
+            add(solution, effect.root.site, effect.made)?;
+            take_out(&mut solution.atoms, atoms, id);
+            set_host(&mut solution.places, places, effect.at, effect.root);
+            Ok(true)
+        }
+        None => Ok(false),
+    }
+}
+
+/// The request goes, and its location is marked.
+fn halt(solution: &mut Numbered, id: AtomId) -> bool
+    ensures { Replaces (with_atom (atom_at solution.old.atoms id) (halt_atom solution.old id)) solution.old result solution.new }
+{
+    match failing(solution, id) {
+        Some(at) => {
+            let count = solution.atoms.len();
+            take_out(&mut solution.atoms, count, id);
+            set_mark(&mut solution.places, at);
+            true
+        }
+        None => false,
+    }
+}
+
+/// The request goes, and its continuation is poured at its location.
+fn detect(alloc: Global, solution: &mut Numbered, id: AtomId) -> Result<bool, Memory>
+    ensures done { IfOk result (λ made. Replaces (with_atom (atom_at solution.old.atoms id) (detect_atom solution.old id)) solution.old made solution.new) }
+    ensures err { OnErr result (solution.new ≡ solution.old) }
+{
+    match detection(alloc, solution, id)? {
+        Some(effect) => {
+            let count = solution.atoms.len();
+            add(solution, effect.root.site, effect.made)?;
+            take_out(&mut solution.atoms, count, id);
+            Ok(true)
+        }
+        None => Ok(false),
+    }
+}
+
+/// Makes an event in place where it is possible, and answers whether it was. Where it isn't possible, and on want of
+/// memory, nothing changes.
+pub fn make_event(alloc: Global, solution: &mut Numbered, event: &Event) -> Result<bool, Memory>
+    ensures done { IfOk result (λ made. Replaces (apply solution.old event.now) solution.old made solution.new) }
+    ensures err { OnErr result (solution.new ≡ solution.old) }
+{
+    match event {
+        Event::React { rule, took } => react(alloc, solution, *rule, took),
+        Event::Move { atom } => depart(alloc, solution, *atom),
+        Event::Halt { atom } => {
+            let made = halt(solution, *atom);
+            Ok(made)
+        }
+        Event::Detect { atom } => detect(alloc, solution, *atom),
+    }
+}

@@ -1,0 +1,101 @@
+// Changes of the first members of a list alone: what was appended behind them stays as it is.
+ghost use Rattle.std.specs.Prelude.{◌≡◌, ◌≤◌, ◌++◌, length, take, drop};
+ghost use Rattle.chem_model.specs.Apply.{without, without_all, with_hosts, with_marks};
+ghost use Rattle.chem_commit.specs.Parts.{place_from, hosted, marked};
+
+use chem_model::{AtomId, Atoms, Loc, NumberedAtoms, Placed, PlacedList, same_atom, same_loc};
+
+/// The place of the atom with this number.
+fn place_of(atoms: &NumberedAtoms, id: AtomId) -> Option<usize>
+    ensures { result ≡ place_from id 0 atoms.now }
+{
+    for (index, atom) in atoms.as_slice().iter().enumerate() {
+        if same_atom(atom.id, id) {
+            return Some(index);
+        }
+    }
+    None
+}
+
+/// Takes the atom with this number out of the first ones, and answers how many of these are left.
+pub(crate) fn take_out(atoms: &mut NumberedAtoms, count: usize, id: AtomId) -> usize
+    requires { count ≤ length atoms.old }
+    ensures left { result ≡ length (without id (take count atoms.old)) }
+    ensures out { atoms.new ≡ without id (take count atoms.old) ++ drop count atoms.old }
+{
+    match place_of(atoms, id) {
+        Some(index) => {
+            if index >= count {
+                return count;
+            }
+            atoms.remove(index);
+            count - 1
+        }
+        None => count,
+    }
+}
+
+/// Takes the atoms with these numbers out of the first ones.
+pub(crate) fn take_out_all(atoms: &mut NumberedAtoms, count: usize, took: &Atoms)
+    requires { count ≤ length atoms.old }
+    ensures { atoms.new ≡ without_all took.now (take count atoms.old) ++ drop count atoms.old }
+{
+    let mut left = count;
+    for id in took.as_slice() {
+        left = take_out(atoms, left, *id);
+    }
+}
+
+/// A location's entry, with another host where it is the entry of this location.
+fn hosted(placed: Placed, at: Loc, host: Loc) -> Placed
+    ensures { result ≡ hosted at host placed }
+{
+    if same_loc(placed.loc, at) {
+        Placed {
+            loc: placed.loc,
+            host: Some(host),
+            marked: placed.marked,
+        }
+    } else {
+        placed
+    }
+}
+
+/// A location's entry, marked where it is the entry of this location.
+fn marked(placed: Placed, at: Loc) -> Placed
+    ensures { result ≡ marked at placed }
+{
+    if same_loc(placed.loc, at) {
+        Placed {
+            loc: placed.loc,
+            host: placed.host,
+            marked: true,
+        }
+    } else {
+        placed
+    }
+}
+
+/// Gives a location another host, where it is among the first ones.
+pub(crate) fn set_host(places: &mut PlacedList, count: usize, at: Loc, host: Loc)
+    ensures { places.new ≡ with_hosts at host (take count places.old) ++ drop count places.old }
+{
+    for index in 0..count {
+        if let Some(placed) = places.as_slice().get(index) {
+            let changed = hosted(*placed, at, host);
+            places.set(index, changed);
+        }
+    }
+}
+
+/// Marks a location.
+pub(crate) fn set_mark(places: &mut PlacedList, at: Loc)
+    ensures { places.new ≡ with_marks at places.old }
+{
+    for index in 0..places.len() {
+        if let Some(placed) = places.as_slice().get(index) {
+            let changed = marked(*placed, at);
+            places.set(index, changed);
+        }
+    }
+}
