@@ -1,17 +1,23 @@
-//! Tests of the whole program: worked texts, words and faults, from the bytes read to the bytes written.
+//! Tests of the whole program: worked cases, faults and terms, from the bytes read to the bytes written.
 #![tactic(auto)]
 
 #[cfg(test)]
+mod books;
+#[cfg(test)]
+mod cases;
+#[cfg(test)]
+mod examples;
+#[cfg(test)]
 mod faults;
+#[cfg(test)]
+mod lines;
 #[cfg(test)]
 mod outcome;
 #[cfg(test)]
 mod refusals;
 #[cfg(test)]
-mod sites;
+mod runs;
 #[cfg(test)]
 mod terms;
-#[cfg(test)]
-mod texts;
 #[cfg(test)]
 mod words;

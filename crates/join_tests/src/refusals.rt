@@ -1,122 +1,144 @@
-// Texts that are refused, with the kind and the place of their refusal.
+// Texts that are refused.
 
-use crate::outcome::{Outcome, call, roomy_sink, run, source_of};
-use std::alloc::Global;
-use std::process::Abort;
-use std::test::Fail;
+use crate::cases::{Case, REFUSED};
 
-/// That a text is refused with this line, and nothing is written on `out`.
-fn expect_refused(rt: &impl Abort, alloc: Global, text: &str, line: &str) -> Result<(), Fail> {
-    let run = run(alloc, "10", text)?;
-    run.expect(rt, 1, "", line);
-    assert_eq!(rt; run.events(), None);
-    Ok(())
-}
-
-#[test]
-fn lexical_faults(rt: HostRuntime) -> Result<(), Fail> {
-    let alloc = rt.alloc();
-    expect_refused(&rt, alloc, "site [ $", "lex 2 at 7\n")?;
-    expect_refused(&rt, alloc, "site s [ x() = 0 : 0 ]", "lex 2 at 13\n")?;
-    expect_refused(&rt, alloc, "observe out/256;", "lex 3 at 12\n")
-}
-
-#[test]
-fn texts_that_are_no_sentence(rt: HostRuntime) -> Result<(), Fail> {
-    let alloc = rt.alloc();
-    expect_refused(&rt, alloc, "", "grammar 1 at 0\n")?;
-    expect_refused(&rt, alloc, "site s [ none : 0 ] x", "grammar 1 at 20\n")?;
-    expect_refused(&rt, alloc, "site s [ none : 1 ]", "grammar 1 at 16\n")
-}
-
-#[test]
-fn names_that_are_wrong(rt: HostRuntime) -> Result<(), Fail> {
-    let alloc = rt.alloc();
-    expect_refused(&rt, alloc, "site s [ none : q() ]", "scope 1 at 16\n")?;
-    expect_refused(
-        &rt,
-        alloc,
-        "site a [ x() => 0 and m[ x() => 0 : 0 ] : 0 ]",
-        "scope 2 at 25\n",
-    )?;
-    expect_refused(&rt, alloc, "site s [ s() => 0 : 0 ]", "scope 3 at 9\n")
-}
-
-#[test]
-fn names_that_are_repeated(rt: HostRuntime) -> Result<(), Fail> {
-    let alloc = rt.alloc();
-    expect_refused(
-        &rt,
-        alloc,
-        "observe s/0; site s [ none : 0 ]",
-        "scope 3 at 18\n",
-    )?;
-    expect_refused(&rt, alloc, "site s [ x(u, u) => 0 : 0 ]", "scope 4 at 14\n")?;
-    expect_refused(
-        &rt,
-        alloc,
-        "site s [ x() | x() => 0 : 0 ]",
-        "scope 5 at 15\n",
-    )
-}
-
-/// The fault of a count stands before the unknown name.
-#[test]
-fn counts_that_are_wrong(rt: HostRuntime) -> Result<(), Fail> {
-    let alloc = rt.alloc();
-    expect_refused(
-        &rt,
-        alloc,
-        "site s [ x(u) => 0 : x() | q() ]",
-        "arity 1 at 21\n",
-    )?;
-    expect_refused(
-        &rt,
-        alloc,
-        "site s [ x() => 0 and x(u) => 0 : 0 ]",
-        "arity 2 at 22\n",
-    )
-}
-
-#[test]
-fn names_of_the_other_sort(rt: HostRuntime) -> Result<(), Fail> {
-    let alloc = rt.alloc();
-    expect_refused(&rt, alloc, "site s [ none : s() ]", "arity 3 at 16\n")?;
-    expect_refused(
-        &rt,
-        alloc,
-        "site s [ x() => 0 : go(x, x) ]",
-        "arity 4 at 23\n",
-    )
-}
-
-/// The run of a process within so many parentheses.
-fn nested(alloc: Global, depth: usize) -> Result<Outcome, Fail> {
-    let mut text = Vec::from_slice(alloc, b"site s [ none : ")?;
-    for _ in 0..depth {
-        text.push(b'(')?;
-    }
-    text.push(b'0')?;
-    for _ in 0..depth {
-        text.push(b')')?;
-    }
-    text.push(b']')?;
-    let source = source_of(alloc, text.as_slice())?;
-    let outcome = call(
-        alloc,
-        &["alone", "--budget", "10"],
-        source,
-        roomy_sink(alloc)?,
-    )?;
-    Ok(outcome)
-}
-
-/// The site's bracket is the first level.
-#[test]
-fn levels(rt: HostRuntime) -> Result<(), Fail> {
-    let within = nested(rt.alloc(), 199)?;
-    within.expect(&rt, 0, "quiescent\n", "");
-    let above = nested(rt.alloc(), 200)?;
-    above.expect(&rt, 1, "", "grammar 2 at 215\n");
-    Ok(())
-}
+/// Texts that are refused, with the kind and the place of their refusal.
+pub const REFUSALS: &[Case] = &[
+    // A fault of the grammar before it belongs to a later phase.
+    Case {
+        text: &[(1, "site [ $")],
+        err: "lex 2 at 7\n",
+        ..REFUSED
+    },
+    Case {
+        text: &[(1, "site s [ x() = 0 : 0 ]")],
+        err: "lex 2 at 13\n",
+        ..REFUSED
+    },
+    Case {
+        text: &[(1, "observe out/256;")],
+        err: "lex 3 at 12\n",
+        ..REFUSED
+    },
+    // One byte more than the limit.
+    Case {
+        text: &[(1_048_577, " ")],
+        err: "lex 1 at 1048576\n",
+        ..REFUSED
+    },
+    // A program needs a site.
+    Case {
+        text: &[(1, "")],
+        err: "grammar 1 at 0\n",
+        ..REFUSED
+    },
+    Case {
+        text: &[(1, "site s [ none : 0 ] x")],
+        err: "grammar 1 at 20\n",
+        ..REFUSED
+    },
+    Case {
+        text: &[(1, "site s [ none : 1 ]")],
+        err: "grammar 1 at 16\n",
+        ..REFUSED
+    },
+    // Level 201.
+    Case {
+        text: &[
+            (1, "site s [ none : "),
+            (200, "("),
+            (1, "0"),
+            (200, ")"),
+            (1, " ]"),
+        ],
+        err: "grammar 2 at 215\n",
+        ..REFUSED
+    },
+    Case {
+        text: &[(1, "site s [ none : q() ]")],
+        err: "scope 1 at 16\n",
+        ..REFUSED
+    },
+    // One channel at two locations.
+    Case {
+        text: &[(1, "site a [ x() => 0 and m[ x() => 0 : 0 ] : 0 ]")],
+        err: "scope 2 at 25\n",
+        ..REFUSED
+    },
+    // A location and a channel.
+    Case {
+        text: &[(1, "site s [ s() => 0 : 0 ]")],
+        err: "scope 3 at 9\n",
+        ..REFUSED
+    },
+    Case {
+        text: &[(1, "observe s/0; site s [ none : 0 ]")],
+        err: "scope 3 at 18\n",
+        ..REFUSED
+    },
+    Case {
+        text: &[(1, "site s [ x(u, u) => 0 : 0 ]")],
+        err: "scope 4 at 14\n",
+        ..REFUSED
+    },
+    Case {
+        text: &[(1, "site s [ x() | x() => 0 : 0 ]")],
+        err: "scope 5 at 15\n",
+        ..REFUSED
+    },
+    // The repeated channel stands before its other count.
+    Case {
+        text: &[(1, "site s [ x() | x(u) => 0 : 0 ]")],
+        err: "scope 5 at 15\n",
+        ..REFUSED
+    },
+    // The 65th site.
+    Case {
+        text: &[(
+            1,
+            "site s00 [none:0] site s01 [none:0] site s02 [none:0] site s03 [none:0] site \
+            s04 [none:0] site s05 [none:0] site s06 [none:0] site s07 [none:0] \
+            site s08 [none:0] site s09 [none:0] site s10 [none:0] site s11 \
+            [none:0] site s12 [none:0] site s13 [none:0] site s14 [none:0] site \
+            s15 [none:0] site s16 [none:0] site s17 [none:0] site s18 [none:0] \
+            site s19 [none:0] site s20 [none:0] site s21 [none:0] site s22 \
+            [none:0] site s23 [none:0] site s24 [none:0] site s25 [none:0] site \
+            s26 [none:0] site s27 [none:0] site s28 [none:0] site s29 [none:0] \
+            site s30 [none:0] site s31 [none:0] site s32 [none:0] site s33 \
+            [none:0] site s34 [none:0] site s35 [none:0] site s36 [none:0] site \
+            s37 [none:0] site s38 [none:0] site s39 [none:0] site s40 [none:0] \
+            site s41 [none:0] site s42 [none:0] site s43 [none:0] site s44 \
+            [none:0] site s45 [none:0] site s46 [none:0] site s47 [none:0] site \
+            s48 [none:0] site s49 [none:0] site s50 [none:0] site s51 [none:0] \
+            site s52 [none:0] site s53 [none:0] site s54 [none:0] site s55 \
+            [none:0] site s56 [none:0] site s57 [none:0] site s58 [none:0] site \
+            s59 [none:0] site s60 [none:0] site s61 [none:0] site s62 [none:0] \
+            site s63 [none:0] site s64 [none:0] ",
+        )],
+        err: "scope 6 at 1152\n",
+        ..REFUSED
+    },
+    // The fault of a count stands before the unknown name.
+    Case {
+        text: &[(1, "site s [ x(u) => 0 : x() | q() ]")],
+        err: "arity 1 at 21\n",
+        ..REFUSED
+    },
+    Case {
+        text: &[(1, "site s [ x() => 0 and x(u) => 0 : 0 ]")],
+        err: "arity 2 at 22\n",
+        ..REFUSED
+    },
+    // A location as a channel.
+    Case {
+        text: &[(1, "site s [ none : s() ]")],
+        err: "arity 3 at 16\n",
+        ..REFUSED
+    },
+    // A channel as a location.
+    Case {
+        text: &[(1, "site s [ x() => 0 : go(x, x) ]")],
+        err: "arity 4 at 23\n",
+        ..REFUSED
+    },
+];

@@ -1,8 +1,9 @@
-// Terms and programs: what is made, copied and dropped.
+// Terms, programs and events: what is made, kept, copied and dropped.
 
 use crate::outcome::run;
 use chem_model::{
-    Defn, DefnNode, Defs, Event, Items, Loc, Memory, Name, Names, Out, Proc, ProcNode, Ref,
+    AtomId, Defn, DefnNode, Defs, Event, Items, Loc, Memory, Name, Names, Out, Proc, ProcNode, Ref,
+    RuleId,
 };
 use std::alloc::Global;
 use std::test::Fail;
@@ -113,6 +114,25 @@ fn the_program_of_a_text(rt: HostRuntime) -> Result<(), Fail> {
             .first()
             .map(|declared| declared.count),
         Some(1)
+    );
+    Ok(())
+}
+
+/// The root has the number 0 and the channel 1, so that the rule is 0.2 and the message 0.3.
+#[test]
+fn the_kept_event(rt: HostRuntime) -> Result<(), Fail> {
+    let run = run(
+        rt.alloc(),
+        "10",
+        "observe out/1; site s [ x(u) => out(u) : x(s) ]",
+    )?;
+    let took = match run.first_event() {
+        Some(Event::React { rule, took }) => took.as_slice().first().map(|atom| (*rule, *atom)),
+        _ => None,
+    };
+    assert_eq!(rt;
+        took,
+        Some((RuleId { site: 0, k: 2 }, AtomId { site: 0, k: 3 }))
     );
     Ok(())
 }

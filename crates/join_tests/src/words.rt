@@ -1,4 +1,4 @@
-// The words of the command line.
+// Words that leave the source unread, and rings.
 
 use crate::outcome::{call, roomy_sink, source_of};
 use join_base::Source;
@@ -6,47 +6,33 @@ use std::alloc::Global;
 use std::process::Abort;
 use std::test::Fail;
 
-/// That these words are no line, and that no byte of the source was taken.
-fn expect_usage(rt: &impl Abort, alloc: Global, words: &[&str]) -> Result<(), Fail> {
+/// That no byte of the source is taken, and that the call ends with this status.
+fn expect_unread(rt: &impl Abort, alloc: Global, words: &[&str], status: u8) -> Result<(), Fail> {
     let mut run = call(alloc, words, source_of(alloc, b"abc")?, roomy_sink(alloc)?)?;
-    run.expect(rt, 2, "", "usage: join MODE [N] [OPTIONS]\n");
-    assert_eq!(rt; run.events(), None);
+    assert_eq!(rt; run.ended.status, status);
     let mut buffer = [0u8; 8];
     assert_eq!(rt; run.source.read(&mut buffer), Ok(3));
     Ok(())
 }
 
 #[test]
-fn words_that_are_no_line(rt: HostRuntime) -> Result<(), Fail> {
-    expect_usage(&rt, rt.alloc(), &[])?;
-    expect_usage(&rt, rt.alloc(), &["fly"])?;
-    expect_usage(&rt, rt.alloc(), &["alone", "--budget"])?;
-    expect_usage(&rt, rt.alloc(), &["rounds", "--budget", "10"])?;
-    expect_usage(&rt, rt.alloc(), &["alone", "--budget", "10", "more"])
+fn the_source_is_unread(rt: HostRuntime) -> Result<(), Fail> {
+    expect_unread(&rt, rt.alloc(), &[], 2)?;
+    expect_unread(&rt, rt.alloc(), &["gen"], 2)?;
+    expect_unread(&rt, rt.alloc(), &["alone", "--budget", "1000001"], 2)?;
+    expect_unread(&rt, rt.alloc(), &["rounds"], 2)?;
+    expect_unread(&rt, rt.alloc(), &["gen", "2"], 0)
 }
 
+/// No ring has a refusal: with no event left each of them is stopped.
 #[test]
-fn numbers_that_are_no_budget(rt: HostRuntime) -> Result<(), Fail> {
-    expect_usage(&rt, rt.alloc(), &["alone", "--budget", "1000001"])?;
-    expect_usage(&rt, rt.alloc(), &["alone", "--budget", "00000001"])?;
-    expect_usage(&rt, rt.alloc(), &["alone", "--budget", ""])?;
-    expect_usage(&rt, rt.alloc(), &["alone", "--budget", "+1"])?;
-    expect_usage(&rt, rt.alloc(), &["alone", "--budget", "1x"])
-}
-
-/// The largest budget, and one with leading zeros.
-#[test]
-fn numbers_that_are_a_budget(rt: HostRuntime) -> Result<(), Fail> {
+fn rings_of_all_sizes(rt: HostRuntime) -> Result<(), Fail> {
     let alloc = rt.alloc();
-    for budget in ["1000000", "0000010"] {
-        let source = source_of(alloc, b"site s [ none : 0 ]")?;
-        let run = call(
-            alloc,
-            &["alone", "--budget", budget],
-            source,
-            roomy_sink(alloc)?,
-        )?;
-        run.expect(&rt, 0, "quiescent\n", "");
+    for size in 1u32..65 {
+        let size = format!(in alloc; "{size}")?;
+        let words = ["gen", size.as_str(), "--budget", "0"];
+        let run = call(alloc, &words, source_of(alloc, b"")?, roomy_sink(alloc)?)?;
+        run.expect(&rt, 5, "events 0\nobservables 0\nstopped\n", "");
     }
     Ok(())
 }

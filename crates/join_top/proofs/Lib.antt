@@ -1,4 +1,4 @@
-pub mod Numbers
 pub mod Refusals
 pub mod Leaving
 pub mod Long
+pub mod Reading

@@ -1,3 +1,4 @@
-pub mod Words
+pub mod Task
 pub mod Text
+pub mod Printed
 pub mod RunJoin

@@ -13,10 +13,12 @@ use Rattle.chem_model.specs.Numbered.{erase}
 use Rattle.chem_model.specs.Apply.{replay, states}
 use Rattle.chem_model.specs.Laws.{erase_all}
 use Rattle.site_runner.specs.Schedule.{ScheduleOf}
-use Rattle.trace_text.specs.TraceText.{trace_text}
 use Rattle.trace_text.specs.declared.text.Ending.{Ending}
 use Rattle.trace_text.specs.declared.text.Ending.TheVariants.{Quiescent, Stopped}
-use Rattle.join_top.specs.Text.{IsRefusal, refusal_line}
+use Rattle.join_words.specs.declared.answer.Asked.{Asked}
+use Rattle.join_top.specs.Task.{text_run}
+use Rattle.join_top.specs.Text.{IsRefusal, IsProgramOfText, refusal_line}
+use Rattle.join_top.specs.Printed.{IsWhole}
 
 -- a status comes exactly where a fact holds, but for want of memory, which has the status 6
 pub record ComesExactly (status code : ℕ) (fact : Type 0) : Type 0 where
@@ -60,12 +62,12 @@ abbrev pub EndsAs : ℕ → List Event → Numbered → Ending → Type 0
 EndsAs budget journal n Quiescent = Quiet n.seen (erase n)
 EndsAs budget journal n Stopped = (Quiet n.seen (erase n) → ⊥) × (length journal ≡ budget)
 
--- a run of this program that has ended so, and its text
-pub record IsEnded (budget : ℕ) (p : ProgramTerms) (journal : List Event) (text : List ℕ) (ending : Ending) : Type 0 where
+-- a run that was asked for of the program of this source, which has ended so, and its whole text
+pub record IsEnded (a : Asked) (source : List ℕ) (p : ProgramTerms) (journal : List Event) (text : List ℕ) (ending : Ending) : Type 0 where
   pub solution : Numbered
-  pub is_run : IsRunOf budget p journal solution
-  pub ends : EndsAs budget journal solution ending
-  pub text_is : text ≡ trace_text p solution.named solution.trace ending
+  pub is_run : IsRunOf a.budget p journal solution
+  pub ends : EndsAs a.budget journal solution ending
+  pub whole : IsWhole a source p journal solution ending text
 
 -- the statuses that go with an ending: 0 with a quiet one, 5 with a stopped one, 4 with either
 abbrev pub GoesWith : ℕ → Ending → Type 0
@@ -76,13 +78,16 @@ GoesWith status Stopped = (status ≡ 5) ⊎ (status ≡ 4)
 abbrev pub IsWritten : ℕ → List ℕ → Option (List ℕ) → Option (List ℕ) → Type 0
 IsWritten status text old new = ((status ≡ 4) × GainsPrefix old new text) ⊎ Appends old new text
 
--- what was kept of the run that was asked for, and what was written of its text
-pub record IsKept (asked : Option ℕ) (status : ℕ) (p : ProgramTerms) (journal : List Event) (old new : Option (List ℕ)) : Type 0 where
-  pub budget : ℕ
+-- what was kept of the run that was asked for, where the source told its bytes so, and what was written of its text
+pub record IsKept (asked : Option Asked) (told : Option (List ℕ)) (status : ℕ) (p : ProgramTerms) (journal : List Event) (old new : Option (List ℕ)) : Type 0 where
+  pub task : Asked
+  pub source : List ℕ
   pub text : List ℕ
   pub ending : Ending
-  pub is_asked : asked ≡ Some budget
-  pub is_ended : IsEnded budget p journal text ending
+  pub is_asked : asked ≡ Some task
+  pub is_source : OnTold (text_run task.ring told) (λ t. t ≡ source)
+  pub is_program : IsProgramOfText source p
+  pub is_ended : IsEnded task source p journal text ending
   pub status_is : GoesWith status ending
   pub written : IsWritten status text old new
 

@@ -2,12 +2,14 @@
 #![tactic(auto)]
 
 mod gate;
+mod printed;
 mod run;
+mod task;
 mod text;
 mod top;
-mod words;
 
 pub use gate::{Gate, OpenGate, Phase};
+pub use ring_source::ring_text;
 pub use run::Kept;
 pub use site_runner::How;
 pub use text::one_program;

@@ -1,12 +1,15 @@
 //! A run on one thread, from its program to its text.
-ghost use Rattle.std.specs.Prelude.{◌≡◌, IfOk};
+ghost use Rattle.std.specs.Prelude.{◌≡◌, ◌≤◌, length, IfOk};
+ghost use Rattle.join_top.specs.Task.{WhereRead};
 ghost use Rattle.join_top.specs.RunJoin.{ending_of, IsEnded};
 
+use crate::printed::printed;
 use chem_model::{Journal, Memory, Program, Text};
+use join_words::Asked;
 use site_runner::{How, alone};
 use std::alloc::Global;
 use trace_history::Book;
-use trace_text::{Ending, run_text};
+use trace_text::Ending;
 
 /// What a run leaves: the program of the text that was run, its events, and how it was made.
 #[derive(Drop)]
@@ -35,20 +38,21 @@ fn ending_of(quiet: bool) -> Ending
     }
 }
 
-/// Runs a program with at most so many events.
-pub fn run(alloc: Global, program: &Program, budget: u32) -> Result<Ran, Memory>
+/// Runs the program of a source as it is asked for.
+pub fn run(alloc: Global, asked: &Asked, source: &[u8], program: &Program) -> Result<Ran, Memory>
+    requires source { WhereRead asked.now.ring (length source.now ≤ 1048576) }
+    requires budget { asked.now.budget ≤ 1000000 }
     ensures program { IfOk result (λ ran. ran.kept.program ≡ program.now) }
-    ensures ended { IfOk result (λ ran. IsEnded budget ran.kept.program ran.kept.journal ran.text ran.ending) }
+    ensures ended { IfOk result (λ ran. IsEnded asked.now source.now ran.kept.program ran.kept.journal ran.text ran.ending) }
     ensures how { IfOk result (λ ran. ran.kept.how ≡ How.Alone) }
 {
     let book = Book::start(alloc, program)?;
-    let done = alone(alloc, book, budget)?;
+    let done = alone(alloc, book, asked.budget)?;
     done.book.replays();
     done.book.is_a_run();
     let ending = ending_of(done.book.quiet());
-    let book = done.book;
-    let text = run_text(alloc, book.program(), book.names(), book.trace(), ending)?;
-    let (program, journal) = book.into_parts();
+    let text = printed(alloc, asked, source, &done.book, ending)?;
+    let (program, journal) = done.book.into_parts();
     let kept = Kept {
         program,
         journal,

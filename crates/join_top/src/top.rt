@@ -5,20 +5,17 @@ ghost use Rattle.std.specs.Io.KnownBytes.{Appends};
 ghost use Rattle.join_base.specs.Counts.{Rose};
 ghost use Rattle.site_runner.specs.declared.one_thread.How.TheVariants.{Alone};
 ghost use Rattle.join_base.specs.declared.fault.Kind.TheVariants as kind;
-ghost use Rattle.join_top.specs.Words.{asked};
+ghost use Rattle.join_top.specs.Task.{task, ring_of, text_run, WhereRead, WhereRing};
 ghost use Rattle.join_top.specs.Text.{IsProgramOfText, NamesRefusal, refusal_line as line_of_refusal};
 ghost use Rattle.join_top.specs.RunJoin.{ComesExactly, IsReadToEnd, IsReadOrTooLong, OnTold, has_run, IsEnded, GoesWith, IsWritten, IsKept, IsRefusedWith, line_of, Gains};
 
 use crate::gate::Gate;
 use crate::run::{Kept, Ran, run};
+use crate::task::{task, text_run};
 use crate::text::{program_of, refusal_line};
-use crate::words::asked_budget;
-use join_base::{Front, Kind, ReadEnd, Sink, Source, read_all, write_piece};
+use join_base::{Front, Kind, ReadEnd, Sink, Source, write_piece};
 use std::alloc::Global;
 use trace_text::Ending;
-
-/// The most bytes of a text.
-const MOST_BYTES: u32 = 1_048_576;
 
 const QUIESCENT: u8 = 0;
 
@@ -48,7 +45,7 @@ pub struct Ended {
 /// |---|---|
 /// | 0 | the run ended quiet, and its whole text was written |
 /// | 1 | the text is refused: it has a fault, which the line on `err` names with its place |
-/// | 2 | the words are not of the line's form |
+/// | 2 | the words are not of the line's form, or ask for threads, which can't be had yet |
 /// | 3 | a read failed |
 /// | 4 | a write on `out` failed |
 /// | 5 | the budget is used up and something can still happen; the whole text was written |
@@ -63,19 +60,20 @@ pub fn run_join<S: Source, K: Sink, E: Sink, G: Gate>(
 ) -> Ended
     ensures known { result.status ≤ 6 }
 
-    ensures usage { ComesExactly result.status 2 (asked (map string_bytes words.now) ≡ None) }
+    ensures usage { ComesExactly result.status 2 (task (map string_bytes words.now) ≡ None) }
     ensures unread { result.status ≡ 2 → source.new ≡ source.old }
+    ensures unread_with_gen { WhereRing (ring_of (task (map string_bytes words.now))) (source.new ≡ source.old) }
 
     ensures read_fault { result.status ≡ 3 → Rose (S.faults source.old) (S.faults source.new) }
-    ensures reads_all { has_run result.status ≡ true → IsReadToEnd (S.left source.old) (S.left source.new) }
-    ensures reads_refused { result.status ≡ 1 → IsReadOrTooLong (S.left source.old) (S.left source.new) }
-    ensures reads_partly { (result.status ≡ 3) ⊎ (result.status ≡ 6) → TakesAtMost (S.left source.old) (S.left source.new) 1048576 }
+    ensures reads_all { has_run result.status ≡ true → WhereRead (ring_of (task (map string_bytes words.now))) (IsReadToEnd (S.left source.old) (S.left source.new)) }
+    ensures reads_refused { result.status ≡ 1 → WhereRead (ring_of (task (map string_bytes words.now))) (IsReadOrTooLong (S.left source.old) (S.left source.new)) }
+    ensures reads_partly { (result.status ≡ 3) ⊎ (result.status ≡ 6) → WhereRead (ring_of (task (map string_bytes words.now))) (TakesAtMost (S.left source.old) (S.left source.new) 1048576) }
 
-    ensures refused { result.status ≡ 1 → IsRefusedWith (S.left source.old) (E.held err.old) (E.held err.new) (E.faults err.old) (E.faults err.new) }
-    ensures accepted { IfSome result.kept (λ kept. OnTold (S.left source.old) (λ text. IsProgramOfText text kept.program)) }
+    ensures refused { result.status ≡ 1 → IsRefusedWith (text_run (ring_of (task (map string_bytes words.now))) (S.left source.old)) (E.held err.old) (E.held err.new) (E.faults err.old) (E.faults err.new) }
+    ensures accepted { IfSome result.kept (λ kept. OnTold (text_run (ring_of (task (map string_bytes words.now))) (S.left source.old)) (λ text. IsProgramOfText text kept.program)) }
 
     ensures kept { is_some result.kept ≡ has_run result.status }
-    ensures run { IfSome result.kept (λ kept. IsKept (asked (map string_bytes words.now)) result.status kept.program kept.journal (K.held out.old) (K.held out.new)) }
+    ensures run { IfSome result.kept (λ kept. IsKept (task (map string_bytes words.now)) (S.left source.old) result.status kept.program kept.journal (K.held out.old) (K.held out.new)) }
     ensures how { IfSome result.kept (λ kept. kept.how ≡ Alone) }
 
     ensures write_fault { result.status ≡ 4 → Rose (K.faults out.old) (K.faults out.new) }
@@ -84,10 +82,12 @@ pub fn run_join<S: Source, K: Sink, E: Sink, G: Gate>(
     ensures err_line { (result.status ≡ 1) ⊎ Gains (E.held err.old) (E.held err.new) (E.faults err.old) (E.faults err.new) (line_of result.status) }
     ensures err_untouched { has_run result.status ≡ true → (result.status ≡ 4) ⊎ (err.new ≡ err.old) }
 {
-    let Some(budget) = asked_budget(words) else {
-        return end(err, USAGE, None);
+    let asked = match task(alloc, words) {
+        Ok(Some(asked)) => asked,
+        Ok(None) => return end(err, USAGE, None),
+        Err(_) => return end(err, OUT_OF_MEMORY, None),
     };
-    let text = match read_all(alloc, source, MOST_BYTES) {
+    let text = match text_run(alloc, asked.ring, source) {
         Ok(text) => text,
         Err(ReadEnd::TooLong) => return refuse_long(err),
         Err(ReadEnd::ReadFault) => return end(err, READ_FAULT, None),
@@ -98,7 +98,7 @@ pub fn run_join<S: Source, K: Sink, E: Sink, G: Gate>(
         Err(Front::Refused { kind, place }) => return refuse(alloc, err, kind, place),
         Err(Front::Memory) => return end(err, OUT_OF_MEMORY, None),
     };
-    match run(alloc, &program, budget) {
+    match run(alloc, &asked, text.as_slice(), &program) {
         Err(_) => end(err, OUT_OF_MEMORY, None),
         Ok(ran) => {
             let status = write_text(out, &ran);

@@ -1,0 +1,635 @@
+// The programs of the folder `examples/`, with what they print.
+
+use crate::cases::{Case, QUIET};
+
+/// Each program of `examples/`, run with the default budget.
+pub const EXAMPLES: &[Case] = &[
+    // applet.join
+    Case {
+        words: &["alone"],
+        text: &[(
+            1,
+            r"# A server makes an applet on request and ships it to the client. It is a memo: a location with rules and a state of
+# its own, which moves to the client's site and only then hands out its channels.
+# Look at the end: the server has died, and the memo still answers, since it lives at the client now.
+observe wrote/1; observe died/1; observe shows/1;
+site server [
+  want(place, k) =>
+    def memo [
+      holds(x) | get(r) => holds(x) | r(x) and
+      holds(x) | set(y, r) => holds(y) | r() and
+      here() => k(get, set)
+      : holds(blank) | go(place, here)
+    ] in 0 and
+  blank() => 0 and
+  stop() => halt()
+  : 0
+]
+site client [
+  buy_milk() => 0 and
+  use(get, set) =>
+    def written() => wrote(buy_milk) | stop() | fail(server, later)
+    and later() => died(server) | get(show)
+    and show(x) => shows(x)
+    in set(buy_milk, written)
+  : want(client, use)
+]
+",
+        )],
+        out: r"wrote(buy_milk)
+died(server)
+shows(buy_milk)
+quiescent
+",
+        events: Some(12),
+        ..QUIET
+    },
+    // barrier.join
+    Case {
+        words: &["alone"],
+        text: &[(
+            1,
+            r"# Three runners meet at a barrier: its join pattern waits for all three messages, and then calls all three back.
+# Look at the output: no `starts` comes before the last `ready`, though one runner takes a step more to get ready.
+observe ready/1; observe starts/1;
+site barrier [
+  meet_anna(a) | meet_ben(b) | meet_cleo(c) => a() | b() | c()
+  : 0
+]
+site anna [
+  anna_runs() => starts(anna)
+  : ready(anna) | meet_anna(anna_runs)
+]
+site ben [
+  tie_shoes() => ready(ben) | meet_ben(ben_runs) and
+  ben_runs() => starts(ben)
+  : tie_shoes()
+]
+site cleo [
+  cleo_runs() => starts(cleo)
+  : ready(cleo) | meet_cleo(cleo_runs)
+]
+",
+        )],
+        out: r"ready(anna)
+ready(cleo)
+ready(ben)
+starts(anna)
+starts(ben)
+starts(cleo)
+quiescent
+",
+        events: Some(5),
+        ..QUIET
+    },
+    // both.join
+    Case {
+        words: &["alone"],
+        text: &[(
+            1,
+            r"# Asks two servers at once and goes on when both have answered. Look at `left(x) | right(y)`: each call of `book`
+# makes two channels of its own, so the answers of one call can't be mixed with those of the other.
+observe trip/2;
+site agency [
+  book(fly, stay, k) =>
+    def left(x) | right(y) => k(x, y)
+    in fly(left) | stay(right) and
+  sold(x, y) => trip(x, y)
+  : book(fly_north, stay_north, sold) | book(fly_south, stay_south, sold)
+]
+site airline [
+  fly_north(k) => k(oslo_flight) and
+  fly_south(k) => k(rome_flight) and
+  oslo_flight() => 0 and
+  rome_flight() => 0
+  : 0
+]
+site inns [
+  stay_north(k) => k(oslo_inn) and
+  stay_south(k) => k(rome_inn) and
+  oslo_inn() => 0 and
+  rome_inn() => 0
+  : 0
+]
+",
+        )],
+        out: r"trip(oslo_flight, oslo_inn)
+trip(rome_flight, rome_inn)
+quiescent
+",
+        events: Some(10),
+        ..QUIET
+    },
+    // broadcast.join
+    Case {
+        words: &["alone"],
+        text: &[(
+            1,
+            r"# A station sends each piece of news to all who have subscribed, without any list. Its one message `tell` holds a
+# channel that reaches all so far; a new subscriber is added by a fresh channel that sends to that one and to it.
+# Look at the output: each piece of news reaches the newest subscriber first, and then those before it.
+observe heard/2;
+site station [
+  subscribe(ear, k) | tell(all) =>
+    def more(news) => all(news) | ear(news)
+    in tell(more) | k() and
+  publish(news) | tell(all) => all(news) | tell(all) and
+  nobody(news) => 0
+  : tell(nobody)
+]
+site anna [
+  ear_anna(news) => heard(anna, news) and
+  then_ben() => subscribe(ear_ben, then_cleo)
+  : subscribe(ear_anna, then_ben)
+]
+site ben [
+  ear_ben(news) => heard(ben, news) and
+  then_cleo() => subscribe(ear_cleo, on_air)
+  : 0
+]
+site cleo [
+  ear_cleo(news) => heard(cleo, news) and
+  on_air() => publish(rain) | publish(sun) and
+  rain() => 0 and
+  sun() => 0
+  : 0
+]
+",
+        )],
+        out: r"heard(cleo, rain)
+heard(ben, rain)
+heard(anna, rain)
+heard(cleo, sun)
+heard(ben, sun)
+heard(anna, sun)
+quiescent
+",
+        events: Some(22),
+        ..QUIET
+    },
+    // buffer.join
+    Case {
+        words: &["alone"],
+        text: &[(
+            1,
+            r"# A buffer with two places, two producers and two consumers. A free place is a message `room`, a full one a message
+# `item`: `put` needs a room and `take` an item. Four puts are asked for at once.
+# Look at the output: there are never more than two `stored` ahead of `taken`.
+observe stored/1; observe taken/2;
+site shelf [
+  put(v) | room() => stored(v) | item(v) and
+  item(v) | take(who, k) => taken(who, v) | room() | k()
+  : room() | room()
+]
+site baker [
+  bread() => 0 and
+  roll() => 0
+  : put(bread) | put(roll)
+]
+site brewer [
+  ale() => 0 and
+  cider() => 0
+  : put(ale) | put(cider)
+]
+site anna [
+  anna_again() => take(anna, anna_full) and
+  anna_full() => 0
+  : take(anna, anna_again)
+]
+site ben [
+  ben_again() => take(ben, ben_full) and
+  ben_full() => 0
+  : take(ben, ben_again)
+]
+",
+        )],
+        out: r"stored(bread)
+stored(roll)
+taken(anna, bread)
+stored(ale)
+taken(anna, roll)
+stored(cider)
+taken(ben, ale)
+taken(ben, cider)
+quiescent
+",
+        events: Some(12),
+        ..QUIET
+    },
+    // cell.join
+    Case {
+        words: &["alone"],
+        text: &[(
+            1,
+            r"# A reference cell, made on request. What it holds is the argument of its one message `holds`: a reader or a writer
+# takes that message and puts one back, so no two of them are ever at it together.
+# Look at `new`: each cell has fresh names `holds`, `get` and `set`, and the client learns only the last two.
+observe first/1; observe second/1;
+site store [
+  new(v, k) =>
+    def holds(x) | get(r) => holds(x) | r(x)
+    and holds(x) | set(y, r) => holds(y) | r()
+    in holds(v) | k(get, set)
+  : 0
+]
+site client [
+  tea() => 0 and
+  milk() => 0 and
+  use(get, set) =>
+    def old(x) => first(x) | set(milk, written)
+    and written() => get(present)
+    and present(x) => second(x)
+    in get(old)
+  : new(tea, use)
+]
+",
+        )],
+        out: r"first(tea)
+second(milk)
+quiescent
+",
+        events: Some(8),
+        ..QUIET
+    },
+    // choice.join
+    Case {
+        words: &["alone"],
+        text: &[(
+            1,
+            r"# One ticket and two rules that want it. Either may take it, and the other then waits for good.
+# The language leaves open which one does. `alone` takes the rule that stands first, so it always prints the same.
+observe seat/1;
+site theatre [
+  ticket() | ask_anna() => seat(anna) and
+  ticket() | ask_ben() => seat(ben) and
+  anna() => 0 and
+  ben() => 0
+  : ask_ben() | ask_anna() | ticket()
+]
+",
+        )],
+        out: r"seat(anna)
+quiescent
+",
+        events: Some(1),
+        ..QUIET
+    },
+    // counter.join
+    Case {
+        words: &["alone"],
+        text: &[(
+            1,
+            r"# Counting without numbers. A number is a channel that takes two answers: zero calls the first one, and the successor
+# of n, which is a fresh channel, hands n to the second one. The counter holds its number in one message `count`.
+# Look at `print`: it goes down the number by recursion, with a fresh `rest` at each step and one line for each one.
+observe one/0; observe end/0;
+site counter [
+  zero(none_left, some) => none_left() and
+  count(n) | up(k) =>
+    def successor(none_left, some) => some(n)
+    in count(successor) | k() and
+  count(n) | read(k) => count(n) | k(n)
+  : count(zero)
+]
+site user [
+  twice() => up(thrice) and
+  thrice() => up(enough) and
+  enough() => read(print) and
+  print(n) =>
+    def rest(m) => one() | print(m)
+    in n(stop, rest) and
+  stop() => end()
+  : up(twice)
+]
+",
+        )],
+        out: r"one()
+one()
+one()
+end()
+quiescent
+",
+        events: Some(19),
+        ..QUIET
+    },
+    // failover.join
+    Case {
+        words: &["alone"],
+        text: &[(
+            1,
+            r"# A boss sends a worker to a site and watches it. Where the worker is found dead, the boss hires another one for a
+# spare site. The first worker dies since its host halts while it is there; `fail` sees that from outside.
+# Look at the names: both workers come from one `def`, and are two fresh locations, worker'1 and worker'2.
+observe sent/2; observe lost/1; observe done/2;
+site boss [
+  hire(host, job) =>
+    def worker [
+      here() => job(finished) and
+      finished() => done(worker, host)
+      : go(host, here)
+    ]
+    and gone() => lost(worker) | next()
+    in sent(worker, host) | fail(worker, gone) and
+  next() | spare(host, job) => hire(host, job)
+  : hire(alpha, job_alpha) | spare(beta, job_beta)
+]
+site alpha [
+  job_alpha(k) => halt()
+  : 0
+]
+site beta [
+  job_beta(k) => k()
+  : 0
+]
+",
+        )],
+        out: r"sent(worker'1, alpha)
+lost(worker'1)
+sent(worker'2, beta)
+done(worker'2, beta)
+quiescent
+",
+        events: Some(13),
+        ..QUIET
+    },
+    // first.join
+    Case {
+        words: &["alone"],
+        text: &[(
+            1,
+            r"# The smallest whole program. The message x(s) meets the rule x(u) => out(u): it is taken,
+# and the body stands in its place with s for u. So out(s) appears, and out is observed.
+observe out/1; site s [ x(u) => out(u) : x(s) ]
+",
+        )],
+        out: r"out(s)
+quiescent
+",
+        events: Some(1),
+        ..QUIET
+    },
+    // lock.join
+    Case {
+        words: &["alone"],
+        text: &[(
+            1,
+            r"# A lock is one message `free`. Whoever takes it gets the channel that gives it back, and nobody else can go in before.
+# Look at the output: each `enters` is followed by the `leaves` of the same site, whatever the schedule.
+observe enters/1; observe leaves/1;
+site door [
+  free() | lock(k) => k(unlock) and
+  unlock() => free()
+  : free()
+]
+site anna [
+  anna_in(unlock) => enters(anna) | anna_out(unlock) and
+  anna_out(unlock) => leaves(anna) | unlock()
+  : lock(anna_in)
+]
+site ben [
+  ben_in(unlock) => enters(ben) | ben_out(unlock) and
+  ben_out(unlock) => leaves(ben) | unlock()
+  : lock(ben_in)
+]
+",
+        )],
+        out: r"enters(anna)
+leaves(anna)
+enters(ben)
+leaves(ben)
+quiescent
+",
+        events: Some(8),
+        ..QUIET
+    },
+    // philosophers.join
+    Case {
+        words: &["alone"],
+        text: &[(
+            1,
+            r"# Three philosophers and three forks. A philosopher takes both forks in one reaction, or none: nobody holds one fork
+# and waits for the other, so they can't block each other. Look at the patterns of three messages at the table.
+observe eats/1; observe thinks/1;
+site table [
+  fork_a() | fork_b() | seat_plato(k) => k() and
+  fork_b() | fork_c() | seat_hume(k) => k() and
+  fork_c() | fork_a() | seat_kant(k) => k()
+  : fork_a() | fork_b() | fork_c()
+]
+site plato [
+  plato_eats() => eats(plato) | plato_full() and
+  plato_full() => thinks(plato) | fork_a() | fork_b()
+  : seat_plato(plato_eats)
+]
+site hume [
+  hume_eats() => eats(hume) | hume_full() and
+  hume_full() => thinks(hume) | fork_b() | fork_c()
+  : seat_hume(hume_eats)
+]
+site kant [
+  kant_eats() => eats(kant) | kant_full() and
+  kant_full() => thinks(kant) | fork_c() | fork_a()
+  : seat_kant(kant_eats)
+]
+",
+        )],
+        out: r"eats(plato)
+thinks(plato)
+eats(hume)
+thinks(hume)
+eats(kant)
+thinks(kant)
+quiescent
+",
+        events: Some(9),
+        ..QUIET
+    },
+    // postman.join
+    Case {
+        words: &["alone"],
+        text: &[(
+            1,
+            r"# What goes along when a location moves: its rules, the messages that wait in it, and its requests. Two letters reach
+# the postman at the office, but his rule wants `at` too, which he sends only when he has arrived in the village.
+# Look at `closed`: his request `fail(office, ..)` moved with him, and sees from the village that the office died.
+observe handed/2; observe closed/1;
+site office [
+  postman [
+    letter(v) | at(town) => handed(v, town) | at(town) and
+    arrived() => at(village) | close() and
+    gone() => closed(office)
+    : go(village, arrived) | fail(office, gone)
+  ] and
+  card() => 0 and
+  bill() => 0 and
+  close() => halt()
+  : letter(card) | letter(bill)
+]
+site village [
+  none
+  : 0
+]
+",
+        )],
+        out: r"handed(card, village)
+handed(bill, village)
+closed(office)
+quiescent
+",
+        events: Some(8),
+        ..QUIET
+    },
+    // replies.join
+    Case {
+        words: &["alone"],
+        text: &[(
+            1,
+            r"# A bank opens a fresh channel for each caller, and each caller asks on it with a fresh channel for the reply.
+# Look at the printed names: a fresh name is its spelling, ' and a rank, so that two names of one spelling are told
+# apart. What is asked of account'1 is answered by its own owner, never by that of account'2.
+observe opened/2; observe owner/2;
+site bank [
+  open(who, k) =>
+    def account(reply) => reply(who)
+    in opened(who, account) | k(account)
+  : 0
+]
+site anna [
+  hers(account) =>
+    def reply(who) => owner(account, who)
+    in account(reply)
+  : open(anna, hers)
+]
+site ben [
+  his(account) =>
+    def reply(who) => owner(account, who)
+    in account(reply)
+  : open(ben, his)
+]
+",
+        )],
+        out: r"opened(anna, account'1)
+opened(ben, account'2)
+owner(account'1, anna)
+owner(account'2, ben)
+quiescent
+",
+        events: Some(8),
+        ..QUIET
+    },
+    // ring.join
+    Case {
+        words: &["alone"],
+        text: &[(
+            1,
+            r"# Three stations share one line. Only who holds the token may speak, and then hands it on to the next station.
+# Look at the output: they speak in turn, though all words are there from the start. In the end the token waits at
+# the first station, which has nothing left to say.
+observe line/2;
+site anna [
+  token_anna() | say_anna(word) => line(anna, word) | token_ben() and
+  hello() => 0 and
+  bye() => 0
+  : say_anna(hello) | say_anna(bye) | token_anna()
+]
+site ben [
+  token_ben() | say_ben(word) => line(ben, word) | token_cleo()
+  : say_ben(hello) | say_ben(bye)
+]
+site cleo [
+  token_cleo() | say_cleo(word) => line(cleo, word) | token_anna()
+  : say_cleo(hello) | say_cleo(bye)
+]
+",
+        )],
+        out: r"line(anna, hello)
+line(ben, hello)
+line(cleo, hello)
+line(anna, bye)
+line(ben, bye)
+line(cleo, bye)
+quiescent
+",
+        events: Some(6),
+        ..QUIET
+    },
+    // tour.join
+    Case {
+        words: &["alone"],
+        text: &[(
+            1,
+            r"# An agent tours three sites and comes home. It doesn't know its way: in each town it asks for the next town and for
+# the road on from there. Look at `travel`: `here` is made in the agent and moves with it, so the message that a move
+# ends with finds it where the agent has arrived.
+observe seen/2;
+site home [
+  agent [
+    travel(town, road) =>
+      def here() => seen(agent, town) | road(travel)
+      in go(town, here)
+    : travel(oslo, from_oslo)
+  ] and
+  from_home(next) => 0
+  : 0
+]
+site oslo [
+  from_oslo(next) => next(paris, from_paris)
+  : 0
+]
+site paris [
+  from_paris(next) => next(rome, from_rome)
+  : 0
+]
+site rome [
+  from_rome(next) => next(home, from_home)
+  : 0
+]
+",
+        )],
+        out: r"seen(agent, oslo)
+seen(agent, paris)
+seen(agent, rome)
+seen(agent, home)
+quiescent
+",
+        events: Some(16),
+        ..QUIET
+    },
+    // wreck.join
+    Case {
+        words: &["alone"],
+        text: &[(
+            1,
+            r"# What a halt stops. The ship halts once the rat is ashore. Then the ship is dead, and so is the crew, whom it hosts;
+# the rat moved away before, and lives. Look at what doesn't come: `call` stays with the dead crew unanswered, and
+# `fail(rat, ..)` waits for good.
+observe alive/1; observe dead/1;
+site ship [
+  rat [
+    ashore() => alive(rat) | sink()
+    : go(shore, ashore)
+  ] and
+  crew [
+    call() => alive(crew)
+    : 0
+  ] and
+  sink() => halt()
+  : 0
+]
+site shore [
+  ship_dead() => dead(ship) | call() and
+  crew_dead() => dead(crew) and
+  rat_dead() => dead(rat)
+  : fail(ship, ship_dead) | fail(crew, crew_dead) | fail(rat, rat_dead)
+]
+",
+        )],
+        out: r"alive(rat)
+dead(ship)
+dead(crew)
+quiescent
+",
+        events: Some(8),
+        ..QUIET
+    },
+];

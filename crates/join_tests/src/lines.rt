@@ -1,0 +1,245 @@
+// Words of the command line.
+
+use crate::cases::{Case, QUIET, USAGE};
+
+/// Lines of words: what they ask for, or that they ask for nothing.
+pub const LINES: &[Case] = &[
+    // The default budget.
+    Case {
+        words: &["--", "alone"],
+        text: &[(1, "observe out/1; site s [ x(u) => out(u) : x(s) ]")],
+        out: "out(s)\nquiescent\n",
+        events: Some(1),
+        ..QUIET
+    },
+    Case {
+        words: &["--budget=0000001", "alone"],
+        text: &[(1, "observe out/1; site s [ x(u) => out(u) : x(s) ]")],
+        out: "out(s)\nquiescent\n",
+        events: Some(1),
+        ..QUIET
+    },
+    // Workers are taken and not used.
+    Case {
+        words: &["alone", "--workers", "16", "--budget", "1000000"],
+        text: &[(1, "observe out/1; site s [ x(u) => out(u) : x(s) ]")],
+        out: "out(s)\nquiescent\n",
+        events: Some(1),
+        ..QUIET
+    },
+    // The log in place of the trace.
+    Case {
+        words: &["alone", "--budget", "10", "--log"],
+        text: &[(1, "observe out/0; site s [ none : out() ]")],
+        out: "joinlog 1\nsource 38\nobserve out/0; site s [ none : out() ]\nbudget 10\n\
+            events 0\ntrace 16\nout()\nquiescent\n",
+        events: Some(0),
+        ..QUIET
+    },
+    Case {
+        words: &["--log", "alone", "--budget", "10"],
+        text: &[(1, "observe out/1; site s [ x(u) => out(u) : x(s) ]")],
+        out: "joinlog 1\nsource 47\nobserve out/1; site s [ x(u) => out(u) : x(s) ]\nbudget \
+            10\nevents 1\nreact 0.2 0.3\ntrace 17\nout(s)\nquiescent\n",
+        events: Some(1),
+        ..QUIET
+    },
+    // A move, and a run that is stopped.
+    Case {
+        words: &["alone", "--budget", "1", "--log"],
+        text: &[(
+            1,
+            "observe out/1; site a [ m[ k() => out(m) : go(b, k) ] : 0 ] site b [ none : 0 ]",
+        )],
+        status: 5,
+        out: "joinlog 1\nsource 79\nobserve out/1; site a [ m[ k() => out(m) : go(b, k) ] : \
+            0 ] site b [ none : 0 ]\nbudget 1\nevents 1\nmove 0.4\ntrace 8\n\
+            stopped\n",
+        events: Some(1),
+        ..QUIET
+    },
+    // A ring of 64 sites: the source is not read.
+    Case {
+        words: &["gen", "64", "--budget", "1000", "--by", "alone"],
+        text: &[(1, "this is not read")],
+        out: "events 640\nobservables 64\nquiescent\n",
+        events: Some(640),
+        ..QUIET
+    },
+    Case {
+        words: &["gen", "1"],
+        text: &[(1, "this is not read")],
+        out: "events 10\nobservables 1\nquiescent\n",
+        events: Some(10),
+        ..QUIET
+    },
+    Case {
+        words: &["--budget", "0", "gen", "5"],
+        text: &[(1, "this is not read")],
+        status: 5,
+        out: "events 0\nobservables 0\nstopped\n",
+        events: Some(0),
+        ..QUIET
+    },
+    Case {
+        words: &["fly"],
+        text: &[(1, "site s [ none : 0 ]")],
+        ..USAGE
+    },
+    Case {
+        words: &[],
+        text: &[(1, "site s [ none : 0 ]")],
+        ..USAGE
+    },
+    Case {
+        words: &["gen"],
+        text: &[(1, "site s [ none : 0 ]")],
+        ..USAGE
+    },
+    Case {
+        words: &["alone", "--budget", "1000001"],
+        text: &[(1, "site s [ none : 0 ]")],
+        ..USAGE
+    },
+    Case {
+        words: &["alone", "--budget", "00000001"],
+        text: &[(1, "site s [ none : 0 ]")],
+        ..USAGE
+    },
+    Case {
+        words: &["alone", "--budget="],
+        text: &[(1, "site s [ none : 0 ]")],
+        ..USAGE
+    },
+    Case {
+        words: &["alone", "--budget", "-1"],
+        text: &[(1, "site s [ none : 0 ]")],
+        ..USAGE
+    },
+    Case {
+        words: &["alone", "--budget", "+1"],
+        text: &[(1, "site s [ none : 0 ]")],
+        ..USAGE
+    },
+    Case {
+        words: &["alone", "--budget", "1x"],
+        text: &[(1, "site s [ none : 0 ]")],
+        ..USAGE
+    },
+    Case {
+        words: &["alone", "--budget"],
+        text: &[(1, "site s [ none : 0 ]")],
+        ..USAGE
+    },
+    Case {
+        words: &["alone", "--budget", "5", "--budget=5"],
+        text: &[(1, "site s [ none : 0 ]")],
+        ..USAGE
+    },
+    Case {
+        words: &["alone", "--log", "--log"],
+        text: &[(1, "site s [ none : 0 ]")],
+        ..USAGE
+    },
+    Case {
+        words: &["alone", "--log="],
+        text: &[(1, "site s [ none : 0 ]")],
+        ..USAGE
+    },
+    Case {
+        words: &["-"],
+        text: &[(1, "site s [ none : 0 ]")],
+        ..USAGE
+    },
+    Case {
+        words: &["alone", "more"],
+        text: &[(1, "site s [ none : 0 ]")],
+        ..USAGE
+    },
+    Case {
+        words: &["alone", "5"],
+        text: &[(1, "site s [ none : 0 ]")],
+        ..USAGE
+    },
+    Case {
+        words: &["alone", "--", "--log"],
+        text: &[(1, "site s [ none : 0 ]")],
+        ..USAGE
+    },
+    Case {
+        words: &["alone", "--workers", "17"],
+        text: &[(1, "site s [ none : 0 ]")],
+        ..USAGE
+    },
+    Case {
+        words: &["alone", "--workers", "0"],
+        text: &[(1, "site s [ none : 0 ]")],
+        ..USAGE
+    },
+    Case {
+        words: &["alone", "--by", "alone"],
+        text: &[(1, "site s [ none : 0 ]")],
+        ..USAGE
+    },
+    Case {
+        words: &["gen", "0"],
+        text: &[(1, "site s [ none : 0 ]")],
+        ..USAGE
+    },
+    Case {
+        words: &["gen", "65"],
+        text: &[(1, "site s [ none : 0 ]")],
+        ..USAGE
+    },
+    Case {
+        words: &["gen", "5", "6"],
+        text: &[(1, "site s [ none : 0 ]")],
+        ..USAGE
+    },
+    Case {
+        words: &["gen", "5", "--log"],
+        text: &[(1, "site s [ none : 0 ]")],
+        ..USAGE
+    },
+    Case {
+        words: &["gen", "5", "--by", "gen"],
+        text: &[(1, "site s [ none : 0 ]")],
+        ..USAGE
+    },
+    Case {
+        words: &["--help"],
+        text: &[(1, "site s [ none : 0 ]")],
+        ..USAGE
+    },
+    Case {
+        words: &["-h"],
+        text: &[(1, "site s [ none : 0 ]")],
+        ..USAGE
+    },
+    Case {
+        words: &["alone", "--budge", "5"],
+        text: &[(1, "site s [ none : 0 ]")],
+        ..USAGE
+    },
+    // Well formed, but threads can not be had yet.
+    Case {
+        words: &["rounds"],
+        text: &[(1, "site s [ none : 0 ]")],
+        ..USAGE
+    },
+    Case {
+        words: &["run", "--workers=2", "--log"],
+        text: &[(1, "site s [ none : 0 ]")],
+        ..USAGE
+    },
+    Case {
+        words: &["gen", "5", "--by", "rounds"],
+        text: &[(1, "site s [ none : 0 ]")],
+        ..USAGE
+    },
+    Case {
+        words: &["gen", "5", "--by=run"],
+        text: &[(1, "site s [ none : 0 ]")],
+        ..USAGE
+    },
+];
