@@ -21,7 +21,7 @@ use Rattle.scope_check.specs.Twin.{Table, site_terms_in, level_uses_in}
 use Rattle.scope_check.specs.Clashes.{clashes_in}
 use Rattle.scope_check.specs.Naming.{Level, name_all, walk_level}
 use Rattle.join_parse.specs.declared.word.SeenTree.{SeenTree}
-use Rattle.scope_check.specs.Checked.{most_sites, IsProgramOf, OneOutcome}
+use Rattle.scope_check.specs.Checked.{most_sites, no_literals, IsProgramOf, OneOutcome}
 use Rattle.scope_check.proofs.Lists.{append-nil, none_left, none_right}
 use Rattle.scope_check.proofs.Folds.{first-append}
 use Rattle.scope_check.proofs.Declares.{all_clashes}
@@ -30,17 +30,18 @@ use Rattle.scope_check.proofs.Own.{DefinesAll, own_all}
 use Rattle.scope_check.proofs.Uses.{level-uses-are}
 use Rattle.scope_check.proofs.Sorts.{Has, has-right, Settled, settled}
 use Rattle.scope_check.proofs.Same.{first-fault}
+use Rattle.scope_check.proofs.Good.{LiteralsFine}
 use Rattle.scope_check.proofs.Outermost.{first_pass, second_pass, tables_of, passes-so}
 use Rattle.scope_check.proofs.Program.{no-fault, program-kept}
 
 -- the faults of all walks, one after the other
 pub all-noted : (t : TreeOfText) (a b c d : Option Fault) → a ≡ first_of None (many (drop most_sites t.sites)) → b ≡ first_of a (clashes_in [] (outermost t)) → c ≡ first_of b (level_faults (sites_of t.sites))
-    → d ≡ first_of c (level_uses_in (tables_of t) ((second_pass t).own ∷ []) 1 (sites_of t.sites)) → d ≡ first_of None (fault_list most_sites t)
+    → d ≡ first_of c (level_uses_in (tables_of t) ((second_pass t).own ∷ []) 1 (sites_of t.sites)) → d ≡ first_of None (fault_list most_sites no_literals t)
 all-noted t a b c d p q r u =
     let passes = passes-so t in
     let names = clashes [] (outermost t) in
     let within = level_faults (sites_of t.sites) in
-    let used = use_faults (uses_of t) in
+    let used = use_faults (uses_of no_literals t) in
     let above = many (drop most_sites t.sites) in
     let uses : level_uses_in (tables_of t) ((second_pass t).own ∷ []) 1 (sites_of t.sites) ≡ used =
     level-uses-are (index_of (binders t)) (tables_of t) (sites_of t.sites) ((second_pass t).own ∷ []) (open_at 0 (outermost t) []) 1 (passes.own, tt) passes.fit in
@@ -58,7 +59,7 @@ defines-all number names fixed front back d e b =
 
 sites-are : (number : Binder → ℕ) (tables : List Table) (own : Table) (names : List Defining) (env : List Scope) (around : List Table) (xs : List PlaceTree) (k : ℕ)
     → StandsFor number own 0 names → AllOwnDefined number names (sites_of xs) → EnvStandsFor number around env → LevelFits number tables k (sites_of xs)
-    → site_terms_in tables own around k xs ≡ site_terms number env k xs
+    → site_terms_in tables own around k xs ≡ site_terms number no_literals env k xs
 sites-are number tables own names env around [] k g o h f = refl
 sites-are number tables own names env around (x ∷ xs) k g o h f =
     let ds = s.definitions x.defs in
@@ -70,7 +71,7 @@ sites-are number tables own names env around (x ∷ xs) k g o h f =
       body = together (members-are number tables ps around env n h f.0.1 i);
     } ∷ sites-are number tables own names env around xs (k + scopes_in_def (place_of x)) g o.1 h f.1 i
 
-terms-are : (t : TreeOfText) → clashes [] (outermost t) ≡ [] → site_terms_in (tables_of t) (second_pass t).own ((second_pass t).own ∷ []) 1 t.sites ≡ (program t).sites
+terms-are : (t : TreeOfText) → clashes [] (outermost t) ≡ [] → site_terms_in (tables_of t) (second_pass t).own ((second_pass t).own ∷ []) 1 t.sites ≡ (program no_literals t).sites
 terms-are t clear =
     let number : Binder → ℕ = index_of (binders t) in
     let passes = passes-so t in
@@ -78,30 +79,33 @@ terms-are t clear =
     let defined = own_all number (sites_of t.sites) 0 1 (outermost t) (observed_from 0 t.seen) [] (defines-all number (outermost t) (settled (outermost t) clear)) (ap (λ l. observed_from 0 t.seen ++ l) (sym (append-nil names))) in
     sites-are number (tables_of t) (second_pass t).own (outermost t) (open_at 0 (outermost t) []) ((second_pass t).own ∷ []) t.sites 1 passes.own defined (passes.own, tt) passes.fit
 
+no_literals-fine : (seen : ℕ) → LiteralsFine seen no_literals
+no_literals-fine seen w r scope e = absurd cc
+
 pub record Answers (t : TreeOfText) (p : ProgramTerms) : Type 0 where
   pub kept : IsProgram p
   pub is : IsProgramOf t p
 
 -- where the walks noted nothing, what they made is the program
-pub answers : (t : TreeOfText) → IsTree t → (least : Option Fault) → least ≡ first_of None (fault_list most_sites t) → least ≡ None
+pub answers : (t : TreeOfText) → IsTree t → (least : Option Fault) → least ≡ first_of None (fault_list most_sites no_literals t) → least ≡ None
     → (seen : List SeenDecl) (sites : List SiteTerm) (tops : ℕ) (spell : List (List ℕ))
     → seen ≡ seen_decls t.seen → sites ≡ site_terms_in (tables_of t) (second_pass t).own ((second_pass t).own ∷ []) 1 t.sites → tops ≡ length (first_pass t).spell → spell ≡ (second_pass t).spell
     → Answers t (record { seen = seen; sites = sites; tops = tops; spell = spell })
 answers t tree least noted nothing seen sites tops spell a b c d =
     let passes = passes-so t in
-    let none : fault_list most_sites t ≡ [] = no-fault (fault_list most_sites t) (sym noted ∙ nothing) in
-    let rest = none_right (many (drop most_sites t.sites)) (declared_faults t ++ use_faults (uses_of t)) none in
-    let clear : clashes [] (outermost t) ≡ [] = none_left (clashes [] (outermost t)) (level_faults (sites_of t.sites)) (none_left (declared_faults t) (use_faults (uses_of t)) rest) in
-    let is : record { seen = seen; sites = sites; tops = tops; spell = spell } ≡ program t =
+    let none : fault_list most_sites no_literals t ≡ [] = no-fault (fault_list most_sites no_literals t) (sym noted ∙ nothing) in
+    let rest = none_right (many (drop most_sites t.sites)) (declared_faults t ++ use_faults (uses_of no_literals t)) none in
+    let clear : clashes [] (outermost t) ≡ [] = none_left (clashes [] (outermost t)) (level_faults (sites_of t.sites)) (none_left (declared_faults t) (use_faults (uses_of no_literals t)) rest) in
+    let is : record { seen = seen; sites = sites; tops = tops; spell = spell } ≡ program no_literals t =
     λ i. record { seen = a i; sites = (b ∙ terms-are t clear) i; tops = (c ∙ passes.tops) i; spell = (d ∙ passes.spell) i } in
     record {
-      kept = subst IsProgram (sym is) (program-kept t tree none);
-      is = record { is = is; none = subst (IsFirst (IsFault most_sites t)) (sym noted ∙ nothing) (first-fault most_sites t) };
+      kept = subst IsProgram (sym is) (program-kept no_literals t (no_literals-fine (length t.seen)) tree none);
+      is = record { is = is; none = subst (IsFirst (IsFault most_sites no_literals t)) (sym noted ∙ nothing) (first-fault most_sites no_literals t) };
     }
 
 -- where they noted a fault, it is the first one
-pub refused : (t : TreeOfText) (least : Option Fault) (f : Fault) → least ≡ first_of None (fault_list most_sites t) → least ≡ Some f → IsFirst (IsFault most_sites t) (Some f)
-refused t least f noted some = subst (IsFirst (IsFault most_sites t)) (sym noted ∙ some) (first-fault most_sites t)
+pub refused : (t : TreeOfText) (least : Option Fault) (f : Fault) → least ≡ first_of None (fault_list most_sites no_literals t) → least ≡ Some f → IsFirst (IsFault most_sites no_literals t) (Some f)
+refused t least f noted some = subst (IsFirst (IsFault most_sites no_literals t)) (sym noted ∙ some) (first-fault most_sites no_literals t)
 
 -- as many tables as scopes
 pub room : (t : TreeOfText) (scopes : List Table) → scopes ≡ tables_of t → 1 + scopes_in_defs (sites_of t.sites) ≤ length scopes
@@ -155,7 +159,7 @@ tables-are t trees names scopes a n e = e ∙ (λ i. (passed (n i) (a i)).own �
 
 pub noted-by : (t : TreeOfText) (trees : List PlaceTree) (names : List Defining) (scopes : List Table) (a b c d : Option Fault) → trees ≡ t.sites → names ≡ outermost t → scopes ≡ tables_of t
     → a ≡ first_of None (many (drop most_sites trees)) → b ≡ first_of a (clashes_in [] names) → c ≡ first_of b (level_faults (sites_of trees)) → d ≡ first_of c (level_uses_in scopes (get_or scopes 0 [] ∷ []) 1 (sites_of trees))
-    → d ≡ first_of None (fault_list most_sites t)
+    → d ≡ first_of None (fault_list most_sites no_literals t)
 noted-by t trees names scopes a b c d e n s p q r u =
     all-noted t a b c d (p ∙ (λ i. first_of None (many (drop most_sites (e i))))) (q ∙ (λ i. first_of a (clashes_in [] (n i)))) (r ∙ (λ i. first_of b (level_faults (sites_of (e i)))))
     (u ∙ (λ i. first_of c (level_uses_in (s i) (get_or (s i) 0 [] ∷ []) 1 (sites_of (e i)))))

@@ -2,6 +2,7 @@
 use Rattle.std.proofs.Common.{◌≡◌, ◌≢◌, ℕ, ◌+◌, ◌<◌, ◌≤◌, Bool, true, false, cond, ◌||◌, List, [], ◌∷◌, ◌++◌, Option, Some, None, length, refl, sym, ap, ◌∙◌, subst, arith}
 use Rattle.std.specs.List.{All, AllPairs, list_any}
 use Rattle.std.proofs.lemmas.List.Elements.{All-nil, All-cons}
+use Rattle.std.specs.Option.{unwrap_or}
 use Rattle.std.specs.Str.{bytes_eq}
 use Rattle.std.specs.Cmp.Lexicographic.{bytes_decides}
 use Rattle.join_base.specs.declared.fault.Kind.{Kind}
@@ -23,7 +24,7 @@ use Rattle.chem_model.specs.Binders.{is_among, times}
 use Rattle.chem_model.specs.Scope.{IsPattern, AreRules, AreRulesAndPlaces, IsInScope, IsTerm, AreTerms, IsDefinition, AreDefinitions}
 use Rattle.chem_model.specs.ProgramFacts.{IsDeclared}
 use Rattle.scope_check.specs.Blocks.{Defining, channels, params, parameters, defining, defining_one, places_of, block, first_in, observed_from, Scope, Resolved, resolved_in, resolve, open_at, scopes_in, scopes_in_def, scopes_in_defs}
-use Rattle.scope_check.specs.Uses.{Manner, called, headed, sent, all_sent, uses, all_uses, definition_uses, level_uses}
+use Rattle.scope_check.specs.Uses.{Manner, called, headed, sent, sent_unless, all_sent, uses, all_uses, definition_uses, level_uses}
 use Rattle.scope_check.specs.Faults.{ons}
 use Rattle.scope_check.specs.FaultList.{used_by, use_faults, clashes, is_spelled_in, repeated_if, repeats, pattern_faults, process_faults, processes_faults, definition_faults, level_faults}
 use Rattle.scope_check.specs.Numbers.{Binder, binder, is_same, keys, in_params, in_patterns, in_process, in_processes, in_definition, in_definitions, index_of}
@@ -77,17 +78,21 @@ pub observed-fine : (ss : List SeenTree) (i seen : ℕ) → i + length ss ≤ se
 observed-fine [] i seen h = tt
 observed-fine (x ∷ ss) i seen h = (omega arith, observed-fine ss (i + 1) seen (omega arith))
 
+-- what stands for no name is in every scope
+abbrev pub LiteralsFine : (seen : ℕ) → (Word → Option Ref) → Type 0
+LiteralsFine seen literal = (w : Word) (r : Ref) (scope : List ℕ) → literal w ≡ Some r → IsInScope (IsDeclared seen) scope r
+
 -- ---- the levels of definitions
 
-rules-one : (number : Binder → ℕ) (ds : s.Definitions) (own : ℕ) (env : List Scope) (k : ℕ) → g.AreDefinitions true ds → AreRules (t.definitions (level number own env k ds))
-rules-one number s.no_definition own env k h = tt
-rules-one number (s.and_also (s.Rule pats body) ds) own env k h = rules-one number ds own env (k + scopes_in_def (s.Rule pats body)) h.1
-rules-one number (s.and_also (s.Place o a es body) ds) own env k h = absurd h.0
+rules-one : (number : Binder → ℕ) (literal : Word → Option Ref) (ds : s.Definitions) (own : ℕ) (env : List Scope) (k : ℕ) → g.AreDefinitions true ds → AreRules (t.definitions (level number literal own env k ds))
+rules-one number literal s.no_definition own env k h = tt
+rules-one number literal (s.and_also (s.Rule pats body) ds) own env k h = rules-one number literal ds own env (k + scopes_in_def (s.Rule pats body)) h.1
+rules-one number literal (s.and_also (s.Place o a es body) ds) own env k h = absurd h.0
 
-pub levels-fine : (number : Binder → ℕ) (ds : s.Definitions) (own : ℕ) (env : List Scope) (k : ℕ) → g.AreDefinitions false ds → AreRulesAndPlaces (t.definitions (level number own env k ds))
-levels-fine number s.no_definition own env k h = tt
-levels-fine number (s.and_also (s.Rule pats body) ds) own env k h = levels-fine number ds own env (k + scopes_in_def (s.Rule pats body)) h.1
-levels-fine number (s.and_also (s.Place o a es body) ds) own env k h = (rules-one number es own env k h.0.1, levels-fine number ds own env (k + scopes_in_def (s.Place o a es body)) h.1)
+pub levels-fine : (number : Binder → ℕ) (literal : Word → Option Ref) (ds : s.Definitions) (own : ℕ) (env : List Scope) (k : ℕ) → g.AreDefinitions false ds → AreRulesAndPlaces (t.definitions (level number literal own env k ds))
+levels-fine number literal s.no_definition own env k h = tt
+levels-fine number literal (s.and_also (s.Rule pats body) ds) own env k h = levels-fine number literal ds own env (k + scopes_in_def (s.Rule pats body)) h.1
+levels-fine number literal (s.and_also (s.Place o a es body) ds) own env k h = (rules-one number literal es own env k h.0.1, levels-fine number literal ds own env (k + scopes_in_def (s.Place o a es body)) h.1)
 
 -- ---- scopes
 
@@ -152,12 +157,6 @@ module _ (bs : List Binder) (seen : ℕ) where
       by : (o : Option Resolved) → resolve env w.text ≡ o → used_by m w o ≡ [] → IsInScope (IsDeclared seen) (bound_by env) (ref_to (index_of bs) w.text (resolve env w.text))
       by None q h = absurd cc
       by (Some r) q h = subst (λ o. IsInScope (IsDeclared seen) (bound_by env) (ref_to (index_of bs) w.text o)) (sym q) (resolved-scope env w.text r fine q)
-
-  sent-fine : (env : List Scope) (ws : List Word) → EnvFine seen env → use_faults (all_sent env ws) ≡ [] → All (IsInScope (IsDeclared seen) (bound_by env)) (refs_of (index_of bs) env ws)
-  sent-fine env [] fine e = All-nil (IsInScope (IsDeclared seen) (bound_by env))
-  sent-fine env (w ∷ ws) fine e =
-      All-cons (IsInScope (IsDeclared seen) (bound_by env)) (ref_of (index_of bs) env w) (refs_of (index_of bs) env ws)
-      (use-fine sent env w fine (none_left _ _ e)) (sent-fine env ws fine (none_right (used_by sent w (resolve env w.text)) _ e))
 
   pub together-fine : (scope : List ℕ) (ps : List t.Process) → AreTerms (IsDeclared seen) scope (t.processes ps) → IsTerm (IsDeclared seen) scope (together ps)
   together-fine scope [] h = tt
@@ -253,78 +252,92 @@ module _ (bs : List Binder) (seen : ℕ) where
 
   -- ---- terms
 
-  mutual
-    process-term : (p : s.Process) (env : List Scope) (k : ℕ) → EnvFine seen env → g.IsProcess p → process_faults p ≡ [] → use_faults (uses env k p) ≡ [] → AllIn bs (in_process k p)
-        → IsTerm (IsDeclared seen) (bound_by env) (process (index_of bs) env k p)
-    process-term s.Zero env k fine gr d u i = tt
-    process-term (s.Msg on args) env k fine gr d u i =
-        (use-fine (called (length args)) env on fine (none_left _ _ u), sent-fine env args fine (none_right (used_by (called (length args)) on (resolve env on.text)) _ u), omega (arith, gr, length-refs (index_of bs) env args))
-    process-term (s.Go b c) env k fine gr d u i =
-        (use-fine headed env b fine (none_left _ _ u), use-fine (called 0) env c fine (none_left _ _ (none_right (used_by headed b (resolve env b.text)) _ u)))
-    process-term (s.Fail b c) env k fine gr d u i =
-        (use-fine headed env b fine (none_left _ _ u), use-fine (called 0) env c fine (none_left _ _ (none_right (used_by headed b (resolve env b.text)) _ u)))
-    process-term s.Halt env k fine gr d u i = tt
-    process-term (s.Group ps) env k fine gr d u i = together-fine (bound_by env) (members (index_of bs) env k ps) (members-term ps env k fine gr d u i)
-    process-term (s.Def ds ps) env k fine gr d u i =
-        let inner = open_at k (block ds) env in
-        let n = k + 1 + scopes_in_defs ds in
-        let term = t.definitions (level (index_of bs) k inner (k + 1) ds) in
-        let body = members (index_of bs) inner n ps in
-        let fine' : EnvFine seen inner = (defining-fine seen ds 0 1, fine) in
-        let d1 = none_right (clashes [] (block ds)) (level_faults ds ++ processes_faults ps) d in
-        let u1 = sym (faults-append (level_uses inner (k + 1) ds) (all_uses inner n ps)) ∙ u in
-        let i0 = in_front bs (in_definitions k (k + 1) ds) (in_processes n ps) i in
-        let i1 = in_back bs (in_definitions k (k + 1) ds) (in_processes n ps) i in
-        let a = level-term ds k inner (k + 1) false fine' gr.0 (none_left (level_faults ds) (processes_faults ps) d1) (none_left _ _ u1) i0 in
-        let b = together-fine (bound_by inner) body (members-term ps inner n fine' gr.1 (none_right (level_faults ds) (processes_faults ps) d1) (none_right (use_faults (level_uses inner (k + 1) ds)) _ u1) i1) in
-        let is : bound_at (index_of bs) k (block ds) ≡ chem.block term = sym (level-block (index_of bs) ds k (k + 1) 0 1 inner) in (
-          block-fine bs ds k (k + 1) inner (block ds) [] [] (sym (append-nil (block ds))) (none_left (clashes [] (block ds)) (level_faults ds ++ processes_faults ps) d) (locs-all ds 0 1) (all-in ds k (k + 1) 0 1 i0),
-          levels-fine (index_of bs) ds k inner (k + 1) gr.0,
-          subst (λ l. AreDefinitions (IsDeclared seen) (l ++ bound_by env) term) is a,
-          subst (λ l. IsTerm (IsDeclared seen) (l ++ bound_by env) (together body)) is b,
-        )
+  module _ (literal : Word → Option Ref) (known : LiteralsFine seen literal) where
+    sent-fine : (env : List Scope) (ws : List Word) → EnvFine seen env → use_faults (all_sent literal env ws) ≡ [] → All (IsInScope (IsDeclared seen) (bound_by env)) (refs_of (index_of bs) literal env ws)
+    sent-fine env [] fine e = All-nil (IsInScope (IsDeclared seen) (bound_by env))
+    sent-fine env (w ∷ ws) fine e = by (literal w) refl e (sent-fine env ws fine)
+      where
+        by : (o : Option Ref) → literal w ≡ o → use_faults (sent_unless o w env ++ all_sent literal env ws) ≡ []
+            → (use_faults (all_sent literal env ws) ≡ [] → All (IsInScope (IsDeclared seen) (bound_by env)) (refs_of (index_of bs) literal env ws))
+            → All (IsInScope (IsDeclared seen) (bound_by env)) (unwrap_or o (ref_of (index_of bs) env w) ∷ refs_of (index_of bs) literal env ws)
+        by None q h rest =
+            All-cons (IsInScope (IsDeclared seen) (bound_by env)) (ref_of (index_of bs) env w) (refs_of (index_of bs) literal env ws)
+            (use-fine sent env w fine (none_left _ _ h)) (rest (none_right (used_by sent w (resolve env w.text)) _ h))
+        by (Some r) q h rest =
+            All-cons (IsInScope (IsDeclared seen) (bound_by env)) r (refs_of (index_of bs) literal env ws) (known w r (bound_by env) q) (rest h)
 
-    pub members-term : (ps : s.Processes) (env : List Scope) (k : ℕ) → EnvFine seen env → g.AreProcesses ps → processes_faults ps ≡ [] → use_faults (all_uses env k ps) ≡ [] → AllIn bs (in_processes k ps)
-        → AreTerms (IsDeclared seen) (bound_by env) (t.processes (members (index_of bs) env k ps))
-    members-term s.none env k fine gr d u i = absurd gr
-    members-term (s.one_more p ps) env k fine gr d u i =
-        let u1 = sym (faults-append (uses env k p) (all_uses env (k + scopes_in p) ps)) ∙ u in (
-          process-term p env k fine gr.0 (none_left (process_faults p) (processes_faults ps) d) (none_left _ _ u1) (in_front bs (in_process k p) (in_processes (k + scopes_in p) ps) i),
-          more-term ps p env (k + scopes_in p) fine gr.1 (none_right (process_faults p) (processes_faults ps) d) (none_right (use_faults (uses env k p)) _ u1) (in_back bs (in_process k p) (in_processes (k + scopes_in p) ps) i),
-        )
+    mutual
+      process-term : (p : s.Process) (env : List Scope) (k : ℕ) → EnvFine seen env → g.IsProcess p → process_faults p ≡ [] → use_faults (uses literal env k p) ≡ [] → AllIn bs (in_process k p)
+          → IsTerm (IsDeclared seen) (bound_by env) (process (index_of bs) literal env k p)
+      process-term s.Zero env k fine gr d u i = tt
+      process-term (s.Msg on args) env k fine gr d u i =
+          (use-fine (called (length args)) env on fine (none_left _ _ u), sent-fine env args fine (none_right (used_by (called (length args)) on (resolve env on.text)) _ u), omega (arith, gr, length-refs (index_of bs) literal env args))
+      process-term (s.Go b c) env k fine gr d u i =
+          (use-fine headed env b fine (none_left _ _ u), use-fine (called 0) env c fine (none_left _ _ (none_right (used_by headed b (resolve env b.text)) _ u)))
+      process-term (s.Fail b c) env k fine gr d u i =
+          (use-fine headed env b fine (none_left _ _ u), use-fine (called 0) env c fine (none_left _ _ (none_right (used_by headed b (resolve env b.text)) _ u)))
+      process-term s.Halt env k fine gr d u i = tt
+      process-term (s.Group ps) env k fine gr d u i = together-fine (bound_by env) (members (index_of bs) literal env k ps) (members-term ps env k fine gr d u i)
+      process-term (s.Def ds ps) env k fine gr d u i =
+          let inner = open_at k (block ds) env in
+          let n = k + 1 + scopes_in_defs ds in
+          let term = t.definitions (level (index_of bs) literal k inner (k + 1) ds) in
+          let body = members (index_of bs) literal inner n ps in
+          let fine' : EnvFine seen inner = (defining-fine seen ds 0 1, fine) in
+          let d1 = none_right (clashes [] (block ds)) (level_faults ds ++ processes_faults ps) d in
+          let u1 = sym (faults-append (level_uses literal inner (k + 1) ds) (all_uses literal inner n ps)) ∙ u in
+          let i0 = in_front bs (in_definitions k (k + 1) ds) (in_processes n ps) i in
+          let i1 = in_back bs (in_definitions k (k + 1) ds) (in_processes n ps) i in
+          let a = level-term ds k inner (k + 1) false fine' gr.0 (none_left (level_faults ds) (processes_faults ps) d1) (none_left _ _ u1) i0 in
+          let b = together-fine (bound_by inner) body (members-term ps inner n fine' gr.1 (none_right (level_faults ds) (processes_faults ps) d1) (none_right (use_faults (level_uses literal inner (k + 1) ds)) _ u1) i1) in
+          let is : bound_at (index_of bs) k (block ds) ≡ chem.block term = sym (level-block (index_of bs) literal ds k (k + 1) 0 1 inner) in (
+            block-fine bs literal ds k (k + 1) inner (block ds) [] [] (sym (append-nil (block ds))) (none_left (clashes [] (block ds)) (level_faults ds ++ processes_faults ps) d) (locs-all ds 0 1) (all-in ds k (k + 1) 0 1 i0),
+            levels-fine (index_of bs) literal ds k inner (k + 1) gr.0,
+            subst (λ l. AreDefinitions (IsDeclared seen) (l ++ bound_by env) term) is a,
+            subst (λ l. IsTerm (IsDeclared seen) (l ++ bound_by env) (together body)) is b,
+          )
 
-    more-term : (ps : s.Processes) (p : s.Process) (env : List Scope) (k : ℕ) → EnvFine seen env → g.AreMore p ps → processes_faults ps ≡ [] → use_faults (all_uses env k ps) ≡ [] → AllIn bs (in_processes k ps)
-        → AreTerms (IsDeclared seen) (bound_by env) (t.processes (members (index_of bs) env k ps))
-    more-term s.none p env k fine gr d u i = tt
-    more-term (s.one_more q ps) p env k fine gr d u i =
-        let u1 = sym (faults-append (uses env k q) (all_uses env (k + scopes_in q) ps)) ∙ u in (
-          process-term q env k fine gr.1 (none_left (process_faults q) (processes_faults ps) d) (none_left _ _ u1) (in_front bs (in_process k q) (in_processes (k + scopes_in q) ps) i),
-          more-term ps q env (k + scopes_in q) fine gr.2 (none_right (process_faults q) (processes_faults ps) d) (none_right (use_faults (uses env k q)) _ u1) (in_back bs (in_process k q) (in_processes (k + scopes_in q) ps) i),
-        )
+      pub members-term : (ps : s.Processes) (env : List Scope) (k : ℕ) → EnvFine seen env → g.AreProcesses ps → processes_faults ps ≡ [] → use_faults (all_uses literal env k ps) ≡ [] → AllIn bs (in_processes k ps)
+          → AreTerms (IsDeclared seen) (bound_by env) (t.processes (members (index_of bs) literal env k ps))
+      members-term s.none env k fine gr d u i = absurd gr
+      members-term (s.one_more p ps) env k fine gr d u i =
+          let u1 = sym (faults-append (uses literal env k p) (all_uses literal env (k + scopes_in p) ps)) ∙ u in (
+            process-term p env k fine gr.0 (none_left (process_faults p) (processes_faults ps) d) (none_left _ _ u1) (in_front bs (in_process k p) (in_processes (k + scopes_in p) ps) i),
+            more-term ps p env (k + scopes_in p) fine gr.1 (none_right (process_faults p) (processes_faults ps) d) (none_right (use_faults (uses literal env k p)) _ u1) (in_back bs (in_process k p) (in_processes (k + scopes_in p) ps) i),
+          )
 
-    definition-term : (d : s.Definition) (own : ℕ) (env : List Scope) (k : ℕ) (within : Bool) → EnvFine seen env → g.IsDefinition within d → definition_faults d ≡ [] → use_faults (definition_uses env k d) ≡ [] → AllIn bs (in_definition own k d)
-        → IsDefinition (IsDeclared seen) (bound_by env) (definition (index_of bs) own env k d)
-    definition-term (s.Rule pats body) own env k within fine gr d u i =
-        let inner = open_at k (parameters (params pats)) env in
-        let i0 = in_front bs (in_patterns own k pats) (in_processes (k + 1) body) i in
-        let i1 = in_back bs (in_patterns own k pats) (in_processes (k + 1) body) i in
-        let b = together-fine (bound_by inner) (members (index_of bs) inner (k + 1) body) (members-term body inner (k + 1) (parameters-fine seen (params pats), fine) gr.2 (none_right (pattern_faults pats) (processes_faults body) d) u i1) in (
-          pattern-fine own k pats gr.0 gr.1 (none_left (pattern_faults pats) (processes_faults body) d) i0,
-          subst (λ l. IsTerm (IsDeclared seen) (l ++ bound_by env) (together (members (index_of bs) inner (k + 1) body))) (sym (params-bound (index_of bs) own k pats)) b,
-        )
-    definition-term (s.Place o a ds body) own env k true fine gr d u i = absurd gr
-    definition-term (s.Place o a ds body) own env k false fine gr d u i =
-        let u1 = sym (faults-append (level_uses env k ds) (all_uses env (k + scopes_in_defs ds) body)) ∙ u in (
-          level-term ds own env k true fine gr.1 (none_left (level_faults ds) (processes_faults body) d) (none_left _ _ u1) (in_front bs (in_definitions own k ds) (in_processes (k + scopes_in_defs ds) body) i.1),
-          together-fine (bound_by env) (members (index_of bs) env (k + scopes_in_defs ds) body)
-              (members-term body env (k + scopes_in_defs ds) fine gr.2 (none_right (level_faults ds) (processes_faults body) d) (none_right (use_faults (level_uses env k ds)) _ u1) (in_back bs (in_definitions own k ds) (in_processes (k + scopes_in_defs ds) body) i.1)),
-        )
+      more-term : (ps : s.Processes) (p : s.Process) (env : List Scope) (k : ℕ) → EnvFine seen env → g.AreMore p ps → processes_faults ps ≡ [] → use_faults (all_uses literal env k ps) ≡ [] → AllIn bs (in_processes k ps)
+          → AreTerms (IsDeclared seen) (bound_by env) (t.processes (members (index_of bs) literal env k ps))
+      more-term s.none p env k fine gr d u i = tt
+      more-term (s.one_more q ps) p env k fine gr d u i =
+          let u1 = sym (faults-append (uses literal env k q) (all_uses literal env (k + scopes_in q) ps)) ∙ u in (
+            process-term q env k fine gr.1 (none_left (process_faults q) (processes_faults ps) d) (none_left _ _ u1) (in_front bs (in_process k q) (in_processes (k + scopes_in q) ps) i),
+            more-term ps q env (k + scopes_in q) fine gr.2 (none_right (process_faults q) (processes_faults ps) d) (none_right (use_faults (uses literal env k q)) _ u1) (in_back bs (in_process k q) (in_processes (k + scopes_in q) ps) i),
+          )
 
-    pub level-term : (ds : s.Definitions) (own : ℕ) (env : List Scope) (k : ℕ) (within : Bool) → EnvFine seen env → g.AreDefinitions within ds → level_faults ds ≡ [] → use_faults (level_uses env k ds) ≡ [] → AllIn bs (in_definitions own k ds)
-        → AreDefinitions (IsDeclared seen) (bound_by env) (t.definitions (level (index_of bs) own env k ds))
-    level-term s.no_definition own env k within fine gr d u i = tt
-    level-term (s.and_also x ds) own env k within fine gr d u i =
-        let u1 = sym (faults-append (definition_uses env k x) (level_uses env (k + scopes_in_def x) ds)) ∙ u in (
-          definition-term x own env k within fine gr.0 (none_left (definition_faults x) (level_faults ds) d) (none_left _ _ u1) (in_front bs (in_definition own k x) (in_definitions own (k + scopes_in_def x) ds) i),
-          level-term ds own env (k + scopes_in_def x) within fine gr.1 (none_right (definition_faults x) (level_faults ds) d) (none_right (use_faults (definition_uses env k x)) _ u1) (in_back bs (in_definition own k x) (in_definitions own (k + scopes_in_def x) ds) i),
-        )
+      definition-term : (d : s.Definition) (own : ℕ) (env : List Scope) (k : ℕ) (within : Bool) → EnvFine seen env → g.IsDefinition within d → definition_faults d ≡ [] → use_faults (definition_uses literal env k d) ≡ [] → AllIn bs (in_definition own k d)
+          → IsDefinition (IsDeclared seen) (bound_by env) (definition (index_of bs) literal own env k d)
+      definition-term (s.Rule pats body) own env k within fine gr d u i =
+          let inner = open_at k (parameters (params pats)) env in
+          let i0 = in_front bs (in_patterns own k pats) (in_processes (k + 1) body) i in
+          let i1 = in_back bs (in_patterns own k pats) (in_processes (k + 1) body) i in
+          let b = together-fine (bound_by inner) (members (index_of bs) literal inner (k + 1) body) (members-term body inner (k + 1) (parameters-fine seen (params pats), fine) gr.2 (none_right (pattern_faults pats) (processes_faults body) d) u i1) in (
+            pattern-fine own k pats gr.0 gr.1 (none_left (pattern_faults pats) (processes_faults body) d) i0,
+            subst (λ l. IsTerm (IsDeclared seen) (l ++ bound_by env) (together (members (index_of bs) literal inner (k + 1) body))) (sym (params-bound (index_of bs) own k pats)) b,
+          )
+      definition-term (s.Place o a ds body) own env k true fine gr d u i = absurd gr
+      definition-term (s.Place o a ds body) own env k false fine gr d u i =
+          let u1 = sym (faults-append (level_uses literal env k ds) (all_uses literal env (k + scopes_in_defs ds) body)) ∙ u in (
+            level-term ds own env k true fine gr.1 (none_left (level_faults ds) (processes_faults body) d) (none_left _ _ u1) (in_front bs (in_definitions own k ds) (in_processes (k + scopes_in_defs ds) body) i.1),
+            together-fine (bound_by env) (members (index_of bs) literal env (k + scopes_in_defs ds) body)
+                (members-term body env (k + scopes_in_defs ds) fine gr.2 (none_right (level_faults ds) (processes_faults body) d) (none_right (use_faults (level_uses literal env k ds)) _ u1) (in_back bs (in_definitions own k ds) (in_processes (k + scopes_in_defs ds) body) i.1)),
+          )
+
+      pub level-term : (ds : s.Definitions) (own : ℕ) (env : List Scope) (k : ℕ) (within : Bool) → EnvFine seen env → g.AreDefinitions within ds → level_faults ds ≡ [] → use_faults (level_uses literal env k ds) ≡ [] → AllIn bs (in_definitions own k ds)
+          → AreDefinitions (IsDeclared seen) (bound_by env) (t.definitions (level (index_of bs) literal own env k ds))
+      level-term s.no_definition own env k within fine gr d u i = tt
+      level-term (s.and_also x ds) own env k within fine gr d u i =
+          let u1 = sym (faults-append (definition_uses literal env k x) (level_uses literal env (k + scopes_in_def x) ds)) ∙ u in (
+            definition-term x own env k within fine gr.0 (none_left (definition_faults x) (level_faults ds) d) (none_left _ _ u1) (in_front bs (in_definition own k x) (in_definitions own (k + scopes_in_def x) ds) i),
+            level-term ds own env (k + scopes_in_def x) within fine gr.1 (none_right (definition_faults x) (level_faults ds) d) (none_right (use_faults (definition_uses literal env k x)) _ u1) (in_back bs (in_definition own k x) (in_definitions own (k + scopes_in_def x) ds) i),
+          )

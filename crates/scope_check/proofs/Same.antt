@@ -9,6 +9,7 @@ use Rattle.join_parse.specs.declared.word.Word.{Word}
 use Rattle.join_parse.specs.declared.tree.PlaceTree.{PlaceTree}
 use Rattle.join_parse.specs.Source.{Process, Zero, Msg, Go, Fail, Halt, Group, Def, Processes, none, one_more, Definition, Rule, Place, Definitions, no_definition, and_also}
 use Rattle.join_parse.specs.Grammar.{TreeOfText}
+use Rattle.chem_model.specs.declared.name.Ref.{Ref}
 use Rattle.scope_names.specs.declared.scope.Sort.{Sort}
 use Rattle.scope_names.specs.declared.scope.Sort.TheVariants.{Channel, Location, Observed, Parameter}
 use Rattle.scope_check.specs.declared.fault.Fault.{Fault}
@@ -316,26 +317,26 @@ sites-at (suc limit) f (b ∷ before) s after h p q = sites-at limit f before s 
 
 -- ---- the whole
 
-only-list : (limit : ℕ) (t : TreeOfText) (f : Fault) → In f (fault_list limit t) → IsFault limit t f
-only-list limit t f i =
-    elim (in-append f (many (drop limit t.sites)) (declared_faults t ++ use_faults (uses_of t)) i) [
+only-list : (limit : ℕ) (literal : Word → Option Ref) (t : TreeOfText) (f : Fault) → In f (fault_list limit literal t) → IsFault limit literal t f
+only-list limit literal t f i =
+    elim (in-append f (many (drop limit t.sites)) (declared_faults t ++ use_faults (uses_of literal t)) i) [
       | inl a ↦ of_site (sites-only limit f t.sites a)
-      | inr b ↦ elim (in-append f (declared_faults t) (use_faults (uses_of t)) b) [
+      | inr b ↦ elim (in-append f (declared_faults t) (use_faults (uses_of literal t)) b) [
         | inl c ↦ (let m = gather-only declared_fault f (declared_of t) (subst (In f) (declared-gathered t) c) in of_declared m.0 m.1 (declared-only f m.0 m.2))
-        | inr c ↦ (let m = gather-only use_fault f (uses_of t) (subst (In f) (uses-gathered (uses_of t)) c) in
+        | inr c ↦ (let m = gather-only use_fault f (uses_of literal t) (subst (In f) (uses-gathered (uses_of literal t)) c) in
             let o = by-only f m.0.manner m.0.word (resolve m.0.around m.0.word.text) m.2 in of_use m.0 m.1 (record { here = o.0; wrong = o.1 }))
       ]
     ]
 
-all-list : (limit : ℕ) (t : TreeOfText) (f : Fault) → IsFault limit t f → In f (fault_list limit t)
-all-list limit t f (of_site w) =
-    in-left f (many (drop limit t.sites)) (declared_faults t ++ use_faults (uses_of t)) (subst (λ l. In f (many (drop limit l))) (sym w.all) (sites-at limit f w.before w.site w.after w.above w.here w.wrong))
-all-list limit t f (of_declared d m w) =
-    in-right f (many (drop limit t.sites)) (declared_faults t ++ use_faults (uses_of t))
-    (in-left f (declared_faults t) (use_faults (uses_of t)) (subst (In f) (sym (declared-gathered t)) (gather-all declared_fault f d (declared_of t) m (declared-all f d w))))
-all-list limit t f (of_use u m w) =
-    in-right f (many (drop limit t.sites)) (declared_faults t ++ use_faults (uses_of t))
-    (in-right f (declared_faults t) (use_faults (uses_of t)) (subst (In f) (sym (uses-gathered (uses_of t))) (gather-all use_fault f u (uses_of t) m (by-all f u.manner u.word (resolve u.around u.word.text) w.here w.wrong))))
+all-list : (limit : ℕ) (literal : Word → Option Ref) (t : TreeOfText) (f : Fault) → IsFault limit literal t f → In f (fault_list limit literal t)
+all-list limit literal t f (of_site w) =
+    in-left f (many (drop limit t.sites)) (declared_faults t ++ use_faults (uses_of literal t)) (subst (λ l. In f (many (drop limit l))) (sym w.all) (sites-at limit f w.before w.site w.after w.above w.here w.wrong))
+all-list limit literal t f (of_declared d m w) =
+    in-right f (many (drop limit t.sites)) (declared_faults t ++ use_faults (uses_of literal t))
+    (in-left f (declared_faults t) (use_faults (uses_of literal t)) (subst (In f) (sym (declared-gathered t)) (gather-all declared_fault f d (declared_of t) m (declared-all f d w))))
+all-list limit literal t f (of_use u m w) =
+    in-right f (many (drop limit t.sites)) (declared_faults t ++ use_faults (uses_of literal t))
+    (in-right f (declared_faults t) (use_faults (uses_of literal t)) (subst (In f) (sym (uses-gathered (uses_of literal t))) (gather-all use_fault f u (uses_of literal t) m (by-all f u.manner u.word (resolve u.around u.word.text) w.here w.wrong))))
 
-pub first-fault : (limit : ℕ) (t : TreeOfText) → IsFirst (IsFault limit t) (first_of None (fault_list limit t))
-first-fault limit t = first-of-set (IsFault limit t) (fault_list limit t) (only-list limit t) (all-list limit t)
+pub first-fault : (limit : ℕ) (literal : Word → Option Ref) (t : TreeOfText) → IsFirst (IsFault limit literal t) (first_of None (fault_list limit literal t))
+first-fault limit literal t = first-of-set (IsFault limit literal t) (fault_list limit literal t) (only-list limit literal t) (all-list limit literal t)

@@ -1,8 +1,9 @@
 -- Each node of a program's terms has a token of its own.
-use Rattle.std.proofs.Common.{◌≡◌, ℕ, ◌+◌, ◌≤◌, List, [], ◌∷◌, length, refl, arith}
+use Rattle.std.proofs.Common.{◌≡◌, ℕ, ◌+◌, ◌≤◌, List, [], ◌∷◌, Option, length, refl, arith}
 use Rattle.std.specs.Prelude.{sum_by}
 use Rattle.std.proofs.lemmas.List.Sums.{sum_by-cons}
 use Rattle.chem_model.specs.declared.name.Pat.{Pat}
+use Rattle.chem_model.specs.declared.name.Ref.{Ref}
 use Rattle.chem_model.specs.declared.name.Ref.TheVariants as ref
 use Rattle.join_parse.specs.declared.word.Word.{Word}
 use Rattle.join_parse.specs.declared.word.PatTree.{PatTree}
@@ -42,10 +43,6 @@ module _ (number : Binder → ℕ) where
   length-numbers k [] = refl
   length-numbers k (w ∷ ws) = omega (arith, length-numbers k ws)
 
-  pub length-refs : (env : List Scope) (ws : List Word) → length (refs_of number env ws) ≡ length ws
-  length-refs env [] = refl
-  length-refs env (w ∷ ws) = omega (arith, length-refs env ws)
-
   more_patterns-long : (own k : ℕ) (ps : List PatTree) (rest : List Terminal) → 1 + pattern_nodes (pats_of number own k ps) + length rest ≤ length (more_patterns ps rest)
   more_patterns-long own k [] rest = omega arith
   more_patterns-long own k (p ∷ ps) rest =
@@ -56,64 +53,70 @@ module _ (number : Binder → ℕ) where
   patterns-long own k (p ∷ ps) rest some =
       omega (arith, sum-cons (λ (q : Pat). 2 + length q.params) (record { on = ref.Binder (number (binder own p.on)); params = numbers number k p.params }) (pats_of number own k ps), applied-long p.on p.params (more_patterns ps rest), more_patterns-long own k ps rest, length-numbers k p.params)
 
-  mutual
-    process-long : (p : s.Process) (env : List Scope) (k : ℕ) (rest : List Terminal) → IsProcess p → nodes (process number env k p) + length rest ≤ length (of_process p rest)
-    process-long s.Zero env k rest h = omega arith
-    process-long (s.Msg on args) env k rest h = omega (arith, applied-long on args rest, length-refs env args)
-    process-long (s.Go b c) env k rest h = omega arith
-    process-long (s.Fail b c) env k rest h = omega arith
-    process-long s.Halt env k rest h = omega arith
-    process-long (s.Group ps) env k rest h = omega (arith, processes-long ps env k (a_sign sign.ParenRight ∷ rest) h)
-    process-long (s.Def ds ps) env k rest h =
-        let inner = open_at k (block ds) env in
-        omega (arith, level-long ds k inner (k + 1) false (a_key key.Inside ∷ of_processes ps rest) h.0, processes-long ps inner (k + 1 + scopes_in_defs ds) rest h.1)
-
-    processes-long : (ps : s.Processes) (env : List Scope) (k : ℕ) (rest : List Terminal) → AreProcesses ps → nodes (together (members number env k ps)) + length rest ≤ length (of_processes ps rest)
-    processes-long s.none env k rest h = absurd h
-    processes-long (s.one_more p s.none) env k rest h = process-long p env k rest h.0
-    processes-long (s.one_more p (s.one_more q ps)) env k rest h =
-        omega (arith, process-long p env k (more_processes (s.one_more q ps) rest) h.0, more-long (s.one_more q ps) p env (k + scopes_in p) rest h.1)
-
-    -- each has a bar before it
-    more-long : (ps : s.Processes) (p : s.Process) (env : List Scope) (k : ℕ) (rest : List Terminal) → AreMore p ps
-        → length (members number env k ps) + nodes_of_all (t.processes (members number env k ps)) + length rest ≤ length (more_processes ps rest)
-    more-long s.none p env k rest h = omega arith
-    more-long (s.one_more q ps) p env k rest h =
-        omega (arith, process-long q env k (more_processes ps rest) h.1, more-long ps q env (k + scopes_in q) rest h.2)
-
-    definition-long : (d : s.Definition) (own : ℕ) (env : List Scope) (k : ℕ) (within : Bool) (rest : List Terminal) → IsDefinition within d
-        → nodes_of (definition number own env k d) + length rest ≤ length (of_definition d rest)
-    definition-long (s.Rule pats body) own env k within rest h =
-        omega (arith, patterns-long own k pats (of_processes body rest) h.0, processes-long body (open_at k (parameters (params pats)) env) (k + 1) rest h.2)
-    definition-long (s.Place o a ds body) own env k true rest h = absurd h
-    definition-long (s.Place o a ds body) own env k false rest h =
-        omega (arith, level-long ds own env k true (a_sign sign.Colon ∷ of_processes body (a_sign sign.SquareRight ∷ rest)) h.1, processes-long body env (k + scopes_in_defs ds) (a_sign sign.SquareRight ∷ rest) h.2)
-
-    level-long : (ds : s.Definitions) (own : ℕ) (env : List Scope) (k : ℕ) (within : Bool) (rest : List Terminal) → AreDefinitions within ds
-        → definition_nodes (t.definitions (level number own env k ds)) + length rest ≤ length (of_definitions ds rest)
-    level-long s.no_definition own env k within rest h = omega arith
-    level-long (s.and_also d ds) own env k within rest h =
-        omega (arith, definition-long d own env k within (more_definitions ds rest) h.0, more-level-long ds own env (k + scopes_in_def d) within rest h.1)
-
-    more-level-long : (ds : s.Definitions) (own : ℕ) (env : List Scope) (k : ℕ) (within : Bool) (rest : List Terminal) → AreDefinitions within ds
-        → definition_nodes (t.definitions (level number own env k ds)) + length rest ≤ length (more_definitions ds rest)
-    more-level-long s.no_definition own env k within rest h = omega arith
-    more-level-long (s.and_also d ds) own env k within rest h =
-        omega (arith, definition-long d own env k within (more_definitions ds rest) h.0, more-level-long ds own env (k + scopes_in_def d) within rest h.1)
-
-  sites-long : (ss : List PlaceTree) (env : List Scope) (k : ℕ) → AreSites ss → definition_nodes (t.definitions (level number 0 env k (sites_of ss))) ≤ length (of_sites ss [])
-  sites-long [] env k h = omega arith
-  sites-long (x ∷ ss) env k h =
-      omega (
-        arith,
-        level-long (s.definitions x.defs) 0 env k false (a_sign sign.Colon ∷ of_processes (s.processes x.body) (a_sign sign.SquareRight ∷ of_sites ss [])) h.0,
-        processes-long (s.processes x.body) env (k + scopes_in_defs (s.definitions x.defs)) (a_sign sign.SquareRight ∷ of_sites ss []) h.1,
-        sites-long ss env (k + scopes_in_def (place_of x)) h.2,
-      )
-
   declarations-long : (ds : List SeenTree) (rest : List Terminal) → length rest ≤ length (of_declarations ds rest)
   declarations-long [] rest = omega arith
   declarations-long (d ∷ ds) rest = omega (arith, declarations-long ds rest)
 
-  pub sentence-long : (tree : TreeOfText) (env : List Scope) (k : ℕ) → AreSites tree.sites → definition_nodes (t.definitions (level number 0 env k (sites_of tree.sites))) ≤ length (sentence tree)
-  sentence-long tree env k h = omega (arith, sites-long tree.sites env k h, declarations-long tree.seen (of_sites tree.sites []))
+  -- whatever may stand as an argument
+  module _ (literal : Word → Option Ref) where
+    pub length-refs : (env : List Scope) (ws : List Word) → length (refs_of number literal env ws) ≡ length ws
+    length-refs env [] = refl
+    length-refs env (w ∷ ws) = omega (arith, length-refs env ws)
+
+    mutual
+      process-long : (p : s.Process) (env : List Scope) (k : ℕ) (rest : List Terminal) → IsProcess p → nodes (process number literal env k p) + length rest ≤ length (of_process p rest)
+      process-long s.Zero env k rest h = omega arith
+      process-long (s.Msg on args) env k rest h = omega (arith, applied-long on args rest, length-refs env args)
+      process-long (s.Go b c) env k rest h = omega arith
+      process-long (s.Fail b c) env k rest h = omega arith
+      process-long s.Halt env k rest h = omega arith
+      process-long (s.Group ps) env k rest h = omega (arith, processes-long ps env k (a_sign sign.ParenRight ∷ rest) h)
+      process-long (s.Def ds ps) env k rest h =
+          let inner = open_at k (block ds) env in
+          omega (arith, level-long ds k inner (k + 1) false (a_key key.Inside ∷ of_processes ps rest) h.0, processes-long ps inner (k + 1 + scopes_in_defs ds) rest h.1)
+
+      processes-long : (ps : s.Processes) (env : List Scope) (k : ℕ) (rest : List Terminal) → AreProcesses ps → nodes (together (members number literal env k ps)) + length rest ≤ length (of_processes ps rest)
+      processes-long s.none env k rest h = absurd h
+      processes-long (s.one_more p s.none) env k rest h = process-long p env k rest h.0
+      processes-long (s.one_more p (s.one_more q ps)) env k rest h =
+          omega (arith, process-long p env k (more_processes (s.one_more q ps) rest) h.0, more-long (s.one_more q ps) p env (k + scopes_in p) rest h.1)
+
+      -- each has a bar before it
+      more-long : (ps : s.Processes) (p : s.Process) (env : List Scope) (k : ℕ) (rest : List Terminal) → AreMore p ps
+          → length (members number literal env k ps) + nodes_of_all (t.processes (members number literal env k ps)) + length rest ≤ length (more_processes ps rest)
+      more-long s.none p env k rest h = omega arith
+      more-long (s.one_more q ps) p env k rest h =
+          omega (arith, process-long q env k (more_processes ps rest) h.1, more-long ps q env (k + scopes_in q) rest h.2)
+
+      definition-long : (d : s.Definition) (own : ℕ) (env : List Scope) (k : ℕ) (within : Bool) (rest : List Terminal) → IsDefinition within d
+          → nodes_of (definition number literal own env k d) + length rest ≤ length (of_definition d rest)
+      definition-long (s.Rule pats body) own env k within rest h =
+          omega (arith, patterns-long own k pats (of_processes body rest) h.0, processes-long body (open_at k (parameters (params pats)) env) (k + 1) rest h.2)
+      definition-long (s.Place o a ds body) own env k true rest h = absurd h
+      definition-long (s.Place o a ds body) own env k false rest h =
+          omega (arith, level-long ds own env k true (a_sign sign.Colon ∷ of_processes body (a_sign sign.SquareRight ∷ rest)) h.1, processes-long body env (k + scopes_in_defs ds) (a_sign sign.SquareRight ∷ rest) h.2)
+
+      level-long : (ds : s.Definitions) (own : ℕ) (env : List Scope) (k : ℕ) (within : Bool) (rest : List Terminal) → AreDefinitions within ds
+          → definition_nodes (t.definitions (level number literal own env k ds)) + length rest ≤ length (of_definitions ds rest)
+      level-long s.no_definition own env k within rest h = omega arith
+      level-long (s.and_also d ds) own env k within rest h =
+          omega (arith, definition-long d own env k within (more_definitions ds rest) h.0, more-level-long ds own env (k + scopes_in_def d) within rest h.1)
+
+      more-level-long : (ds : s.Definitions) (own : ℕ) (env : List Scope) (k : ℕ) (within : Bool) (rest : List Terminal) → AreDefinitions within ds
+          → definition_nodes (t.definitions (level number literal own env k ds)) + length rest ≤ length (more_definitions ds rest)
+      more-level-long s.no_definition own env k within rest h = omega arith
+      more-level-long (s.and_also d ds) own env k within rest h =
+          omega (arith, definition-long d own env k within (more_definitions ds rest) h.0, more-level-long ds own env (k + scopes_in_def d) within rest h.1)
+
+    sites-long : (ss : List PlaceTree) (env : List Scope) (k : ℕ) → AreSites ss → definition_nodes (t.definitions (level number literal 0 env k (sites_of ss))) ≤ length (of_sites ss [])
+    sites-long [] env k h = omega arith
+    sites-long (x ∷ ss) env k h =
+        omega (
+          arith,
+          level-long (s.definitions x.defs) 0 env k false (a_sign sign.Colon ∷ of_processes (s.processes x.body) (a_sign sign.SquareRight ∷ of_sites ss [])) h.0,
+          processes-long (s.processes x.body) env (k + scopes_in_defs (s.definitions x.defs)) (a_sign sign.SquareRight ∷ of_sites ss []) h.1,
+          sites-long ss env (k + scopes_in_def (place_of x)) h.2,
+        )
+
+    pub sentence-long : (tree : TreeOfText) (env : List Scope) (k : ℕ) → AreSites tree.sites → definition_nodes (t.definitions (level number literal 0 env k (sites_of tree.sites))) ≤ length (sentence tree)
+    sentence-long tree env k h = omega (arith, sites-long tree.sites env k h, declarations-long tree.seen (of_sites tree.sites []))

@@ -5,6 +5,7 @@ use Rattle.join_parse.specs.Source.{Process, Zero, Msg, Go, Fail, Halt, Group, D
 use Rattle.scope_check.specs.Blocks.{params, parameters, block, Scope, Resolved, resolve, open_at, scopes_in, scopes_in_def, scopes_in_defs}
 use Rattle.scope_check.specs.Uses.{called, headed, sent, Use, all_sent, uses, all_uses, definition_uses, level_uses}
 use Rattle.scope_check.specs.FaultList.{used_by, use_faults}
+use Rattle.scope_check.specs.Checked.{no_literals}
 use Rattle.scope_check.specs.Numbers.{Binder}
 use Rattle.scope_check.specs.Twin.{Table, called_by, headed_by, sent_by, sent_in, table_at, uses_in, all_uses_in, definition_uses_in, level_uses_in}
 use Rattle.scope_names.specs.Frames.{in_env}
@@ -41,12 +42,12 @@ module _ (number : Binder → ℕ) where
     headed-is : (a : List Table) (env : List Scope) (w : Word) → EnvStandsFor number a env → headed_by w (in_env w.text a) ≡ used_by headed w (resolve env w.text)
     headed-is a env w h = ap (headed_by w) (env-resolves number a env w.text h) ∙ headed-same w (resolve env w.text)
 
-    sent-is : (a : List Table) (env : List Scope) (ws : List Word) → EnvStandsFor number a env → sent_in a ws ≡ use_faults (all_sent env ws)
+    sent-is : (a : List Table) (env : List Scope) (ws : List Word) → EnvStandsFor number a env → sent_in a ws ≡ use_faults (all_sent no_literals env ws)
     sent-is a env [] h = refl
     sent-is a env (w ∷ ws) h = λ i. (ap (sent_by w) (env-resolves number a env w.text h) ∙ sent-same w (resolve env w.text)) i ++ sent-is a env ws h i
 
     mutual
-      pub uses-are : (p : Process) (a : List Table) (env : List Scope) (k : ℕ) → EnvStandsFor number a env → Fits number tables k p → uses_in tables a k p ≡ use_faults (uses env k p)
+      pub uses-are : (p : Process) (a : List Table) (env : List Scope) (k : ℕ) → EnvStandsFor number a env → Fits number tables k p → uses_in tables a k p ≡ use_faults (uses no_literals env k p)
       uses-are Zero a env k h f = refl
       uses-are (Msg on args) a env k h f = λ i. called-is a env on (length args) h i ++ sent-is a env args h i
       uses-are (Go b c) a env k h f = λ i. headed-is a env b h i ++ (called-is a env c 0 h ∙ append-nil-faults (used_by (called 0) c (resolve env c.text))) i
@@ -56,16 +57,16 @@ module _ (number : Binder → ℕ) where
       uses-are (Def ds ps) a env k h f =
           let own = table_at tables k in let more = open_at k (block ds) env in
           (λ i. level-uses-are ds (own ∷ a) more (k + 1) (f.0, h) f.2 i ++ all-uses-are ps (own ∷ a) more (k + 1 + scopes_in_defs ds) (f.0, h) f.3 i)
-          ∙ sym (faults-append (level_uses more (k + 1) ds) (all_uses more (k + 1 + scopes_in_defs ds) ps))
+          ∙ sym (faults-append (level_uses no_literals more (k + 1) ds) (all_uses no_literals more (k + 1 + scopes_in_defs ds) ps))
 
-      pub all-uses-are : (ps : Processes) (a : List Table) (env : List Scope) (k : ℕ) → EnvStandsFor number a env → AllFit number tables k ps → all_uses_in tables a k ps ≡ use_faults (all_uses env k ps)
+      pub all-uses-are : (ps : Processes) (a : List Table) (env : List Scope) (k : ℕ) → EnvStandsFor number a env → AllFit number tables k ps → all_uses_in tables a k ps ≡ use_faults (all_uses no_literals env k ps)
       all-uses-are none a env k h f = refl
-      all-uses-are (one_more p ps) a env k h f = (λ i. uses-are p a env k h f.0 i ++ all-uses-are ps a env (k + scopes_in p) h f.1 i) ∙ sym (faults-append (uses env k p) (all_uses env (k + scopes_in p) ps))
+      all-uses-are (one_more p ps) a env k h f = (λ i. uses-are p a env k h f.0 i ++ all-uses-are ps a env (k + scopes_in p) h f.1 i) ∙ sym (faults-append (uses no_literals env k p) (all_uses no_literals env (k + scopes_in p) ps))
 
-      pub one-uses-are : (d : Definition) (a : List Table) (env : List Scope) (k : ℕ) → EnvStandsFor number a env → DefinitionFits number tables k d → definition_uses_in tables a k d ≡ use_faults (definition_uses env k d)
+      pub one-uses-are : (d : Definition) (a : List Table) (env : List Scope) (k : ℕ) → EnvStandsFor number a env → DefinitionFits number tables k d → definition_uses_in tables a k d ≡ use_faults (definition_uses no_literals env k d)
       one-uses-are (Rule pats body) a env k h f = all-uses-are body (table_at tables k ∷ a) (open_at k (parameters (params pats)) env) (k + 1) (f.0, h) f.1
-      one-uses-are (Place o n ds body) a env k h f = (λ i. level-uses-are ds a env k h f.0 i ++ all-uses-are body a env (k + scopes_in_defs ds) h f.1 i) ∙ sym (faults-append (level_uses env k ds) (all_uses env (k + scopes_in_defs ds) body))
+      one-uses-are (Place o n ds body) a env k h f = (λ i. level-uses-are ds a env k h f.0 i ++ all-uses-are body a env (k + scopes_in_defs ds) h f.1 i) ∙ sym (faults-append (level_uses no_literals env k ds) (all_uses no_literals env (k + scopes_in_defs ds) body))
 
-      pub level-uses-are : (ds : Definitions) (a : List Table) (env : List Scope) (k : ℕ) → EnvStandsFor number a env → LevelFits number tables k ds → level_uses_in tables a k ds ≡ use_faults (level_uses env k ds)
+      pub level-uses-are : (ds : Definitions) (a : List Table) (env : List Scope) (k : ℕ) → EnvStandsFor number a env → LevelFits number tables k ds → level_uses_in tables a k ds ≡ use_faults (level_uses no_literals env k ds)
       level-uses-are no_definition a env k h f = refl
-      level-uses-are (and_also d ds) a env k h f = (λ i. one-uses-are d a env k h f.0 i ++ level-uses-are ds a env (k + scopes_in_def d) h f.1 i) ∙ sym (faults-append (definition_uses env k d) (level_uses env (k + scopes_in_def d) ds))
+      level-uses-are (and_also d ds) a env k h f = (λ i. one-uses-are d a env k h f.0 i ++ level-uses-are ds a env (k + scopes_in_def d) h f.1 i) ∙ sym (faults-append (definition_uses no_literals env k d) (level_uses no_literals env (k + scopes_in_def d) ds))

@@ -1,8 +1,10 @@
 -- What the check of a tree answers.
-use Rattle.std.specs.Prelude.{◌≡◌, ℕ, Some, None}
+use Rattle.std.specs.Prelude.{◌≡◌, ℕ, Option, Some, None}
 use Rattle.join_base.specs.declared.fault.Front.{Front}
 use Rattle.join_base.specs.declared.fault.Front.TheVariants.{Refused, Memory}
+use Rattle.join_parse.specs.declared.word.Word.{Word}
 use Rattle.join_parse.specs.Grammar.{TreeOfText}
+use Rattle.chem_model.specs.declared.name.Ref.{Ref}
 use Rattle.chem_model.specs.ProgramFacts.{ProgramTerms}
 use Rattle.scope_check.specs.declared.fault.Fault.{Fault}
 use Rattle.scope_check.specs.Order.{IsFirst}
@@ -13,18 +15,22 @@ use Rattle.scope_check.specs.Stands.{program}
 abbrev pub most_sites : ℕ
 most_sites = 64
 
+-- what an argument that isn't a name stands for: each argument is a name
+abbrev pub no_literals : Word → Option Ref
+no_literals w = None
+
 -- The tree has no fault, and this is its program.
 pub record IsProgramOf (t : TreeOfText) (p : ProgramTerms) : Type 0 where
-  pub is : p ≡ program t
-  pub none : IsFirst (IsFault most_sites t) None
+  pub is : p ≡ program no_literals t
+  pub none : IsFirst (IsFault most_sites no_literals t) None
 
 -- The tree's first fault is of this kind at this place.
 abbrev pub IsRefusedAs : TreeOfText → Front → Type 0
-IsRefusedAs t (Refused kind place) = IsFirst (IsFault most_sites t) (Some (record { kind = kind; place = place }))
+IsRefusedAs t (Refused kind place) = IsFirst (IsFault most_sites no_literals t) (Some (record { kind = kind; place = place }))
 IsRefusedAs t Memory = Unit {0}
 
 -- A tree has one program or one first fault, and never both.
 pub record OneOutcome (t : TreeOfText) : Type 0 where
   pub one_program : (p q : ProgramTerms) → IsProgramOf t p → IsProgramOf t q → p ≡ q
-  pub one_fault : (f g : Fault) → IsFirst (IsFault most_sites t) (Some f) → IsFirst (IsFault most_sites t) (Some g) → f ≡ g
-  pub never_both : (p : ProgramTerms) (f : Fault) → IsProgramOf t p → IsFirst (IsFault most_sites t) (Some f) → ⊥
+  pub one_fault : (f g : Fault) → IsFirst (IsFault most_sites no_literals t) (Some f) → IsFirst (IsFault most_sites no_literals t) (Some g) → f ≡ g
+  pub never_both : (p : ProgramTerms) (f : Fault) → IsProgramOf t p → IsFirst (IsFault most_sites no_literals t) (Some f) → ⊥

@@ -9,6 +9,7 @@ use Rattle.join_parse.specs.declared.word.PatTree.{PatTree}
 use Rattle.join_parse.specs.declared.tree.PlaceTree.{PlaceTree}
 use Rattle.join_parse.specs.Source.{Process, Zero, Msg, Go, Fail, Halt, Group, Def, Processes, none, one_more, Definition, Rule, Place, Definitions, no_definition, and_also}
 use Rattle.join_parse.specs.Grammar.{TreeOfText}
+use Rattle.chem_model.specs.declared.name.Ref.{Ref}
 use Rattle.scope_names.specs.declared.scope.Sort.{Sort}
 use Rattle.scope_names.specs.declared.scope.Sort.TheVariants.{Channel, Location, Observed, Parameter}
 use Rattle.scope_check.specs.declared.fault.Fault.{Fault}
@@ -104,5 +105,5 @@ abbrev pub many : List PlaceTree → List Fault
 many [] = []
 many (s ∷ ss) = record { kind = Scope6; place = s.opener } ∷ many ss
 
-abbrev pub fault_list : (limit : ℕ) → TreeOfText → List Fault
-fault_list limit t = many (drop limit t.sites) ++ (declared_faults t ++ use_faults (uses_of t))
+abbrev pub fault_list : (limit : ℕ) (literal : Word → Option Ref) → TreeOfText → List Fault
+fault_list limit literal t = many (drop limit t.sites) ++ (declared_faults t ++ use_faults (uses_of literal t))

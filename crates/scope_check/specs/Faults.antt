@@ -6,6 +6,7 @@ use Rattle.join_parse.specs.declared.word.Word.{Word}
 use Rattle.join_parse.specs.declared.word.PatTree.{PatTree}
 use Rattle.join_parse.specs.declared.tree.PlaceTree.{PlaceTree}
 use Rattle.join_parse.specs.Grammar.{TreeOfText}
+use Rattle.chem_model.specs.declared.name.Ref.{Ref}
 use Rattle.scope_names.specs.declared.scope.Sort.{Sort}
 use Rattle.scope_names.specs.declared.scope.Sort.TheVariants.{Channel, Location, Observed, Parameter}
 use Rattle.scope_check.specs.declared.fault.Fault.{Fault}
@@ -91,8 +92,8 @@ pub record WrongSite (limit : ℕ) (sites : List PlaceTree) (f : Fault) : Type 0
   pub here : f.place ≡ site.opener
   pub wrong : f.kind ≡ Scope6
 
--- The faults of a tree in which there may be this many sites.
-pub data IsFault (limit : ℕ) (t : TreeOfText) (f : Fault) : Type 0 where
-  of_use : (u : Use) → Member u (uses_of t) → WrongUse u f → IsFault limit t f
-  of_declared : (d : Declared) → Member d (declared_of t) → WrongDeclared d f → IsFault limit t f
-  of_site : WrongSite limit t.sites f → IsFault limit t f
+-- The faults of a tree in which there may be this many sites, and an argument that isn't a name stands for this.
+pub data IsFault (limit : ℕ) (literal : Word → Option Ref) (t : TreeOfText) (f : Fault) : Type 0 where
+  of_use : (u : Use) → Member u (uses_of literal t) → WrongUse u f → IsFault limit literal t f
+  of_declared : (d : Declared) → Member d (declared_of t) → WrongDeclared d f → IsFault limit literal t f
+  of_site : WrongSite limit t.sites f → IsFault limit literal t f

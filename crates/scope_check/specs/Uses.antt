@@ -1,9 +1,10 @@
 -- The uses of words in a tree with the scopes around each, its blocks, and its join patterns.
-use Rattle.std.specs.Prelude.{ℕ, ◌+◌, List, [], ◌∷◌, ◌++◌, length}
+use Rattle.std.specs.Prelude.{ℕ, ◌+◌, List, [], ◌∷◌, ◌++◌, Option, Some, None, length}
 use Rattle.join_parse.specs.declared.word.Word.{Word}
 use Rattle.join_parse.specs.declared.word.PatTree.{PatTree}
 use Rattle.join_parse.specs.Source.{Process, Zero, Msg, Go, Fail, Halt, Group, Def, Processes, none, one_more, Definition, Rule, Place, Definitions, no_definition, and_also}
 use Rattle.join_parse.specs.Grammar.{TreeOfText}
+use Rattle.chem_model.specs.declared.name.Ref.{Ref}
 use Rattle.scope_check.specs.Blocks.{Defining, params, parameters, block, sites_of, outermost, Scope, open_at, scopes_in, scopes_in_def, scopes_in_defs}
 
 -- a word as a message's name with this many arguments, as the first name of `go` or `fail`, or as an argument
@@ -21,36 +22,43 @@ pub record Use : Type 0 where
 abbrev pub used : Manner → Word → List Scope → Use
 used m w env = record { manner = m; word = w; around = env }
 
-abbrev pub all_sent : List Scope → List Word → List Use
-all_sent env [] = []
-all_sent env (w ∷ ws) = used sent w env ∷ all_sent env ws
+-- An argument that is a name is looked up, and one that stands for a literal is not.
+abbrev pub sent_unless : Option Ref → Word → List Scope → List Use
+sent_unless None w env = used sent w env ∷ []
+sent_unless (Some r) w env = []
 
--- The second name of `go` and `fail` is used as a message's name with no arguments.
--- Under these scopes, the next scope that is opened having number k.
-abbrev mutual
-  pub uses : List Scope → ℕ → Process → List Use
-  uses env k Zero = []
-  uses env k (Msg on args) = used (called (length args)) on env ∷ all_sent env args
-  uses env k (Go b c) = used headed b env ∷ used (called 0) c env ∷ []
-  uses env k (Fail b c) = used headed b env ∷ used (called 0) c env ∷ []
-  uses env k Halt = []
-  uses env k (Group ps) = all_uses env k ps
-  uses env k (Def ds ps) = level_uses (open_at k (block ds) env) (k + 1) ds ++ all_uses (open_at k (block ds) env) (k + 1 + scopes_in_defs ds) ps
+-- Where this is what an argument that isn't a name stands for: None for one that is.
+module _ (literal : Word → Option Ref) where
+  abbrev pub all_sent : List Scope → List Word → List Use
+  all_sent env [] = []
+  all_sent env (w ∷ ws) = sent_unless (literal w) w env ++ all_sent env ws
 
-  pub all_uses : List Scope → ℕ → Processes → List Use
-  all_uses env k none = []
-  all_uses env k (one_more p ps) = uses env k p ++ all_uses env (k + scopes_in p) ps
+  -- The second name of `go` and `fail` is used as a message's name with no arguments.
+  -- Under these scopes, the next scope that is opened having number k.
+  abbrev mutual
+    pub uses : List Scope → ℕ → Process → List Use
+    uses env k Zero = []
+    uses env k (Msg on args) = used (called (length args)) on env ∷ all_sent env args
+    uses env k (Go b c) = used headed b env ∷ used (called 0) c env ∷ []
+    uses env k (Fail b c) = used headed b env ∷ used (called 0) c env ∷ []
+    uses env k Halt = []
+    uses env k (Group ps) = all_uses env k ps
+    uses env k (Def ds ps) = level_uses (open_at k (block ds) env) (k + 1) ds ++ all_uses (open_at k (block ds) env) (k + 1 + scopes_in_defs ds) ps
 
-  pub definition_uses : List Scope → ℕ → Definition → List Use
-  definition_uses env k (Rule pats body) = all_uses (open_at k (parameters (params pats)) env) (k + 1) body
-  definition_uses env k (Place o a ds body) = level_uses env k ds ++ all_uses env (k + scopes_in_defs ds) body
+    pub all_uses : List Scope → ℕ → Processes → List Use
+    all_uses env k none = []
+    all_uses env k (one_more p ps) = uses env k p ++ all_uses env (k + scopes_in p) ps
 
-  pub level_uses : List Scope → ℕ → Definitions → List Use
-  level_uses env k no_definition = []
-  level_uses env k (and_also d ds) = definition_uses env k d ++ level_uses env (k + scopes_in_def d) ds
+    pub definition_uses : List Scope → ℕ → Definition → List Use
+    definition_uses env k (Rule pats body) = all_uses (open_at k (parameters (params pats)) env) (k + 1) body
+    definition_uses env k (Place o a ds body) = level_uses env k ds ++ all_uses env (k + scopes_in_defs ds) body
 
-abbrev pub uses_of : TreeOfText → List Use
-uses_of t = level_uses (open_at 0 (outermost t) []) 1 (sites_of t.sites)
+    pub level_uses : List Scope → ℕ → Definitions → List Use
+    level_uses env k no_definition = []
+    level_uses env k (and_also d ds) = definition_uses env k d ++ level_uses env (k + scopes_in_def d) ds
+
+  abbrev pub uses_of : TreeOfText → List Use
+  uses_of t = level_uses (open_at 0 (outermost t) []) 1 (sites_of t.sites)
 
 -- what is defined: a block, or the names of a join pattern
 pub data Declared : Type 0 where
