@@ -1,25 +1,12 @@
 #!/usr/bin/env bash
 # Measures the parser: prints how long parsing and printing take for ordinary texts of 1/4, 1/2 and 1 MB, as the mean over so many
 # rounds (default 20). Lexing is done once and isn't counted.
-# A measure and no test: a program of a few lines is run in a copy of the crates that it stands on,
-# which is removed at the end. The first run proves those crates; what they keep in out/ makes later ones short.
+# A measure and no test.
 set -eu
 rounds=${1:-20}
-root=$(cd "$(dirname "$0")/.." && pwd)
-work=$(mktemp -d)
-trap 'rm -rf "$work"' EXIT
+. "$(dirname "$0")/scratch.sh"
 
-mkdir "$work/crates"
-for crate in chem_model join_base join_lex join_parse; do
-    cp -r "$root/crates/$crate" "$work/crates/"
-    grep "^$crate:" "$root/crates.txt" >>"$work/crates.txt"
-done
-cd "$work"
-rt new crates/parse_bench start_io >/dev/null
-echo 'parse_bench: join_parse join_lex join_base anyhow' >>crates.txt
-rm -rf crates/parse_bench/{src,specs,proofs,stdin,stdout}
-mkdir crates/parse_bench/src
-cat >crates/parse_bench/src/main.rt <<PROGRAM
+scratch parse_bench chem_model join_base join_lex join_parse <<PROGRAM
 //! Parses and prints the text on standard input again and again.
 #![tactic(auto)]
 
@@ -56,15 +43,10 @@ line='site s_1 [
 ] '
 for size in 262144 524288 1048576; do
     count=$((size / ${#line}))
-    for ((i = 0; i < count; i++)); do printf %s "$line"; done >crates/parse_bench/text.$size
+    for ((i = 0; i < count; i++)); do printf %s "$line"; done >text.$size
 done
-cp crates/parse_bench/text.262144 crates/parse_bench/stdin
-mv crates/parse_bench/text.* .
-cd crates/parse_bench
-rt run <stdin >log 2>&1 || {
-    cat log
-    exit 1
-}
+cp text.262144 stdin
+build
 for size in 262144 524288 1048576; do
-    out/parse_bench <../../text.$size
+    out/parse_bench <text.$size
 done

@@ -1,35 +1,45 @@
 #!/usr/bin/env bash
-# Measures a run on one thread: prints how many events a second the program makes on each of a few texts, for a
-# budget of so many events (default 20000). A text that the reader refuses is passed over.
+# Measures a run on one thread: prints how many events a second the program makes on each of a few texts, for a budget
+# of so many events (default 20000), and how that falls with the number of messages that wait.
+# A measure and no test.
 set -eu
 budget=${1:-20000}
-root=$(cd "$(dirname "$0")/.." && pwd)
-work=$(mktemp -d)
-trap 'rm -rf "$work"' EXIT
+join=$(cd "$(dirname "$0")/.." && pwd)/join
 
-cat >"$work/endless.join" <<'TEXT'
-site s [ c(x) => c(x) : c(s) ]
-TEXT
-cat >"$work/ping_pong.join" <<'TEXT'
+# events NAME: runs the text on standard input, and prints its events a second
+events() {
+    local start taken status=0
+    start=$(date +%s%N)
+    "$join" alone --budget "$budget" >/dev/null 2>&1 || status=$?
+    taken=$(($(date +%s%N) - start))
+    if [ "$status" = 5 ]; then
+        echo "$1: $((budget * 1000000000 / taken)) events a second"
+    else
+        echo "$1: ended with status $status"
+        exit 1
+    fi
+}
+
+# waiting COUNT: an endless reaction beside so many messages that no rule takes
+waiting() {
+    printf 'site s [ c(x) => c(x) and idle() | never() => 0 : c(s)'
+    for ((i = 0; i < $1; i++)); do printf ' | idle()'; done
+    printf ' ]\n'
+}
+
+# builds the program where it is missing or old
+"$join" alone --budget 0 <"$(dirname "$join")/examples/first.join" >/dev/null || true
+
+events 'an endless reaction' <<<'site s [ c(x) => c(x) : c(s) ]'
+events 'a ping-pong of two sites' <<'TEXT'
 site a [ ping(x) => pong(x) : ping(a) ]
 site b [ pong(x) => ping(x) : 0 ]
 TEXT
-cat >"$work/tour.join" <<'TEXT'
+events 'an agent that tours' <<'TEXT'
 site a [ none : 0 ]
 site b [ none : 0 ]
 site c [ agent [ to_a() => go(a, to_b) and to_b() => go(b, to_a) : go(a, to_b) ] : 0 ]
 TEXT
-
-# builds the program where it is missing or old
-"$root/join" alone --budget 0 <"$root/examples/first.join" >/dev/null || true
-for name in endless ping_pong tour; do
-    start=$(date +%s%N)
-    status=0
-    "$root/join" alone --budget "$budget" <"$work/$name.join" >/dev/null 2>&1 || status=$?
-    taken=$(($(date +%s%N) - start))
-    case $status in
-    5) echo "$name: $((budget * 1000000000 / taken)) events a second" ;;
-    1) echo "$name: refused" ;;
-    *) echo "$name: ended with status $status" ;;
-    esac
+for count in 100 1000 10000; do
+    events "an endless reaction, $count messages waiting" < <(waiting "$count")
 done

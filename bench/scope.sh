@@ -1,25 +1,12 @@
 #!/usr/bin/env bash
 # Measures the check of scopes: prints how long it takes for the trees of texts of 1/4, 1/2 and 1 MB with up to 60,000 names,
 # as the mean over so many rounds (default 20).
-# A measure and no test: a program of a few lines is run in a copy of the crates that it stands on,
-# which is removed at the end. The first run proves those crates; what they keep in out/ makes later ones short.
+# A measure and no test.
 set -eu
 rounds=${1:-20}
-root=$(cd "$(dirname "$0")/.." && pwd)
-work=$(mktemp -d)
-trap 'rm -rf "$work"' EXIT
+. "$(dirname "$0")/scratch.sh"
 
-mkdir "$work/crates"
-for crate in chem_model join_base join_lex join_parse scope_names scope_check; do
-    cp -r "$root/crates/$crate" "$work/crates/"
-    grep "^$crate:" "$root/crates.txt" >>"$work/crates.txt"
-done
-cd "$work"
-rt new crates/scope_bench start_io >/dev/null
-echo 'scope_bench: scope_check join_parse join_lex join_base anyhow' >>crates.txt
-rm -rf crates/scope_bench/{src,specs,proofs,stdin,stdout}
-mkdir crates/scope_bench/src
-cat >crates/scope_bench/src/main.rt <<PROGRAM
+scratch scope_bench chem_model join_base join_lex join_parse scope_names scope_check <<PROGRAM
 //! Checks the tree of the text on standard input again and again.
 #![tactic(auto)]
 
@@ -57,12 +44,8 @@ text() {
             printf " : %s() ]", name(n - 1)
         }'
 }
-cd crates/scope_bench
 text 15000 >stdin
-rt run <stdin >log 2>&1 || {
-    cat log
-    exit 1
-}
+build
 for names in 15000 30000 60000; do
     text "$names" >stdin
     out/scope_bench <stdin
