@@ -24,10 +24,6 @@ module _ (ts : List Token) where
   pub names-all : (at end upto : ℕ) (list : List Word) → ListedNames ts at end list → terms ts end ≡ a_sign sign.ParenRight ∷ terms ts upto → terms ts at ≡ names list (terms ts upto)
   names-all at end upto list l close = l [] (terms ts upto) close ∙ ap (λ xs. names xs (terms ts upto)) (append-nil list)
 
-  -- patterns
-  pub patterns-first : (at upto : ℕ) (p : PatTree) → length p.params ≤ 255 → terms ts at ≡ applied p.on p.params (terms ts upto) → ListedPatterns ts at upto (p ∷ [])
-  patterns-first at upto p few e = λ ps rest a q. (tt, (few, a), e ∙ ap (applied p.on p.params) q)
-
   pub patterns-more : (at end mid upto : ℕ) (list : List PatTree) (p : PatTree) → ListedPatterns ts at end list → terms ts end ≡ a_sign sign.Bar ∷ terms ts mid → length p.params ≤ 255 → terms ts mid ≡ applied p.on p.params (terms ts upto) → ListedPatterns ts at upto (list ++ p ∷ [])
   patterns-more at end mid upto list p l bar few e = λ ps rest a q.
       let h = l (p ∷ ps) rest (few, a) (bar ∙ ap (λ r. a_sign sign.Bar ∷ r) (e ∙ ap (applied p.on p.params) q)) in
@@ -46,10 +42,6 @@ module _ (ts : List Token) where
   pub declarations-all : (at end : ℕ) (list : List SeenTree) → ListedDeclarations ts at end list → AreDeclarations list × (terms ts at ≡ of_declarations list (terms ts end))
   declarations-all at end list l = subst (λ xs. AreDeclarations xs × (terms ts at ≡ of_declarations xs (terms ts end))) (append-nil list) (l [] (terms ts end) tt refl)
 
-  -- sites
-  pub sites-none : (at : ℕ) → ListedSites ts at at []
-  sites-none at = λ ss rest a q. (a, q)
-
   pub sites-more : (at end upto : ℕ) (list : List PlaceTree) (s : PlaceTree) → ListedSites ts at end list → SpellsSite ts end s upto → ListedSites ts at upto (list ++ s ∷ [])
   sites-more at end upto list s l e = λ ss rest a q.
       let h = l (s ∷ ss) rest (e.0, e.1, a) (e.2 ∙ ap (λ r. a_site s.opener ∷ named s.name ∷ a_sign sign.SquareLeft ∷ of_definitions (definitions s.defs) (a_sign sign.Colon ∷ of_processes (processes s.body) (a_sign sign.SquareRight ∷ r))) q) in
@@ -66,9 +58,6 @@ module _ (ts : List Token) where
   joined-none : (list : List Process) → joined list none ≡ processes list
   joined-none [] = refl
   joined-none (p ∷ list) = ap (one_more p) (joined-none list)
-
-  pub processes-none : (at : ℕ) → ListedProcesses ts at at []
-  processes-none at = λ ps rest a q. (a, q)
 
   pub processes-more : (at end mid upto : ℕ) (list : List Process) (q : Process) → ListedProcesses ts at end list → IsSimple q → SpellsProcess ts end q mid → terms ts mid ≡ a_sign sign.Bar ∷ terms ts upto → ListedProcesses ts at upto (list ++ q ∷ [])
   processes-more at end mid upto list q l simple e bar none rest a r = absurd a

@@ -67,13 +67,6 @@ key_symbol-pass key.Fail = refl
 key_symbol-pass key.Halt = refl
 key_symbol-pass key.Void = refl
 
--- what a test says of the terminals
-pub sign-terms : (s : Sign) (ts : List Token) (at : ℕ) (t : Token) → drop at ts ≡ t ∷ drop (at + 1) ts → is_sign s t.kind ≡ true → terms ts at ≡ a_sign s ∷ terms ts (at + 1)
-sign-terms s ts at t e q = rw (e, sign-is s t.kind t.span.from q) refl
-
-pub key-terms : (j : Key) (ts : List Token) (at : ℕ) (t : Token) → drop at ts ≡ t ∷ drop (at + 1) ts → is_key j t.kind ≡ true → terms ts at ≡ key_terminal j (place_of 0 (drop at ts)) ∷ terms ts (at + 1)
-key-terms j ts at t e q = rw (e, key-is j t.kind t.span.from q) refl
-
 module _ (b : Bounds) where
   -- one token, against the symbol that is expected
   pub takes : (rest us : List Token) (t : Token) (s : Symbol) (stack more : List Symbol) → rest ≡ t ∷ us → step s t.kind ≡ Push more → level (more ++ stack) ≤ b.levels → outcome b rest (s ∷ stack) ≡ outcome b us (more ++ stack)

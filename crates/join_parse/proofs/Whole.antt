@@ -62,14 +62,6 @@ pub end-whole : (b : Bounds) (ts : List Token) (upto : ℕ) → length ts ≤ up
 unfolding outcome
 end-whole b ts upto l = rw (nothing-left ts upto l) refl
 
-pub is-sentence : (ts : List Token) (mid upto : ℕ) (seen : List SeenTree) (sites : List PlaceTree) → length ts ≤ upto → AreDeclarations seen → terms ts 0 ≡ of_declarations seen (terms ts mid) → IsSome sites → AreSites sites → terms ts mid ≡ of_sites sites (terms ts upto) → IsSentence ts (record { seen = seen; sites = sites })
-is-sentence ts mid upto seen sites l a d some c s =
-    let none : terms ts upto ≡ [] = ap terminals (nothing-left ts upto l) in
-    record {
-      grammatical = record { seen = a; some_site = some; sites = c };
-      spelled = d ∙ ap (of_declarations seen) (s ∙ ap (of_sites sites) none);
-    }
-
 -- what the whole reads is a tree within the limit
 pub whole-tree : (b : Bounds) (ts : List Token) (t : TreeOfText) → outcome b ts (Program ∷ []) ≡ Whole → IsSentence ts t → IsTreeOf b.levels ts t
 whole-tree b ts t e s = record { is = s; low = whole-low b ts (Program ∷ []) (levels t) e (ap (λ x. run x (Program ∷ [])) s.spelled ∙ run-sentence t s.grammatical) }
@@ -78,9 +70,6 @@ whole-tree b ts t e s = record { is = s; low = whole-low b ts (Program ∷ []) (
 pub stop-refusal : (b : Bounds) (ts : List Token) (e : Front) → IsStop b ts e → IsRefusedAs b.levels b.end ts e
 stop-refusal b ts (Refused kind place) h = stop-fault b ts kind place h
 stop-refusal b ts Memory h = tt
-
-pub exit-refusal : (b : Bounds) (ts : List Token) {T U : Type 0} (q : Result U Front) (r : Result T Front) (e : Front) → IsErrAnd r (λ y. y ≡ e) → q ≡ Err e → IfErr q (IsStop b ts) → IfErr r (IsRefusedAs b.levels b.end ts)
-exit-refusal b ts q r e a is h = let p = err_from_is_err_and r a in let g : IsStop b ts e = rw is at h in rw (p.1, p.2) (stop-refusal b ts e g)
 
 -- terminals of tokens are of the language
 of-version : (ts : List Token) → All (λ token. IsOfVersion first_version token.kind) ts → AreOfVersion first_version (terminals ts)

@@ -14,9 +14,6 @@ or_right false y e = e
 pub among-here : (bs : List ℕ) (b : ℕ) → is_among (b ∷ bs) b ≡ true
 among-here bs b = or_left (eqb b b) (is_among bs b) (eq-eqb b b refl)
 
-pub among-later : (c : ℕ) (bs : List ℕ) (b : ℕ) → is_among bs b ≡ true → is_among (c ∷ bs) b ≡ true
-among-later c bs b e = or_right (eqb c b) (is_among bs b) e
-
 pub among-cons : (c : ℕ) (bs : List ℕ) (b : ℕ) → is_among (c ∷ bs) b ≡ true → (c ≡ b) ⊎ (is_among bs b ≡ true)
 among-cons c bs b e = elim (or_cases (eqb c b) (is_among bs b) e) [ inl h ↦ inl (eqb-true c b h) | inr h ↦ inr h ]
 

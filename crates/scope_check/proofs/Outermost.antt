@@ -167,11 +167,6 @@ numbers-other t =
     covers : Covers (observed t ++ site_names t) (site_level t)
     covers b e = firsts-within (site_names t) (observed t) b (or-false-right (list_any (is_same b) (observed t)) (list_any (is_same b) (site_names t)) (sym (any-append (is_same b) (observed t) (site_names t)) ∙ e))
 
-pub numbers-all : (t : TreeOfText) → Consecutive (index_of (binders t)) 0 (binders t)
-numbers-all t =
-    let e : length (site_level t) ≡ 0 + length (site_level t) = omega arith in
-    consecutive-append (index_of (binders t)) (site_level t) (others t) 0 (numbers-site t) (subst (λ n. Consecutive (index_of (binders t)) n (others t)) e (numbers-other t))
-
 texts-append : (xs ys : List Binder) → texts (xs ++ ys) ≡ texts xs ++ texts ys
 texts-append [] ys = refl
 texts-append (x ∷ xs) ys = ap (λ l. x.text ∷ l) (texts-append xs ys)
