@@ -18,6 +18,7 @@ fn expect_unread(rt: &impl Abort, alloc: Global, words: &[&str], status: u8) -> 
 #[test]
 fn the_source_is_unread(rt: HostRuntime) -> Result<(), Fail> {
     expect_unread(&rt, rt.alloc(), &[], 2)?;
+    expect_unread(&rt, rt.alloc(), &["fly"], 2)?;
     expect_unread(&rt, rt.alloc(), &["gen"], 2)?;
     expect_unread(&rt, rt.alloc(), &["alone", "--budget", "1000001"], 2)?;
     expect_unread(&rt, rt.alloc(), &["rounds"], 2)?;
