@@ -4,7 +4,7 @@ use Rattle.chem_model.specs.ProgramFacts.{ProgramTerms}
 use Rattle.trace_history.specs.Book.{IsStuck}
 use Rattle.trace_history.specs.First.{IsFirst}
 use Rattle.site_runner.specs.Run.{RunsOn}
-use Rattle.site_runner.proofs.Going.{Goes, begins, after_event, stops, is_spent, whole, some_site}
+use Rattle.site_runner.proofs.Going.{Goes, begins, first_not_stuck, after_event, stops, is_spent, whole, some_site}
 use Rattle.site_runner.proofs.one_thread.alone.Goals as goal
 
 pub loop-place-init : goal.loop-place-init
@@ -13,6 +13,7 @@ loop-place-init c =
       begins c.args.book c.args.budget c.replays.ensures.0 c.replays.ensures.1,
       some_site program c.args.book.program c.program.invariant (c.program.view_is ∙ c.program-program.ensures),
       sym (c.len-place.ensures.count ∙ ap length c.journal.ensures),
+      λ stuck. stuck,
     )
 
 pub loop-place-preserved : goal.loop-place-preserved
@@ -28,6 +29,7 @@ loop-place-preserved c =
       subst (λ (s : ℕ). Goes c.args.book c.args.budget c.commit.new.self s) (sym c.after-from.ensures.after) more.0,
       subst (λ (s : ℕ). c.after-from.result < s) sites c.after-from.ensures.within,
       more.1 ∙ ap (λ (k : ℕ). k + 1) at,
+      λ stuck. elim first_not_stuck run g.last g.leads c.loop-place.from found.site found.event first (c.loop-place.invariant.3 stuck) [ ],
     )
 
 pub returns-in-None-clause-run : goal.returns-in-None-clause-run
