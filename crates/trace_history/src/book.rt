@@ -113,7 +113,7 @@ impl Book {
         requires { from < length self.now.program.sites }
         ensures first { IfOk result (λ found. Finds self.now from found) }
         ensures site { IfOk result (λ found. IfSome found (λ f. f.site < length self.now.program.sites)) }
-    ensures memory { OnErr result (IsStuck self.now → ⊥) }
+        ensures memory { OnErr result (IsStuck self.now → ⊥) }
     {
         self.is_sound();
         first_event(alloc, &self.solution, from)
