@@ -1,7 +1,7 @@
 // An event made in place: first all that takes memory, then what can't fail.
-ghost use Rattle.std.specs.Prelude.{◌≡◌, IfOk, OnErr};
+ghost use Rattle.std.specs.Prelude.{◌≡◌, IfOk, OnErr, true};
 ghost use Rattle.chem_model.specs.Apply.{rule_at, atom_at, react_rule, with_atom, move_atom, halt_atom, detect_atom, apply};
-ghost use Rattle.chem_commit.specs.Replaces.{Replaces};
+ghost use Rattle.chem_commit.specs.Replaces.{Replaces, takes_memory};
 
 use crate::add::add;
 use crate::effect::{departure, detection, failing, reaction};
@@ -75,10 +75,11 @@ fn detect(alloc: Global, solution: &mut Numbered, id: AtomId) -> Result<bool, Me
 }
 
 /// Makes an event in place where it is possible, and answers whether it was. Where it isn't possible, and on want of
-/// memory, nothing changes.
+/// memory, nothing changes. A halt takes no memory.
 pub fn make_event(alloc: Global, solution: &mut Numbered, event: &Event) -> Result<bool, Memory>
     ensures done { IfOk result (λ made. Replaces (apply solution.old event.now) solution.old made solution.new) }
     ensures err { OnErr result (solution.new ≡ solution.old) }
+    ensures memory { OnErr result (takes_memory event.now ≡ true) }
 {
     match event {
         Event::React { rule, took } => react(alloc, solution, *rule, took),

@@ -1,5 +1,6 @@
 -- A run on its way: what it appended so far is the beginning of a schedule.
 use Rattle.std.proofs.Common.{◌≡◌, ℕ, ◌+◌, ◌-◌, ◌<◌, ◌≤◌, List, [], ◌∷◌, ◌++◌, Option, Some, None, Bool, true, false, cond, refl, ap, sym, ◌∙◌, subst, arith, length, length-append, append_assoc, append-nil, ◌⊎◌, inl, inr, is_some}
+use Rattle.std.specs.Prelude.{Result, Ok, Err, OnErr}
 use Rattle.chem_model.specs.declared.event.Event.{Event}
 use Rattle.chem_model.specs.declared.numbered.Numbered.{Numbered}
 use Rattle.chem_model.specs.ProgramFacts.{ProgramTerms, IsProgram}
@@ -48,6 +49,23 @@ append_one (y ∷ xs) x ys = ap (λ zs. y ∷ zs) (append_one xs x ys)
 some_of : (o : Option Numbered) → is_some o ≡ true → (m : Numbered) × (o ≡ Some m)
 some_of None e = cc
 some_of (Some m) e = (m, refl)
+
+-- where an event comes first, the book isn't stuck
+pub first_not_stuck : (b : Kept) (n : Numbered) → solution b ≡ Some n → (from site : ℕ) (e : Event) → IsFirst n from site e → IsStuck b → ⊥
+first_not_stuck b n leads from site e finds still =
+    let enabled : is_enabled b e ≡ is_some (apply n e) = ap (λ o. is_some (apply_if o e)) leads in
+    let possible = finds.possible in
+    let not = still e in
+    cc
+
+-- a run that began where no event is possible makes none
+pub still_stuck : (old now new : Kept) → (IsStuck old → IsStuck now) → (IsStuck now → ⊥) → IsStuck old → IsStuck new
+still_stuck old now new keeps not still = elim (not (keeps still)) [ ]
+
+-- on want of memory at an event, one was possible at the beginning
+pub possible_on_err : {X Y : Type 0} (o : Result X Y) (old now : Kept) → (IsStuck old → IsStuck now) → (IsStuck now → ⊥) → OnErr o (IsStuck old → ⊥)
+possible_on_err (Ok x) old now keeps not = tt
+possible_on_err (Err y) old now keeps not = λ still. not (keeps still)
 
 -- one more event, the first one
 module _ (old : Kept) (budget : ℕ) (now : Kept) (from : ℕ) (g : Goes old budget now from) (f : Found) (finds : IsFirst g.last from f.site f.event) (low : length now.journal < budget) where

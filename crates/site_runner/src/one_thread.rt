@@ -1,5 +1,6 @@
 // The run on one thread.
-ghost use Rattle.std.specs.Prelude.{◌≡◌, [], ◌<◌, ◌≤◌, ◌^◌, length, IfOk};
+ghost use Rattle.std.specs.Prelude.{◌≡◌, [], ◌<◌, ◌≤◌, ◌^◌, length, IfOk, OnErr};
+ghost use Rattle.trace_history.specs.Book.{IsStuck};
 ghost use Rattle.site_runner.specs.Schedule.{after, ScheduleOf};
 ghost use Rattle.site_runner.specs.Run.{RunsOn};
 
@@ -36,11 +37,14 @@ fn after(sites: usize, site: u32) -> u32
 }
 
 /// Makes the event that comes first, from the site after the last one's, until none is possible or the journal has
-/// `budget` events. It begins at the first site.
+/// `budget` events. It begins at the first site. It takes memory only where the budget
+/// leaves an event and one is possible.
 pub fn alone(alloc: Global, book: Book, budget: u32) -> Result<Done, Memory>
     requires { length book.journal ≤ budget }
     ensures run { IfOk result (λ done. RunsOn book budget done.book) }
     ensures whole { IfOk result (λ done. book.journal ≡ [] → ScheduleOf book.program budget done.book.journal) }
+    ensures left { OnErr result (length book.journal < budget) }
+    ensures possible { OnErr result (IsStuck book → ⊥) }
 {
     let mut run = book;
     run.replays();

@@ -1,6 +1,7 @@
 -- What the search answers is the event that comes first, and its site is one of the solution.
 use Rattle.std.proofs.Common.{◌≡◌, ℕ, ◌<◌, ◌≤◌, List, Option, Some, None, Bool, true, false, refl, ap, sym, ◌∙◌, subst, arith, ◌&&◌, is_some, length}
 use Rattle.std.specs.List.{list_all}
+use Rattle.std.specs.Prelude.{Result, Ok, Err, OnErr}
 use Rattle.chem_model.specs.declared.event.AtomId.{AtomId}
 use Rattle.chem_model.specs.declared.event.Event.{Event}
 use Rattle.chem_model.specs.declared.event.Event.TheVariants as event
@@ -61,6 +62,11 @@ stuck_is n e h = (λ t f. cc, λ g. let not = g e in cc)
 
 pub rule_not_stuck : (n : Numbered) → IsSound n → (from : ℕ) (r : NumberedRule) → IsFirstOf (is_ready n) (rule_before n from) n.rules (Some r) → (false ≡ true → (f : Event) → is_some (apply n f) ≡ false) × (((f : Event) → is_some (apply n f) ≡ false) → false ≡ true)
 rule_not_stuck n sound from r g = let e = rule_possible n sound from r g in stuck_is n e.0 e.1
+
+-- want of memory where a rule is ready: then an event is possible
+pub ready_on_err : {X Y : Type 0} (o : Result X Y) (n : Numbered) → IsSound n → (from : ℕ) (r : NumberedRule) → IsFirstOf (is_ready n) (rule_before n from) n.rules (Some r) → OnErr o (((f : Event) → is_some (apply n f) ≡ false) → ⊥)
+ready_on_err (Ok x) n sound from r g = tt
+ready_on_err (Err y) n sound from r g = λ stuck. let e = rule_possible n sound from r g in let not = stuck e.0 in let is = e.1 in cc
 
 pub request_not_stuck : (n : Numbered) → IsSound n → (from : ℕ) (a : NumberedAtom) → IsFirstOf (can_act n) (request_before n from) n.atoms (Some a) → (false ≡ true → (f : Event) → is_some (apply n f) ≡ false) × (((f : Event) → is_some (apply n f) ≡ false) → false ≡ true)
 request_not_stuck n sound from a h = let e = request_possible n sound from a h in stuck_is n e.0 e.1

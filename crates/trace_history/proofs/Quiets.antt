@@ -34,6 +34,9 @@ module _ (b : Kept) (n : Numbered) (leads : solution b ≡ Some n) where
     λ quiet. h.1 (λ f. ap is_some ((law n sound).1 (quiet n leads) f)),
   )
 
+  pub stuck_found : (from : ℕ) → IsStuck b → IsFound n from None
+  stuck_found from h f = sym (enabled_is f) ∙ h f
+
   pub found_site : (from : ℕ) (o : Option Found) → IsFound n from o → IfSome o (λ f. f.site < length b.program.sites)
   found_site from None h = tt
   found_site from (Some f) h = subst (λ (k : ℕ). f.site < k) (replay_sites b.program b.journal n leads) h.1

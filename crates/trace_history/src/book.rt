@@ -107,11 +107,13 @@ impl Book {
         is_stuck(&self.solution)
     }
 
-    /// The event that comes first, where the site `from` is looked at first, and its site. None where no event is possible.
+    /// The event that comes first, where the site `from` is looked at first, and its site. None where no event is possible:
+    /// to find none takes no memory.
     pub fn first_enabled(&self, alloc: Global, from: u32) -> Result<Option<Found>, Memory>
         requires { from < length self.now.program.sites }
         ensures first { IfOk result (λ found. Finds self.now from found) }
         ensures site { IfOk result (λ found. IfSome found (λ f. f.site < length self.now.program.sites)) }
+        ensures memory { OnErr result (IsStuck self.now → ⊥) }
     {
         self.is_sound();
         first_event(alloc, &self.solution, from)

@@ -1,5 +1,5 @@
 // The search for the event that comes first, over the plain lists.
-ghost use Rattle.std.specs.Prelude.{◌≡◌, ◌<◌, ◌^◌, length, true, IfOk, IsTrue, ◌↔◌, None};
+ghost use Rattle.std.specs.Prelude.{◌≡◌, ◌<◌, ◌^◌, length, true, IfOk, IsTrue, ◌↔◌, None, OnErr};
 ghost use Rattle.std.specs.List.{list_all};
 ghost use Rattle.std.specs.Option.{option_copied};
 ghost use Rattle.chem_model.specs.Sound.{IsSound};
@@ -218,14 +218,16 @@ fn meeting(numbered: &Numbered, atom: &NumberedAtom) -> Option<Found>
     }
 }
 
-/// The event that comes first. A reaction comes before a request at the same site.
+/// The event that comes first. A reaction comes before a request at the same site. It takes memory only where an event
+/// is possible.
 pub(crate) fn first_event(
     alloc: Global,
     numbered: &Numbered,
     from: u32,
 ) -> Result<Option<Found>, Memory>
     requires { IsSound numbered.now }
-    ensures { IfOk result (λ found. IsFound numbered.now from found) }
+    ensures found { IfOk result (λ found. IsFound numbered.now from found) }
+    ensures memory { OnErr result (IsFound numbered.now from None → ⊥) }
 {
     match first_rule(numbered, from) {
         Some(rule) => match first_request(numbered, from) {

@@ -4,7 +4,7 @@ use Rattle.chem_model.specs.ProgramFacts.{ProgramTerms}
 use Rattle.trace_history.specs.Book.{IsStuck}
 use Rattle.trace_history.specs.First.{IsFirst}
 use Rattle.site_runner.specs.Run.{RunsOn}
-use Rattle.site_runner.proofs.Going.{Goes, begins, after_event, stops, is_spent, whole, some_site}
+use Rattle.site_runner.proofs.Going.{Goes, begins, first_not_stuck, still_stuck, possible_on_err, after_event, stops, is_spent, whole, some_site}
 use Rattle.site_runner.proofs.one_thread.alone.Goals as goal
 
 pub loop-place-init : goal.loop-place-init
@@ -13,6 +13,7 @@ loop-place-init c =
       begins c.args.book c.args.budget c.replays.ensures.0 c.replays.ensures.1,
       some_site program c.args.book.program c.program.invariant (c.program.view_is ∙ c.program-program.ensures),
       sym (c.len-place.ensures.count ∙ ap length c.journal.ensures),
+      λ still. still,
     )
 
 pub loop-place-preserved : goal.loop-place-preserved
@@ -28,6 +29,7 @@ loop-place-preserved c =
       subst (λ (s : ℕ). Goes c.args.book c.args.budget c.commit.new.self s) (sym c.after-from.ensures.after) more.0,
       subst (λ (s : ℕ). c.after-from.result < s) sites c.after-from.ensures.within,
       more.1 ∙ ap (λ (k : ℕ). k + 1) at,
+      still_stuck c.args.book run c.commit.new.self c.loop-place.invariant.3 (first_not_stuck run g.last g.leads c.loop-place.from found.site found.event first),
     )
 
 pub returns-in-None-clause-run : goal.returns-in-None-clause-run
@@ -53,3 +55,13 @@ returns-clause-whole c =
     let start : c.len-place.result ≡ length c.args.book.journal = c.len-place.ensures.count ∙ ap length c.journal.ensures in
     let spent : length c.loop-place.run.journal ≡ c.args.budget = omega arith in
     whole c.args.book c.args.budget c.loop-place.run (is_spent c.args.book c.args.budget c.loop-place.run c.loop-place.from c.loop-place.invariant.0 spent)
+
+pub returns-in_err-found-clause-possible : goal.returns-in_err-found-clause-possible
+returns-in_err-found-clause-possible c = possible_on_err c.from_residual.result c.args.book c.loop-place.run c.loop-place.invariant.3 c.in_err-found.ensures.memory
+
+pub returns-in_err-_commit-in-Some-clause-possible : goal.returns-in_err-_commit-in-Some-clause-possible
+returns-in_err-_commit-in-Some-clause-possible c =
+    let g = c.loop-place.invariant.0 in
+    let found = c.in-Some.found in
+    let first : IsFirst g.last c.loop-place.from found.site found.event = (rw c.in-Some.is at c.in_ok-found.ensures.first) g.last g.leads in
+    possible_on_err c.from_residual-in_err-_commit-in-Some.result c.args.book c.loop-place.run c.loop-place.invariant.3 (first_not_stuck c.loop-place.run g.last g.leads c.loop-place.from found.site found.event first)
