@@ -1,10 +1,10 @@
 // Worked cases as data, and the one test that runs them all.
 
-use crate::examples::EXAMPLES;
-use crate::lines::LINES;
+use crate::examples::examples;
+use crate::lines::lines;
 use crate::outcome::{call, roomy_sink, source_of};
-use crate::refusals::REFUSALS;
-use crate::runs::RUNS;
+use crate::refusals::refusals;
+use crate::runs::runs;
 use std::alloc::Global;
 use std::process::Abort;
 use std::test::Fail;
@@ -68,7 +68,7 @@ impl Case {
 
 #[test]
 fn worked_cases(rt: HostRuntime) -> Result<(), Fail> {
-    for cases in [RUNS, REFUSALS, LINES, EXAMPLES] {
+    for cases in [runs(), refusals(), lines(), examples()] {
         for case in cases {
             case.expect(&rt, rt.alloc())?;
         }

@@ -2,8 +2,7 @@
 
 use crate::cases::{Case, QUIET};
 
-/// Each program of `examples/`, run with the default budget.
-pub const EXAMPLES: &[Case] = &[
+const EXAMPLES: &[Case] = &[
     // applet.join
     Case {
         words: &["alone"],
@@ -633,3 +632,8 @@ quiescent
         ..QUIET
     },
 ];
+
+/// Each program of `examples/`, run with the default budget.
+pub fn examples() -> &'static [Case] {
+    EXAMPLES
+}

@@ -2,8 +2,7 @@
 
 use crate::cases::{Case, QUIET, USAGE};
 
-/// Lines of words: what they ask for, or that they ask for nothing.
-pub const LINES: &[Case] = &[
+const LINES: &[Case] = &[
     // The default budget.
     Case {
         words: &["--", "alone"],
@@ -243,3 +242,8 @@ pub const LINES: &[Case] = &[
         ..USAGE
     },
 ];
+
+/// Lines of words: what they ask for, or that they ask for nothing.
+pub fn lines() -> &'static [Case] {
+    LINES
+}

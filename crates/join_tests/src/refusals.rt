@@ -2,8 +2,7 @@
 
 use crate::cases::{Case, REFUSED};
 
-/// Texts that are refused, with the kind and the place of their refusal.
-pub const REFUSALS: &[Case] = &[
+const REFUSALS: &[Case] = &[
     // A fault of the grammar before it belongs to a later phase.
     Case {
         text: &[(1, "site [ $")],
@@ -142,3 +141,8 @@ pub const REFUSALS: &[Case] = &[
         ..REFUSED
     },
 ];
+
+/// Texts that are refused, with the kind and the place of their refusal.
+pub fn refusals() -> &'static [Case] {
+    REFUSALS
+}

@@ -2,8 +2,7 @@
 
 use crate::cases::{Case, QUIET};
 
-/// Texts that are run, each with the words `alone --budget 10` unless it has others.
-pub const RUNS: &[Case] = &[
+const RUNS: &[Case] = &[
     // The least whole run.
     Case {
         text: &[(1, "observe out/1; site s [ x(u) => out(u) : x(s) ]")],
@@ -240,3 +239,8 @@ pub const RUNS: &[Case] = &[
         ..QUIET
     },
 ];
+
+/// Texts that are run, each with the words `alone --budget 10` unless it has others.
+pub fn runs() -> &'static [Case] {
+    RUNS
+}
