@@ -43,6 +43,7 @@ fn line_command<'a>(alloc: Global) -> Result<Command<'a>, AllocError>
 fn end_of(error: &Error) -> WordEnd
     ensures form { result ≡ WordEnd.Form → kind_of error.now ≡ ErrorKind.OutOfMemory → ⊥ }
     ensures memory { kind_of error.now ≡ ErrorKind.OutOfMemory → result ≡ WordEnd.Memory }
+    ensures only { result ≡ WordEnd.Memory → kind_of error.now ≡ ErrorKind.OutOfMemory }
 {
     match error.kind() {
         ErrorKind::OutOfMemory => WordEnd::Memory,

@@ -1,10 +1,9 @@
 // The names of a run: the binders for which they were made, and their ranks.
 ghost use Rattle.std.specs.Prelude.{◌≡◌, ◌<◌, ◌^◌, IfOk, OnOk};
-ghost use Rattle.chem_model.specs.Solution.{same_loc};
 ghost use Rattle.chem_model.specs.Numbered.{same_name, binder_in};
 ghost use Rattle.trace_text.specs.TraceText.{seen_spelling, binder_spelling, is_ranked, is_in, ranked_after, ranked, place_in};
 
-use chem_model::{Items, Loc, Memory, Name, Names, Naming, Outs, Program};
+use chem_model::{Items, Memory, Name, Names, Naming, Outs, Program, same_loc};
 use std::alloc::Global;
 
 /// Whether two names are the same.
@@ -129,11 +128,4 @@ fn add_ranked(
         }
     }
     Ok(())
-}
-
-/// Whether two locations are the same.
-fn same_loc(one: Loc, other: Loc) -> bool
-    ensures { result ≡ same_loc one other }
-{
-    one.site == other.site && one.k == other.k
 }
