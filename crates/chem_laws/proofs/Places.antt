@@ -73,9 +73,6 @@ live_kept pl new l here at_root h =
       roots,
     )
 
-pub live_left : (xs ys : List Placed) (l : Loc) → live (standing xs) l ≡ true → is_there (standing xs (root (standing xs) l)) ≡ true → (live (standing (xs ++ ys)) l ≡ true) × (root (standing (xs ++ ys)) l ≡ root (standing xs) l)
-live_left xs ys l h r = live_kept (standing xs) (standing (xs ++ ys)) l (standing_left xs ys l (live_parts (standing xs) l h).0) (standing_left xs ys (root (standing xs) l) r) h
-
 -- ---- roots
 
 -- what is kept of each location is kept of one that stands

@@ -51,9 +51,6 @@ under_more s j k le (name.Seen i) h = tt
 under_more s j k le (name.Place a) h = λ e. let lt = h e in omega arith
 under_more s j k le (name.Chan t i g) h = ((λ e. let lt = h.0 e in omega arith), λ e. let lt = h.1 e in omega arith)
 
-pub entries_more : (s j k : ℕ) → j ≤ k → (m : Naming) → OnEntries (Under s j) m → OnEntries (Under s k) m
-entries_more s j k le = Each-weaker (λ (e : Named). Under s j e.name) (λ (e : Named). Under s k e.name) (λ e h. under_more s j k le e.name h)
-
 -- ---- a weaker fact on the pairs of a solution
 
 pub pairs_weaker : (P R : ℕ → ℕ → Type 0) → ((t j : ℕ) → P t j → R t j) → (n : Name) → OnPairs P n → OnPairs R n

@@ -1,4 +1,4 @@
-// Whether an event is possible, without memory, and the effect of an event in place.
+// Whether an event is possible, without memory.
 ghost use Rattle.std.specs.Prelude.{◌≡◌, is_some, Some};
 ghost use Rattle.chem_model.specs.Apply.{received, received_at, received_all, react_rule, move_atom, halt_atom, detect_atom, apply};
 

@@ -41,9 +41,6 @@ field_rule f = filled (optional (field_id f))
 abbrev pub log_rule : Rule
 log_rule = filled (flagged (codes "log"))
 
-rules-are : all_rules ≡ mode_rule ∷ ring_rule ∷ field_rule budget ∷ field_rule workers ∷ field_rule by ∷ log_rule ∷ []
-rules-are = refl
-
 abbrev pub kind_rule : Kind → Option Rule
 kind_rule (valued f) = Some (field_rule f)
 kind_rule flag = Some log_rule
@@ -65,10 +62,6 @@ by_long name = go (bytes_eq (codes "budget") name) (bytes_eq (codes "workers") n
 
 abbrev pub repeat : Bool → Kinds
 repeat b = cond b (kind.ArgumentConflict ∷ []) []
-
-and_true : (b : Bool) → (b && true) ≡ b
-and_true true = refl
-and_true false = refl
 
 abbrev text_fault : Bool → Kinds
 text_fault b = or_else (cond b (kind.ArgumentConflict ∷ []) []) []
@@ -95,9 +88,6 @@ pub field_used : (f : Field) (v : Text) (rows : List Row) → used (field_rule f
 field_used budget v rows = refl
 field_used workers v rows = refl
 field_used by v rows = refl
-
-pub log_used : (rows : List Row) → used log_rule [] rows ≡ put (codes "log") AsWritten (codes "true" ∷ []) rows
-log_used rows = refl
 
 -- ---- after the words
 
@@ -129,6 +119,3 @@ defaults_pass = one_more mode_rule _ (λ rows. no_default (has_row (codes "mode"
     log_default : (b : Bool) → cond {A = Kinds} (b || false) [] [] ≡ []
     log_default true = refl
     log_default false = refl
-
-pub check_passes : (rows : List Row) → check_fault shape rows false ≡ []
-check_passes rows = refl

@@ -389,9 +389,6 @@ module _ (wt : Waiting) (pos : ℕ) (x : Text) (rows : List Row) (p : Option (Te
 has-none : (id : Text) (rows : List Row) → look id rows ≡ None → has_row id rows ≡ false
 has-none id rows e = has-look id rows ∙ ap is_some e
 
-has-some : (id : Text) (rows : List Row) (r : Row) → look id rows ≡ Some r → has_row id rows ≡ true
-has-some id rows r e = has-look id rows ∙ ap is_some e
-
 none-at : (f : Field) (l : Line) → is_some (at f l) ≡ false → at f l ≡ None
 none-at f l e = go (at f l) e
   where
@@ -473,9 +470,6 @@ module _ (c : ℕ) (t : Text) (rows : List Row) (p : Option (Text × List Text))
 -- ---- a plain word, where nothing waits
 
 module _ (x : Text) (rows : List Row) (p : Option (Text × List Text)) (wt : Waiting) (t : Bool) (l : Line) (hands : Hands wt t x) (clear : owes p rows ≡ []) where
-  abbrev with_words : Plain → Line
-  with_words pl = record l { plain = pl }
-
   plain_step : (pl : Plain) → Match (rows_now p rows) (record l { plain = pl })
       → read_word (reading (record l { plain = pl }) None t) x ≡ into (reading (record l { plain = pl }) None t) (with_plain pl x (record l { plain = pl }))
       → OneWord (walk_at (held rows p) wt (place pl) t) (reading (record l { plain = pl }) None t) x

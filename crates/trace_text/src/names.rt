@@ -1,29 +1,10 @@
 // The names of a run: the binders for which they were made, and their ranks.
 ghost use Rattle.std.specs.Prelude.{◌≡◌, ◌<◌, ◌^◌, IfOk, OnOk};
-ghost use Rattle.chem_model.specs.Numbered.{same_name, binder_in};
+ghost use Rattle.chem_model.specs.Numbered.{binder_in};
 ghost use Rattle.trace_text.specs.TraceText.{seen_spelling, binder_spelling, is_ranked, is_in, ranked_after, ranked, place_in};
 
-use chem_model::{Items, Memory, Name, Names, Naming, Outs, Program, same_loc};
+use chem_model::{Items, Memory, Name, Names, Naming, Outs, Program, same_name};
 use std::alloc::Global;
-
-/// Whether two names are the same.
-fn same_name(one: Name, other: Name) -> bool
-    ensures { result ≡ same_name one other }
-{
-    match (one, other) {
-        (Name::Seen(on), Name::Seen(other_on)) => on == other_on,
-        (Name::Place(loc), Name::Place(other_loc)) => same_loc(loc, other_loc),
-        (
-            Name::Chan { site, k, home },
-            Name::Chan {
-                site: other_site,
-                k: other_k,
-                home: other_home,
-            },
-        ) => site == other_site && k == other_k && same_loc(home, other_home),
-        _ => false,
-    }
-}
 
 /// The binder for which a name was made. Of two entries the first counts.
 pub(crate) fn binder_of(named: &Naming, name: Name) -> Option<u32>
