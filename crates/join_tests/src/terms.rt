@@ -2,8 +2,8 @@
 
 use crate::outcome::run;
 use chem_model::{
-    AtomId, Defn, DefnNode, Defs, Event, Items, Loc, Memory, Name, Names, Out, Proc, ProcNode, Ref,
-    RuleId,
+    AtomId, Defn, DefnNode, Defs, Event, Items, Loc, Memory, Name, Names, Numbered, Out, Proc,
+    ProcNode, Ref, RuleId,
 };
 use std::alloc::Global;
 use std::test::Fail;
@@ -135,4 +135,20 @@ fn the_kept_event(rt: HostRuntime) -> Result<(), Fail> {
         Some((RuleId { site: 0, k: 2 }, AtomId { site: 0, k: 3 }))
     );
     Ok(())
+}
+
+/// How many observables, and how many messages and requests, the replay of a kept journal ends with.
+fn replayed(alloc: Global, text: &str) -> Result<Option<(usize, usize)>, Memory> {
+    let run = run(alloc, "10", text)?;
+    let Some(kept) = run.ended.kept.as_ref() else {
+        return Ok(None);
+    };
+    let reached = Numbered::replay(alloc, &kept.program, &kept.journal)?;
+    Ok(reached.map(|solution| (solution.trace.len(), solution.atoms.len())))
+}
+
+#[test]
+fn the_kept_journal_replays(rt: HostRuntime) {
+    let text = "observe out/1; site s [ x(u) => out(u) and y(u) => 0 : x(s) ]";
+    assert_eq!(rt; replayed(rt.alloc(), text), Ok(Some((1, 0))));
 }
