@@ -21,7 +21,7 @@ pub use memory::Memory;
 pub use name::{Loc, Name, Names, Nums, Pat, Pats, Ref, Refs, Text, Texts};
 pub use numbered::{
     Counts, Made, Named, Naming, Numbered, NumberedAtom, NumberedAtoms, NumberedRule,
-    NumberedRules, Placed, PlacedList, same_loc, same_name,
+    NumberedRules, Placed, PlacedList, binder_in, same_loc, same_name,
 };
 pub use program::{Program, SeenDecl, SeenDecls, SiteTerm, SiteTerms};
 pub use term::{Defn, DefnNode, Defs, Proc, ProcNode, Procs};

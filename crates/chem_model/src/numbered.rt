@@ -211,6 +211,18 @@ fn place_at(places: &PlacedList, at: Loc) -> Option<Placed>
     None
 }
 
+/// The binder for which a name was made, by these entries. Of two entries the first counts.
+pub fn binder_in(named: &Naming, name: Name) -> Option<u32>
+    ensures { result ≡ binder_in named.now name }
+{
+    for entry in named.as_slice() {
+        if same_name(entry.name, name) {
+            return Some(entry.binder);
+        }
+    }
+    None
+}
+
 impl Numbered {
     /// A numbered solution that is equal to this one.
     pub fn copy(&self, alloc: Global) -> Result<Numbered, Memory>
@@ -238,12 +250,7 @@ impl Numbered {
     pub fn binder_of(&self, name: &Name) -> Option<u32>
         ensures { result ≡ binder_in self.now.named name.now }
     {
-        for entry in self.named.as_slice() {
-            if same_name(entry.name, *name) {
-                return Some(entry.binder);
-            }
-        }
-        None
+        binder_in(&self.named, *name)
     }
 
     /// Whether this is one of the solution's locations.

@@ -16,9 +16,9 @@ use Rattle.chem_laws.proofs.Taking.{atom_found}
 use Rattle.trace_history.specs.declared.book.Found.{Found}
 use Rattle.trace_history.specs.First.{IsFirst}
 use Rattle.trace_history.specs.Search.{IsFirstOf, is_met, is_ready, turn, rule_before, can_act, request_before, event_of, IsReaction, IsMeeting, IsFound}
-use Rattle.trace_history.proofs.Least.{member_found}
+use Rattle.trace_history.proofs.Least.{both, member_found}
 use Rattle.chem_model.specs.Apply.{apply}
-use Rattle.trace_history.proofs.Founds.{both, has_event, atoms_differ, react_first, request_first, rule_possible, request_possible}
+use Rattle.trace_history.proofs.Founds.{has_event, atoms_differ, react_first, request_first, rule_possible, request_possible}
 
 module _ (n : Numbered) (sound : IsSound n) (from : ℕ) where
   pub reaction_found : (r : NumberedRule) (q : Option NumberedAtom) → IsFirstOf (is_ready n) (rule_before n from) n.rules (Some r) → IsFirstOf (can_act n) (request_before n from) n.atoms q

@@ -22,9 +22,10 @@ use Rattle.chem_model.specs.Sound.{IsSound}
 use Rattle.chem_laws.proofs.Taking.{atom_found, rule_found}
 use Rattle.trace_history.specs.First.{turns, less, atom_less, rule_less, atoms_less, request_of, requests_less, event_less, site_of, site_of_rule, site_of_atom, IsFirst}
 use Rattle.trace_history.specs.Search.{IsIn, IsFirstOf, AreLeast, receives, atom_before, is_met, is_ready, turn, rule_before, can_act, request_before, event_of}
+use Rattle.trace_history.proofs.Replays.{same_some}
 use Rattle.trace_history.proofs.Order.{sooner, sooner_not, not_sooner, sooner_is, less_asym, less_trans, less_same}
 use Rattle.trace_history.proofs.FirstOf.{IsOrder}
-use Rattle.trace_history.proofs.Least.{AtomsDiffer, RulesDiffer, atom_has, rule_has, member_found, rule_member_found, some_both, least_received, least_of_all, all_met}
+use Rattle.trace_history.proofs.Least.{both, AtomsDiffer, RulesDiffer, atom_has, rule_has, member_found, rule_member_found, some_both, least_received, least_of_all, all_met}
 
 -- ---- the orders are orders
 
@@ -56,10 +57,6 @@ module _ (n : Numbered) (from : ℕ) where
   }
 
 -- ---- what a possible event says
-
-pub both : (a b : Bool) → a && b ≡ true → (a ≡ true) × (b ≡ true)
-both true b e = (refl, e)
-both false b e = cc
 
 pub record Reacting (n : Numbered) (i : RuleId) (took : List AtomId) : Type 0 where
   pub rule : NumberedRule
@@ -159,9 +156,6 @@ kind (event.React i took) = reaction i took
 kind (event.Move j) = request j refl
 kind (event.Halt j) = request j refl
 kind (event.Detect j) = request j refl
-
-same_some : {X : Type 0} (x y : X) → Some x ≡ Some y → x ≡ y
-same_some x y e = cc
 
 or_left : (a : Bool) → a || (false || false) ≡ true → a ≡ true
 or_left true h = refl

@@ -78,7 +78,7 @@ some_both None q = refl
 some_both (Some m) None = refl
 some_both (Some m) (Some ms) = refl
 
-both : (a b : Bool) → a && b ≡ true → (a ≡ true) × (b ≡ true)
+pub both : (a b : Bool) → a && b ≡ true → (a ≡ true) × (b ≡ true)
 both true b e = (refl, e)
 both false b e = cc
 

@@ -12,10 +12,7 @@ use Rattle.trace_history.specs.declared.book.Found.{Found}
 use Rattle.trace_history.specs.Kept.{Kept, solution, is_enabled}
 use Rattle.trace_history.specs.Book.{OnSolution, IsStuck, IsQuiet}
 use Rattle.trace_history.specs.Search.{IsFound}
-use Rattle.trace_history.proofs.Replays.{replay_sites}
-
-same_some : {X : Type 0} (x y : X) → Some x ≡ Some y → x ≡ y
-same_some x y e = cc
+use Rattle.trace_history.proofs.Replays.{same_some, replay_sites}
 
 none_of : (o : Option Numbered) → is_some o ≡ false → o ≡ None
 none_of None e = refl

@@ -40,7 +40,7 @@ replaced (Some after) n m made h is = ap Some (sym h.1)
 
 -- ---- the counts
 
-same_some : {X : Type 0} (x y : X) → Some x ≡ Some y → x ≡ y
+pub same_some : {X : Type 0} (x y : X) → Some x ≡ Some y → x ≡ y
 same_some x y e = cc
 
 pour_sites : (n : Numbered) (m : Naming) (l : Loc) (p : Process) → length (pour_at n m l p).counts ≡ length n.counts

@@ -1,22 +1,9 @@
 // The names of a run: the binders for which they were made, and their ranks.
 ghost use Rattle.std.specs.Prelude.{◌≡◌, ◌<◌, ◌^◌, IfOk, OnOk};
-ghost use Rattle.chem_model.specs.Numbered.{binder_in};
 ghost use Rattle.trace_text.specs.TraceText.{seen_spelling, binder_spelling, is_ranked, is_in, ranked_after, ranked, place_in};
 
-use chem_model::{Items, Memory, Name, Names, Naming, Outs, Program, same_name};
+use chem_model::{Items, Memory, Name, Names, Naming, Outs, Program, binder_in, same_name};
 use std::alloc::Global;
-
-/// The binder for which a name was made. Of two entries the first counts.
-pub(crate) fn binder_of(named: &Naming, name: Name) -> Option<u32>
-    ensures { result ≡ binder_in named.now name }
-{
-    for entry in named.as_slice() {
-        if same_name(entry.name, name) {
-            return Some(entry.binder);
-        }
-    }
-    None
-}
 
 /// The spelling of the observed name of a declaration.
 pub(crate) fn seen_spelling(program: &Program, declaration: u32) -> &[u8]
@@ -47,7 +34,7 @@ pub(crate) fn is_ranked(program: &Program, named: &Naming, name: Name) -> bool
 {
     match name {
         Name::Seen(_) => false,
-        Name::Place(_) | Name::Chan { .. } => match binder_of(named, name) {
+        Name::Place(_) | Name::Chan { .. } => match binder_in(named, name) {
             Some(binder) => binder >= program.tops,
             None => false,
         },

@@ -3,9 +3,9 @@ ghost use Rattle.trace_text.specs.TraceText.{place_in, name_text, made_text, nam
 ghost use Rattle.trace_text.specs.Later.{later_text};
 ghost use Rattle.trace_text.specs.Printed.{IsTraceOf};
 
-use crate::names::{binder_of, binder_spelling, is_ranked, place_in, ranked, seen_spelling};
+use crate::names::{binder_spelling, is_ranked, place_in, ranked, seen_spelling};
 use crate::text::{Ending, push_all, push_number};
-use chem_model::{Items, Memory, Name, Names, Naming, Out, Outs, Program, Text};
+use chem_model::{Items, Memory, Name, Names, Naming, Out, Outs, Program, Text, binder_in};
 use std::alloc::Global;
 use trace_history::Book;
 
@@ -139,7 +139,7 @@ fn push_made(
 ) -> Result<(), Memory>
     ensures { OnOk result (text.new ≡ text.old ++ made_text program.now named.now ranks.now name) }
 {
-    push_all(text, binder_spelling(program, binder_of(named, name)))?;
+    push_all(text, binder_spelling(program, binder_in(named, name)))?;
     if is_ranked(program, named, name) {
         push_rank(text, ranks, name)
     } else {

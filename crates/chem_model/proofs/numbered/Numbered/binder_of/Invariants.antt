@@ -1,6 +1,0 @@
-use Rattle.std.proofs.Common.{◌≡◌, drop}
-use Rattle.chem_model.specs.Numbered.{binder_in}
-use Rattle.chem_model.proofs.numbered.Numbered.binder_of.Given as goal
-
-abbrev pub invariant-loop-entry : goal.invariant-loop-entry
-invariant-loop-entry l = binder_in (drop l.entry-index l.entry-items) l.name ≡ binder_in l.entry-items l.name
