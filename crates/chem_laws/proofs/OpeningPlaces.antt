@@ -22,7 +22,7 @@ use Rattle.chem_model.specs.Runs.{only_roots, definitions_at}
 use Rattle.chem_laws.proofs.Lists.{both_true, true_both, Each-append}
 use Rattle.chem_laws.proofs.Bags.{one_self, bag-append}
 use Rattle.chem_laws.proofs.Within.{same_loc_is, same_loc_refl}
-use Rattle.chem_laws.proofs.Places.{root_loc}
+use Rattle.chem_laws.proofs.Places.{root_loc, none_there, born_all-append}
 use Rattle.chem_laws.proofs.Parts.{rules_left, bodies_left, born_all, FreshPlaces, PlacesReached}
 use Rattle.chem_laws.proofs.Reached.{chain_trans, state, reached_same, reached_again}
 use Rattle.chem_laws.proofs.OpeningNames.{SitesAre}
@@ -95,24 +95,8 @@ standing-append (x ∷ xs) ys l = go (same_loc x.loc l) (standing-append xs ys l
     go true ih = refl
     go false ih = ih
 
-pub place_pairs-append : (xs ys : List Placed) (q : Pair) → bag coded_pair (place_pairs (xs ++ ys)) q ≡ bag coded_pair (place_pairs xs) q + bag coded_pair (place_pairs ys) q
-place_pairs-append [] ys q = omega arith
-place_pairs-append (x ∷ xs) ys q = omega (arith, place_pairs-append xs ys q)
-
 abbrev pub at_pair : Loc → Pair
 at_pair l = (l.site, l.k)
-
--- a location that stands is counted
-pub counted : (xs : List Placed) (l : Loc) → is_there (standing xs l) ≡ true → 0 < bag coded_pair (place_pairs xs) (at_pair l)
-counted [] l h = cc
-counted (x ∷ xs) l h = go (same_loc x.loc l) refl (counted xs l) h
-  where
-    go : (s : Bool) → same_loc x.loc l ≡ s → (is_there (standing xs l) ≡ true → 0 < bag coded_pair (place_pairs xs) (at_pair l))
-        → is_there (cond s (Some (record { host = x.host; marked = x.marked })) (standing xs l)) ≡ true → 0 < one coded_pair (at_pair x.loc) (at_pair l) + bag coded_pair (place_pairs xs) (at_pair l)
-    go true e ih h' =
-        let here : one coded_pair (at_pair x.loc) (at_pair l) ≡ 1 = ap (λ (q : Loc). one coded_pair (at_pair x.loc) (at_pair q)) (sym (same_loc_is x.loc l e)) ∙ one_self coded_pair (at_pair x.loc) in
-        omega arith
-    go false e ih h' = let more = ih h' in omega arith
 
 abbrev Counted : List Placed → Placed → Type 0
 Counted xs x = 0 < bag coded_pair (place_pairs xs) (at_pair x.loc)
@@ -150,10 +134,6 @@ abbrev pub AreFresh : Places → List Placed → Type 0
 AreFresh pl [] = Unit {0}
 AreFresh pl (b ∷ bs) = (pl b.loc ≡ None) × AreFresh (born pl b.loc b.host) bs
 
-pub born_all-append : (pl : Places) (xs ys : List Placed) (l : Loc) → born_all (born_all pl xs) ys l ≡ born_all pl (xs ++ ys) l
-born_all-append pl [] ys l = refl
-born_all-append pl (x ∷ xs) ys l = born_all-append (born pl x.loc x.host) xs ys l
-
 pub fresh_left : (pl : Places) (xs ys : List Placed) → AreFresh pl (xs ++ ys) → AreFresh pl xs
 fresh_left pl [] ys h = tt
 fresh_left pl (x ∷ xs) ys h = (h.0, fresh_left (born pl x.loc x.host) xs ys h.1)
@@ -161,10 +141,6 @@ fresh_left pl (x ∷ xs) ys h = (h.0, fresh_left (born pl x.loc x.host) xs ys h.
 pub fresh_right : (pl : Places) (xs ys : List Placed) → AreFresh pl (xs ++ ys) → AreFresh (born_all pl xs) ys
 fresh_right pl [] ys h = h
 fresh_right pl (x ∷ xs) ys h = fresh_right (born pl x.loc x.host) xs ys h.1
-
-none_there : (o : Option Standing) → (is_there o ≡ true → ⊥) → o ≡ None
-none_there None h = refl
-none_there (Some s) h = absurd (h refl)
 
 -- locations that aren't in the map, each born once
 pub fresh_births : (pl : Places) (bs : List Placed) → ((l : Loc) → is_there (pl l) ≡ true → bag coded_pair (place_pairs bs) (at_pair l) ≡ 0) → ((q : Pair) → bag coded_pair (place_pairs bs) q ≤ 1) → AreFresh pl bs

@@ -20,12 +20,11 @@ use Rattle.chem_model.specs.Pour.{births_of, loc_or}
 use Rattle.chem_model.specs.Opening.{root_of, roots, root_names, level_names, level_counts, level_births, site_names, named_sites}
 use Rattle.chem_model.specs.Sound.{IsSound, IsNameOf, IsRoot, IsHosted, names_in}
 use Rattle.chem_laws.proofs.Lists.{Each-weaker, Each-append}
-use Rattle.chem_laws.proofs.Bags.{one_self}
-use Rattle.chem_laws.proofs.Places.{standing_left, there_either}
+use Rattle.chem_laws.proofs.Places.{standing_left, there_either, place_pairs-append, place_pair_found, names_there}
 use Rattle.chem_laws.proofs.Parts.{IsGivenAt, PlacesStand}
 use Rattle.chem_laws.proofs.OpeningLists.{each_both}
 use Rattle.chem_laws.proofs.OpeningNames.{SitesAre, own_naming, site_pairs, pairs_once}
-use Rattle.chem_laws.proofs.OpeningPlaces.{at_root, at_pair, or_else, root_found, standing-append, place_pairs-append, counted, entries, RootsStand, AreFresh, fresh_births}
+use Rattle.chem_laws.proofs.OpeningPlaces.{at_root, at_pair, or_else, root_found, standing-append, entries, RootsStand, AreFresh, fresh_births}
 use Rattle.chem_laws.proofs.NamingRange.{pairs_of-append, channel_pairs-append}
 
 -- ---- the pairs of the locations and of the channels are those of the names
@@ -112,17 +111,6 @@ level_names_stand pl m i (t ∷ ts) h g f =
     (Each-weaker (λ (e : Named). IsGivenAt (root_of i) births e.name) (EntryStands pl) (λ e k. given_stands pl (root_of i) births (ap is_there g.0) (λ a there. f a (ap is_there (standing_left births later a there) ∙ there)) e.name k) own h.0.own.given)
     (level_names_stand pl m (i + 1) ts h.1 g.1 (λ a there. f a (there_either births later a there)))
 
-abbrev InNames : Naming → Named → Type 0
-InNames m e = 0 < bag coded_name (names_in m) e.name
-
-all_in_names : (m : Naming) → Each (InNames m) m
-all_in_names [] = tt
-all_in_names (e ∷ m) = ((let here = one_self coded_name e.name in omega arith), more m (all_in_names m))
-  where
-    more : (es : Naming) → Each (InNames m) es → Each (InNames (e ∷ m)) es
-    more [] h = tt
-    more (x ∷ xs) h = ((let first = h.0 in omega arith), more xs h.1)
-
 name_stands : (n : Numbered) (x : Name) → 0 < bag coded_name (names_in n.named) x → Stands (standing n.places) x → IsNameOf n x
 name_stands n (name.Seen i) c h = absurd h
 name_stands n (name.Place a) c h = h
@@ -200,10 +188,11 @@ module _ (seen : List ℕ) (ts : List SiteTerm) (are : SitesAre (site_names ts) 
       let pl = standing start.places in
       let stand = roots_stand pl (length ts) start_roots 0 ts (omega arith) in
       let each : Each (EntryStands pl) (site_names ts) = Each-append (EntryStands pl) (root_names 0 ts) (level_names 0 ts) (root_names_stand pl 0 ts stand) (level_names_stand pl (site_names ts) 0 ts are stand (λ a there. there_either (roots 0 ts) (level_births 0 (site_names ts) ts) a there)) in
-      Each-weaker (λ (e : Named). InNames (site_names ts) e × EntryStands pl e) (λ (e : Named). IsNameOf start e.name) (λ e h. name_stands start e.name h.0 h.1) (site_names ts) (each_both (InNames (site_names ts)) (EntryStands pl) (site_names ts) (all_in_names (site_names ts)) each)
+      Each-weaker (λ (e : Named). (0 < bag coded_name (names_in (site_names ts)) e.name) × EntryStands pl e) (λ (e : Named). IsNameOf start e.name) (λ e h. name_stands start e.name h.0 h.1) (site_names ts)
+      (each_both (λ (e : Named). 0 < bag coded_name (names_in (site_names ts)) e.name) (EntryStands pl) (site_names ts) (names_there (site_names ts)) each)
 
   -- the places of the levels are born anew, each once
   pub start_fresh : AreFresh (standing (roots 0 ts)) (level_births 0 (site_names ts) ts)
   start_fresh = fresh_births (standing (roots 0 ts)) (level_births 0 (site_names ts) ts)
-      (λ l there. (let above = counted (roots 0 ts) l there in omega (arith, start_once (at_pair l), place_pairs-append (roots 0 ts) (level_births 0 (site_names ts) ts) (at_pair l))))
+      (λ l there. (let above = place_pair_found (roots 0 ts) l there in omega (arith, start_once (at_pair l), place_pairs-append (roots 0 ts) (level_births 0 (site_names ts) ts) (at_pair l))))
       (λ q. omega (arith, start_once q, place_pairs-append (roots 0 ts) (level_births 0 (site_names ts) ts) q))

@@ -1,5 +1,5 @@
 -- The pairs in what the sites leave, once their places are locations.
-use Rattle.std.proofs.Common.{◌≡◌, ℕ, ◌+◌, ◌<◌, List, [], ◌∷◌, ◌++◌, Option, Some, None, true, ap, subst, arith, inl, inr}
+use Rattle.std.proofs.Common.{ℕ, ◌+◌, ◌<◌, List, [], ◌∷◌, ◌++◌, Option, Some, None, subst, arith, inl, inr}
 use Rattle.chem_model.specs.declared.name.Loc.{Loc}
 use Rattle.chem_model.specs.declared.name.Name.{Name}
 use Rattle.chem_model.specs.declared.name.Name.TheVariants as name
@@ -7,7 +7,6 @@ use Rattle.chem_model.specs.declared.name.Ref.{Ref}
 use Rattle.chem_model.specs.declared.name.Ref.TheVariants.{Binder, Known}
 use Rattle.chem_model.specs.declared.name.Pat.{Pat}
 use Rattle.chem_model.specs.declared.program.SiteTerm.{SiteTerm}
-use Rattle.chem_model.specs.declared.numbered.Numbered.{Numbered}
 use Rattle.chem_model.specs.Process.{Process, Msg, Par, Def, Go, Fail, Halt, Processes, none, one_more, Definition, Rule, Place, Definitions, no_definition, and_also, clauses, definitions}
 use Rattle.chem_model.specs.Binders.{block, params_of, patterns_of, patterns_in}
 use Rattle.chem_model.specs.Binders as binders
@@ -17,19 +16,16 @@ use Rattle.chem_model.specs.Bag.{one, bag}
 use Rattle.chem_model.specs.Each.{Each}
 use Rattle.chem_model.specs.Fill.{Naming, or_binder, fill_ref, fill_pats, fill, fill_definitions}
 use Rattle.chem_model.specs.OnNames.{OnRef, OnProcess, OnProcesses, OnDefinition, OnDefinitions, OnPairs}
-use Rattle.chem_model.specs.Solution.{coded_name, coded_located_process, coded_located_definition, is_there, at}
-use Rattle.chem_model.specs.NewNames.{Pair, coded_pair}
-use Rattle.chem_model.specs.Numbered.{standing, channel_pair, channel_pairs}
+use Rattle.chem_model.specs.Solution.{coded_located_process, coded_located_definition, at}
 use Rattle.chem_model.specs.Pour.{loc_or}
 use Rattle.chem_model.specs.Opening.{root_of}
 use Rattle.chem_model.specs.Runs.{processes_at}
-use Rattle.chem_model.specs.Sound.{IsSound, IsNameOf, names_in}
 use Rattle.chem_laws.proofs.Lists.{Each-left, Each-right, above, all_each}
-use Rattle.chem_laws.proofs.Bags.{one_is, one_self, bag-append}
+use Rattle.chem_laws.proofs.Bags.{one_is}
 use Rattle.chem_laws.proofs.Terms.{OnEntries, found_on, ref_filled, definition_filled, definitions_filled, process_filled}
-use Rattle.chem_laws.proofs.Parts.{IsBelow, rules_left, bodies_left}
+use Rattle.chem_laws.proofs.Parts.{rules_left, bodies_left}
 use Rattle.chem_laws.proofs.OpeningNames.{SiteIs, SitesAre}
-use Rattle.chem_laws.proofs.OpeningPlaces.{at_pair, counted, rules_all, bodies_all}
+use Rattle.chem_laws.proofs.OpeningPlaces.{rules_all, bodies_all}
 
 -- ---- what holds of each known name of a term, where its channels and places are binders
 
@@ -154,24 +150,3 @@ module _ (P : ℕ → ℕ → Type 0) (m : Naming) (entries : OnEntries (OnPairs
     | inl u ↦ body_on i t h.0 g.0.2 x u
     | inr u ↦ all_processes_on (i + 1) ts h.1 g.1 x u
   ]
-
--- ---- the pairs of a sound solution's names are below its counts
-
-names_counted : (m : Naming) (s k : ℕ) (h : Loc) → 0 < bag coded_name (names_in m) (name.Chan s k h) → 0 < bag coded_pair (channel_pairs m) (s, k)
-names_counted [] s k h c = absurd (omega arith)
-names_counted (e ∷ m) s k h c =
-    let p : Pair = (s, k) in
-    let both = bag-append coded_pair (channel_pair e.name) (channel_pairs m) p in
-    elim (above (one coded_name e.name (name.Chan s k h)) (bag coded_name (names_in m) (name.Chan s k h)) c) [
-      | inl u ↦ (let here : bag coded_pair (channel_pair e.name) p ≡ bag coded_pair (channel_pair (name.Chan s k h)) p = ap (λ (x : Name). bag coded_pair (channel_pair x) p) (one_is coded_name e.name (name.Chan s k h) u) in let this = one_self coded_pair p in omega arith)
-      | inr u ↦ (let later = names_counted m s k h u in omega arith)
-    ]
-
-module _ (n : Numbered) (sound : IsSound n) where
-  pub place_below : (l : Loc) → is_there (standing n.places l) ≡ true → IsBelow n.counts l.site l.k
-  place_below l there = let c = counted n.places l there in sound.below (at_pair l) (omega arith)
-
-  pub name_below : (x : Name) → IsNameOf n x → OnPairs (IsBelow n.counts) x
-  name_below (name.Seen i) h = tt
-  name_below (name.Place a) h = place_below a h
-  name_below (name.Chan s k q) h = ((let c = names_counted n.named s k q h.0 in sound.below (s, k) (omega arith)), place_below q h.1)

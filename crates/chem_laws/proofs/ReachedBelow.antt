@@ -1,5 +1,5 @@
 -- In a sound numbered solution every pair of a site and a number is below its site's count.
-use Rattle.std.proofs.Common.{◌≡◌, ℕ, ◌+◌, ◌<◌, List, [], ◌∷◌, ◌++◌, Option, Some, Bool, true, false, cond, refl, sym, ap, ◌∙◌, subst, arith, length, inl, inr}
+use Rattle.std.proofs.Common.{ℕ, ◌<◌, List, [], ◌∷◌, ◌++◌, Option, refl, sym, ap, ◌∙◌, subst, arith, length, inl, inr}
 use Rattle.chem_model.specs.declared.name.Loc.{Loc}
 use Rattle.chem_model.specs.declared.name.Name.{Name}
 use Rattle.chem_model.specs.declared.name.Name.TheVariants as name
@@ -7,7 +7,6 @@ use Rattle.chem_model.specs.declared.name.Ref.{Ref}
 use Rattle.chem_model.specs.declared.name.Ref.TheVariants.{Binder, Known}
 use Rattle.chem_model.specs.declared.name.Pat.{Pat}
 use Rattle.chem_model.specs.declared.event.Out.{Out}
-use Rattle.chem_model.specs.declared.numbered.Placed.{Placed}
 use Rattle.chem_model.specs.declared.numbered.NumberedRule.{NumberedRule}
 use Rattle.chem_model.specs.declared.numbered.NumberedAtom.{NumberedAtom}
 use Rattle.chem_model.specs.declared.numbered.Numbered.{Numbered}
@@ -17,16 +16,16 @@ use Rattle.chem_model.specs.Scope.{IsInScope, IsTerm, AreTerms, AreDefinitions}
 use Rattle.chem_model.specs.Bag.{one, bag}
 use Rattle.chem_model.specs.Each.{Each}
 use Rattle.chem_model.specs.Fill.{Naming}
-use Rattle.chem_model.specs.Solution.{coded_name, coded_located_process, coded_located_definition, is_there, same_loc}
+use Rattle.chem_model.specs.Solution.{coded_located_process, coded_located_definition, is_there}
 use Rattle.chem_model.specs.OnNames.{OnRef, OnPairs, OnProcess, OnProcesses, OnDefinition, OnDefinitions, OnSolution}
-use Rattle.chem_model.specs.NewNames.{coded_pair, OnBinder, IsChannelAt, IsLocation, NamesBlock}
-use Rattle.chem_model.specs.Numbered.{standing, defs_of, procs_of, erase, place_pairs, channel_pair, channel_pairs}
+use Rattle.chem_model.specs.NewNames.{OnBinder, IsChannelAt, IsLocation, NamesBlock}
+use Rattle.chem_model.specs.Numbered.{standing, defs_of, procs_of, erase}
 use Rattle.chem_model.specs.Pour.{naming}
-use Rattle.chem_model.specs.Sound.{names_in, IsNameOf, IsKnown, IsHomedAt, IsSettled, IsAtom, IsRule, IsSound}
+use Rattle.chem_model.specs.Sound.{IsNameOf, IsKnown, IsHomedAt, IsSettled, IsAtom, IsRule, IsSound}
 use Rattle.chem_laws.proofs.Lists.{Each-weaker, all_each, above}
-use Rattle.chem_laws.proofs.Bags.{one_self, one_is, bag-append}
+use Rattle.chem_laws.proofs.Bags.{one_is}
 use Rattle.chem_laws.proofs.Terms.{process_weaker}
-use Rattle.chem_laws.proofs.Within.{same_loc_is}
+use Rattle.chem_laws.proofs.Places.{place_below, name_below}
 use Rattle.chem_laws.proofs.Parts.{NamingIs, IsBelow}
 use Rattle.chem_laws.proofs.ReachedNames.{place_ref}
 
@@ -73,39 +72,10 @@ module _ (naming_is : NamingIs) (Q : Name → Type 0) where
         let f = place_ref (λ a. NamesBlock a m es) m x h.0 in
         ((place_on m (IsLocation (λ a. NamesBlock a m es)) x h.0, definitions_on es scope f.0 m f.2 t.0.0, term_on p scope t.0.1), definitions_on ds scope l m h.1 t.1)
 
--- ---- pairs of what was made
-
-place_pair : (xs : List Placed) (l : Loc) → is_there (standing xs l) ≡ true → 0 < bag coded_pair (place_pairs xs) (l.site, l.k)
-place_pair [] l e = cc
-place_pair (x ∷ xs) l e = go (same_loc x.loc l) refl (place_pair xs l) e
-  where
-    go : (t : Bool) → same_loc x.loc l ≡ t → (is_there (standing xs l) ≡ true → 0 < bag coded_pair (place_pairs xs) (l.site, l.k)) → is_there (cond t (Some (record { host = x.host; marked = x.marked })) (standing xs l)) ≡ true
-        → 0 < one coded_pair (x.loc.site, x.loc.k) (l.site, l.k) + bag coded_pair (place_pairs xs) (l.site, l.k)
-    go true q ih e' =
-        let self : one coded_pair (x.loc.site, x.loc.k) (l.site, l.k) ≡ 1 = subst (λ (z : Loc). one coded_pair (x.loc.site, x.loc.k) (z.site, z.k) ≡ 1) (same_loc_is x.loc l q) (one_self coded_pair (x.loc.site, x.loc.k)) in
-        omega arith
-    go false q ih e' = let lt = ih e' in omega arith
-
-pub channel_counted : (m : Naming) (s k : ℕ) (h : Loc) → 0 < bag coded_name (names_in m) (name.Chan s k h) → 0 < bag coded_pair (channel_pairs m) (s, k)
-channel_counted [] s k h c = absurd (omega arith)
-channel_counted (e ∷ m) s k h c =
-    elim (above (one coded_name e.name (name.Chan s k h)) (bag coded_name (names_in m) (name.Chan s k h)) c) [
-      | inl u ↦ subst (λ (x : Name). 0 < bag coded_pair (channel_pair x ++ channel_pairs m) (s, k)) (sym (one_is coded_name e.name (name.Chan s k h) u)) (omega (arith, one_self coded_pair (s, k)))
-      | inr u ↦ (let lt = channel_counted m s k h u in omega (arith, bag-append coded_pair (channel_pair e.name) (channel_pairs m) (s, k)))
-    ]
-
 module _ (n : Numbered) (sound : IsSound n) where
-  pub place_below : (l : Loc) → is_there (standing n.places l) ≡ true → IsBelow n.counts l.site l.k
-  place_below l e = let lt = place_pair n.places l e in sound.below (l.site, l.k) (omega arith)
-
-  pub name_below : (x : Name) → IsNameOf n x → OnPairs (IsBelow n.counts) x
-  name_below (name.Seen i) h = tt
-  name_below (name.Place a) h = place_below a h
-  name_below (name.Chan s k q) h = (let lt = channel_counted n.named s k q h.0 in sound.below (s, k) (omega arith), place_below q h.1)
-
   known_below : (x : Ref) → IsKnown (IsNameOf n) x → OnRef (OnPairs (IsBelow n.counts)) x
   known_below (Binder b) h = absurd h
-  known_below (Known y) h = name_below y h
+  known_below (Known y) h = name_below n sound y h
 
   settled_below : (l : Loc) (p : Process) → IsSettled n.seen (IsNameOf n) l p → OnProcess (OnPairs (IsBelow n.counts)) p
   settled_below l (Msg x vs) h = (known_below x h.0, Each-weaker (IsKnown (IsNameOf n)) (OnRef (OnPairs (IsBelow n.counts))) known_below vs h.1)
@@ -124,7 +94,7 @@ module _ (n : Numbered) (sound : IsSound n) where
       go (Binder b) f g = absurd f
       go (Known (name.Seen i)) f g = absurd g
       go (Known (name.Place a)) f g = absurd g
-      go (Known (name.Chan s k q)) f g = place_below l (ap (λ z. is_there (standing n.places z)) (sym g) ∙ f.1)
+      go (Known (name.Chan s k q)) f g = place_below n sound l (ap (λ z. is_there (standing n.places z)) (sym g) ∙ f.1)
 
   module _ (naming_is : NamingIs) where
     rule_below : (r : NumberedRule) → IsRule n r → IsBelow n.counts r.loc.site r.loc.k × OnDefinition (OnPairs (IsBelow n.counts)) (Rule r.pats r.body)
@@ -132,7 +102,7 @@ module _ (n : Numbered) (sound : IsSound n) where
       rule_place r.loc r.pats h.is.0.some h.channels,
       (
         Each-weaker (λ (p : Pat). IsKnown (IsNameOf n) p.on × IsKnown (IsHomedAt r.loc) p.on) (λ (p : Pat). OnRef (OnPairs (IsBelow n.counts)) p.on) (λ p f. known_below p.on f.0) r.pats h.channels,
-        process_weaker (IsNameOf n) (OnPairs (IsBelow n.counts)) name_below r.body (term_on naming_is (IsNameOf n) r.body (params_of r.pats ++ []) h.is.1),
+        process_weaker (IsNameOf n) (OnPairs (IsBelow n.counts)) (name_below n sound) r.body (term_on naming_is (IsNameOf n) r.body (params_of r.pats ++ []) h.is.1),
       ),
     )
 
@@ -148,14 +118,14 @@ module _ (n : Numbered) (sound : IsSound n) where
     atoms_below [] h x c = absurd (omega arith)
     atoms_below (a ∷ xs) h x c =
         elim (above (one coded_located_process (a.loc, a.term) x) (bag coded_located_process (procs_of xs) x) c) [
-          | inl u ↦ subst (λ (y : Loc × Process). IsBelow n.counts y.0.site y.0.k × OnProcess (OnPairs (IsBelow n.counts)) y.1) (one_is coded_located_process (a.loc, a.term) x u) (place_below a.loc h.0.0, settled_below a.loc a.term h.0.1)
+          | inl u ↦ subst (λ (y : Loc × Process). IsBelow n.counts y.0.site y.0.k × OnProcess (OnPairs (IsBelow n.counts)) y.1) (one_is coded_located_process (a.loc, a.term) x u) (place_below n sound a.loc h.0.0, settled_below a.loc a.term h.0.1)
           | inr u ↦ atoms_below xs h.1 x u
         ]
 
     pub sound_below : OnSolution (IsBelow n.counts) (erase n)
     sound_below = record {
-      places = place_below;
+      places = place_below n sound;
       defs = rules_below n.rules sound.rules;
       procs = atoms_below n.atoms sound.atoms;
-      trace = Each-weaker (λ (o : Out). (o.on < length n.seen) × Each (IsNameOf n) o.args) (λ (o : Out). Each (OnPairs (IsBelow n.counts)) o.args) (λ o h. Each-weaker (IsNameOf n) (OnPairs (IsBelow n.counts)) name_below o.args h.1) n.trace sound.trace;
+      trace = Each-weaker (λ (o : Out). (o.on < length n.seen) × Each (IsNameOf n) o.args) (λ (o : Out). Each (OnPairs (IsBelow n.counts)) o.args) (λ o h. Each-weaker (IsNameOf n) (OnPairs (IsBelow n.counts)) (name_below n sound) o.args h.1) n.trace sound.trace;
     }

@@ -19,14 +19,14 @@ use Rattle.chem_model.specs.Sound.{IsSound, IsNameOf}
 use Rattle.chem_laws.proofs.Lists.{Each-weaker, above}
 use Rattle.chem_laws.proofs.Bags.{one_is}
 use Rattle.chem_laws.proofs.Terms.{OnEntries, process_weaker, definitions_weaker, process_filled, definitions_filled}
-use Rattle.chem_laws.proofs.Places.{live_parts, root_is, term_weaker, definitions_scope_weaker}
+use Rattle.chem_laws.proofs.Places.{live_parts, root_is, term_weaker, definitions_scope_weaker, place_below, name_below, closes_weaker}
 use Rattle.chem_laws.proofs.Parts.{Closes, NamingIs, BlockFilled, IsBelow, beside, Others, PourReached, LayReached, rules_left, bodies_left}
 use Rattle.chem_laws.proofs.Reached.{chain_trans, state, reached_same, reached_again}
 use Rattle.chem_laws.proofs.ReachedNumbers.{IsUnder, Under, LocUnder, ProcessUnder, DefinitionUnder, pairs_weaker, solution_weaker, standing_born}
 use Rattle.chem_laws.proofs.ReachedMade.{IsMade, pour_is, lay_is}
-use Rattle.chem_laws.proofs.ReachedNames.{Fits, closes_weaker}
+use Rattle.chem_laws.proofs.ReachedNames.{Fits}
 use Rattle.chem_laws.proofs.ReachedPour.{defs_both, procs_both, in_rules_left, in_bodies_left, Leads, Stands, pour_leads, lay_leads}
-use Rattle.chem_laws.proofs.ReachedBelow.{term_on, definitions_on, place_below, name_below, sound_below}
+use Rattle.chem_laws.proofs.ReachedBelow.{term_on, definitions_on, sound_below}
 
 module _ (naming_is : NamingIs) (block_filled : BlockFilled) where
   module _ (n : Numbered) (sound : IsSound n) (m : Naming) (l : Loc) (is_live : live (standing n.places) l ≡ true) where

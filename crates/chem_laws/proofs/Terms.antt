@@ -1,5 +1,5 @@
 -- Names in terms: a weaker fact, and filling.
-use Rattle.std.proofs.Common.{◌≡◌, ℕ, List, [], ◌∷◌, ◌++◌, Option, Some, None, Bool, true, false, cond, refl, sym, ap, ◌∙◌, ◌==◌, ◌||◌, ◌+◌, eq-eqb}
+use Rattle.std.proofs.Common.{◌≡◌, ℕ, List, [], ◌∷◌, ◌++◌, Option, Some, None, Bool, true, false, cond, refl, sym, ap, ◌∙◌, ◌==◌, ◌||◌, ◌+◌, eq-eqb, ◌≤◌, arith, length, subst}
 use Rattle.std.specs.Prelude.{is_some}
 use Rattle.std.proofs.lemmas.List.Sums.{sum_by-cons, sum_by-append}
 use Rattle.chem_model.specs.declared.name.Name.{Name}
@@ -7,13 +7,17 @@ use Rattle.chem_model.specs.declared.name.Ref.{Ref}
 use Rattle.chem_model.specs.declared.name.Ref.TheVariants.{Binder, Known}
 use Rattle.chem_model.specs.declared.name.Pat.{Pat}
 use Rattle.chem_model.specs.Process.{Process, Msg, Par, Def, Go, Fail, Halt, Processes, none, one_more, Definition, Rule, Place, Definitions, no_definition, and_also}
-use Rattle.chem_model.specs.Binders.{is_among, times}
+use Rattle.chem_model.specs.Binders.{is_among, times, block, once, bound_in}
 use Rattle.chem_model.specs.Each.{Each}
 use Rattle.chem_model.specs.declared.numbered.Named.{Named}
 use Rattle.chem_model.specs.Fill.{Naming, name_at, or_binder, fill_ref, fill_refs, fill_pats, fill, fill_all, fill_definition, fill_definitions}
 use Rattle.chem_model.specs.OnNames.{OnRef, OnProcess, OnProcesses, OnDefinition, OnDefinitions}
+use Rattle.chem_model.specs.Reduction.{all_known}
 use Rattle.chem_model.specs.NewNames.{HasDomain}
-use Rattle.chem_laws.proofs.Lists.{or_assoc, or_left, or_right}
+use Rattle.chem_model.specs.Pour.{known}
+use Rattle.chem_model.specs.Sound.{IsKnown}
+use Rattle.chem_laws.proofs.Lists.{or_assoc, or_left, or_right, cond_either}
+use Rattle.chem_laws.proofs.Parts.{is_named, NamesNone, Agree}
 
 -- ---- a weaker fact
 module _ (Q R : Name → Type 0) (f : (n : Name) → Q n → R n) where
@@ -169,6 +173,48 @@ among_right bs cs b h = among-append bs cs b ∙ or_right (is_among bs b) (is_am
 
 pub among_first : (b : ℕ) (bs : List ℕ) → is_among (b ∷ bs) b ≡ true
 among_first b bs = or_left (b == b) (is_among bs b) (eq-eqb b b refl)
+
+pub named_either : (bs : List ℕ) (m n : Naming) (b : ℕ) → HasDomain bs n → is_some (name_at (m ++ n) b) ≡ is_some (name_at m b) || is_among bs b
+named_either bs m n b h = ap is_some (name_at-append m n b) ∙ some_or (name_at m b) (name_at n b) ∙ ap (λ t. is_some (name_at m b) || t) (h b)
+
+pub named_more : (bs : List ℕ) (m n : Naming) (b : ℕ) → HasDomain bs n → is_named (m ++ n) b ≤ is_named m b + once bs b
+named_more bs m n b h = subst (λ (t : Bool). cond t 1 0 ≤ is_named m b + once bs b) (sym (named_either bs m n b h)) (cond_either (is_some (name_at m b)) (is_among bs b))
+
+-- the map names no binder that is bound once already
+pub names_none : (m : Naming) (bs : List ℕ) → ((b : ℕ) → is_named m b + once bs b ≤ 1) → NamesNone bs m
+names_none m bs h b e = go (is_some (name_at m b)) (is_among bs b) (h b) e
+  where
+    go : (t u : Bool) → cond t 1 0 + cond u 1 0 ≤ 1 → u ≡ true → t ≡ false
+    go true true g f = absurd (omega arith)
+    go true false g f = cc
+    go false u g f = refl
+
+pub def_names_none : (m : Naming) (ds : Definitions) (p : Process) → ((b : ℕ) → is_named m b + bound_in (Def ds p) b ≤ 1) → NamesNone (block ds) m
+def_names_none m ds p h = names_none m (block ds) (λ b. omega (arith, h b))
+
+-- so of the two maps together the second counts
+pub none_agrees : (bs : List ℕ) (m n : Naming) → NamesNone bs m → Agree bs (m ++ n) n
+none_agrees bs m n h b e = name_at-append m n b ∙ go (name_at m b) (h b e)
+  where
+    go : (o : Option Name) → is_some o ≡ false → or_name o (name_at n b) ≡ name_at n b
+    go None q = refl
+    go (Some x) q = cc
+
+-- ---- known names
+
+pub known_again : (Q : Name → Type 0) (vs : List Ref) → Each (IsKnown Q) vs → vs ≡ all_known (known vs)
+known_again Q [] h = refl
+known_again Q (Binder b ∷ vs) h = absurd h.0
+known_again Q (Known n ∷ vs) h = ap (λ us. Known n ∷ us) (known_again Q vs h.1)
+
+pub known_names : (Q : Name → Type 0) (vs : List Ref) → Each (IsKnown Q) vs → Each Q (known vs)
+known_names Q [] h = tt
+known_names Q (Binder b ∷ vs) h = absurd h.0
+known_names Q (Known n ∷ vs) h = (h.0, known_names Q vs h.1)
+
+pub length_all_known : (ns : List Name) → length (all_known ns) ≡ length ns
+length_all_known [] = refl
+length_all_known (n ∷ ns) = omega (arith, length_all_known ns)
 
 -- ---- how often a number stands in a list
 
