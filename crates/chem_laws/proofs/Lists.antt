@@ -59,6 +59,10 @@ pub cond_either : (t u : Bool) → cond (t || u) 1 0 ≤ cond t 1 0 + cond u 1 0
 cond_either true u = omega arith
 cond_either false u = omega arith
 
+pub zero_or_above : (n : ℕ) → (n ≡ 0) ⊎ (0 < n)
+zero_or_above zero = inl refl
+zero_or_above (suc n) = inr (omega arith)
+
 pub above : (m n : ℕ) → 0 < m + n → (0 < m) ⊎ (0 < n)
 above m n h = grind arith
 

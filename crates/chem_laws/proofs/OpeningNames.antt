@@ -1,5 +1,5 @@
 -- The names of what the sites define: each site's are its own, and their pairs are all different.
-use Rattle.std.proofs.Common.{◌≡◌, ℕ, zero, suc, ◌+◌, ◌<◌, ◌≤◌, List, [], ◌∷◌, ◌++◌, Option, Some, None, Bool, true, false, cond, refl, sym, ap, ◌∙◌, subst, arith, length, ◌||◌, ◌==◌, ◌⊎◌, inl, inr, eqb-true, eq-eqb}
+use Rattle.std.proofs.Common.{◌≡◌, ℕ, suc, ◌+◌, ◌<◌, ◌≤◌, List, [], ◌∷◌, ◌++◌, Option, Some, None, Bool, true, false, cond, refl, sym, ap, ◌∙◌, subst, arith, length, ◌||◌, ◌==◌, inl, inr, eqb-true, eq-eqb}
 use Rattle.std.specs.Prelude.{is_some, slice_index}
 use Rattle.chem_model.specs.declared.name.Name.{Name}
 use Rattle.chem_model.specs.declared.name.Name.TheVariants as name
@@ -16,7 +16,7 @@ use Rattle.chem_model.specs.NewNames.{Pair, coded_pair, pairs_of, HasDomain}
 use Rattle.chem_model.specs.Pour.{Drawn, naming}
 use Rattle.chem_model.specs.Opening.{root_of, root_names, level_names, level_counts}
 use Rattle.chem_model.specs.Runs.{NamesSites}
-use Rattle.chem_laws.proofs.Lists.{above, is_false, has_none, cond_most, neither}
+use Rattle.chem_laws.proofs.Lists.{above, is_false, has_none, cond_most, neither, zero_or_above}
 use Rattle.chem_laws.proofs.Bags.{one_is}
 use Rattle.chem_laws.proofs.Terms.{or_name, name_at-append, some_or, among-append, domain-append, among_first, among_left, among_right}
 use Rattle.chem_laws.proofs.Parts.{Agree, in_range, IsNaming, NamingIs}
@@ -165,10 +165,6 @@ site_pairs i ts q = bag coded_pair (pairs_of (root_names i ts)) q + bag coded_pa
 pub record IsOnce (i : ℕ) (ts : List SiteTerm) (q : Pair) : Type 0 where
   pub once : site_pairs i ts q ≤ 1
   pub below : 0 < site_pairs i ts q → (j : ℕ) × (q.0 ≡ i + j) × (j < length ts) × (q.1 < slice_index (level_counts i ts) j)
-
-zero_or_above : (n : ℕ) → (n ≡ 0) ⊎ (0 < n)
-zero_or_above zero = inl refl
-zero_or_above (suc n) = inr (omega arith)
 
 one_of_three : (a b c : ℕ) → a ≤ 1 → b ≤ 1 → c ≤ 1 → (0 < a → 0 < b → ⊥) → (0 < a → 0 < c → ⊥) → (0 < b → 0 < c → ⊥) → a + (b + c) ≤ 1
 one_of_three a b c x y z f g h = elim (zero_or_above a) [

@@ -17,7 +17,7 @@ use Rattle.chem_model.specs.Scope.{IsInScope, IsTerm, AreTerms, IsDefinition, Ar
 use Rattle.chem_model.specs.Bag.{one, bag}
 use Rattle.chem_model.specs.Each.{Each}
 use Rattle.chem_model.specs.Fill.{Naming, name_at, or_binder, fill_ref, fill_refs}
-use Rattle.chem_model.specs.Solution.{Standing, Places, coded_name, same_loc, is_there, is_marked, host_of, or_itself, root, dead, live, born}
+use Rattle.chem_model.specs.Solution.{Standing, Places, coded_name, same_loc, is_there, is_marked, host_of, or_itself, root, dead, live}
 use Rattle.chem_model.specs.OnNames.{OnPairs}
 use Rattle.chem_model.specs.NewNames.{Pair, coded_pair, HasDomain}
 use Rattle.chem_model.specs.Numbered.{standing, place_pairs, channel_pair, channel_pairs}
@@ -28,7 +28,7 @@ use Rattle.chem_laws.proofs.Lists.{both_true, Each-weaker, Each-append, above, e
 use Rattle.chem_laws.proofs.Bags.{bag-append, one_self, one_is}
 use Rattle.chem_laws.proofs.Terms.{among-append, named_either}
 use Rattle.chem_laws.proofs.Within.{same_loc_is}
-use Rattle.chem_laws.proofs.Parts.{Closes, IsBelow, born_all}
+use Rattle.chem_laws.proofs.Parts.{Closes, IsBelow}
 
 -- ---- more locations
 
@@ -57,14 +57,6 @@ there_either xs ys l h = go (is_there (standing xs l)) refl
     go : (t : Bool) → is_there (standing xs l) ≡ t → is_there (standing (xs ++ ys) l) ≡ true
     go true e = ap is_there (standing_left xs ys l e) ∙ e
     go false e = ap is_there (standing_right xs ys l e) ∙ h
-
-pub none_there : (o : Option Standing) → (is_there o ≡ true → ⊥) → o ≡ None
-none_there None h = refl
-none_there (Some s) h = absurd (h refl)
-
-pub born_all-append : (pl : Places) (xs ys : List Placed) (l : Loc) → born_all (born_all pl xs) ys l ≡ born_all pl (xs ++ ys) l
-born_all-append pl [] ys l = refl
-born_all-append pl (x ∷ xs) ys l = born_all-append (born pl x.loc x.host) xs ys l
 
 pub place_pairs-append : (xs ys : List Placed) (q : Pair) → bag coded_pair (place_pairs (xs ++ ys)) q ≡ bag coded_pair (place_pairs xs) q + bag coded_pair (place_pairs ys) q
 place_pairs-append [] ys q = omega arith
@@ -101,6 +93,13 @@ live_kept pl new l here at_root h =
       ap (λ o. is_there o && not (is_marked o || is_marked (new (root new l)))) here ∙ ap (λ t. is_there (pl l) && not (is_marked (pl l) || t)) mark ∙ h,
       roots,
     )
+
+-- a location that is hosted by r and unmarked is live where r isn't marked
+pub hosted_live : (pl : Places) (r a : Loc) → pl a ≡ Some (record { host = Some r; marked = false }) → is_marked (pl r) ≡ false → (live pl a ≡ true) × (root pl a ≡ r)
+hosted_live pl r a e unmarked = (
+  ap (λ o. is_there o && not (is_marked o || is_marked (pl (or_itself (host_of o) a)))) e ∙ ap not unmarked,
+  ap (λ o. or_itself (host_of o) a) e,
+)
 
 -- ---- roots
 

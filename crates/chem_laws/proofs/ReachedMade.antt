@@ -23,8 +23,9 @@ use Rattle.chem_laws.proofs.Lists.{Each-weaker, Each-append}
 use Rattle.chem_laws.proofs.Bags.{one_self}
 use Rattle.chem_laws.proofs.Terms.{OnEntries, process_weaker, processes_weaker, definition_weaker, definitions_weaker, process_filled, definitions_filled, fill-twice, fill_definitions-twice, named_more, def_names_none, none_agrees}
 use Rattle.chem_laws.proofs.Parts.{is_named, IsNaming, NamingIs}
+use Rattle.chem_laws.proofs.LevelLeft.{loc_on}
 use Rattle.chem_laws.proofs.NamingRange.{InRange, in_range_is}
-use Rattle.chem_laws.proofs.ReachedNumbers.{Under, LocUnder, OutUnder, loc_more, under_more, outs_weaker, IsBirth, birth_wider, names_under}
+use Rattle.chem_laws.proofs.ReachedNumbers.{Under, LocUnder, OutUnder, loc_more, under_more, outs_weaker, IsBirth, birth_wider, names_under, IsUnder}
 
 abbrev pub AtomUnder : ℕ → ℕ → NumberedAtom → Type 0
 AtomUnder s k a = LocUnder s k a.loc × OnProcess (Under s k) a.term
@@ -109,12 +110,6 @@ module _ (s : ℕ) (r : Loc) where
       (rules_is ds m l (k + 1) l_more (definitions_weaker (Under s k) (Under s (k + 1)) more (fill_definitions m ds) g.1))
   rules_is (and_also (Place x es p) ds) m l k h g = rules_is ds m l k h g.1
 
-  pub loc_under : (k : ℕ) (l : Loc) (x : Ref) → LocUnder s k l → OnRef (Under s k) x → LocUnder s k (loc_or l x)
-  loc_under k l (Binder b) h g = h
-  loc_under k l (Known (name.Seen i)) h g = h
-  loc_under k l (Known (name.Place a)) h g = g
-  loc_under k l (Known (name.Chan t j q)) h g = h
-
   -- ---- the naming of a `def`
 
   births_range : (k n : ℕ) (ds : Definitions) (e : Naming) → ((p : Pair) → 0 < bag coded_pair (place_pairs (births_of r e ds)) p → InRange s k n p) → Each (IsBirth s r k n) (births_of r e ds)
@@ -178,7 +173,7 @@ module _ (s : ℕ) (r : Loc) where
       lay_places_is (and_also (Rule ps p) ds) scope m l k t o h g = lay_places_is ds scope m l k t.1 (λ b. let q = o b in omega arith) h g.1
       lay_places_is (and_also (Place x es p) ds) scope m l k t o h g =
           let q = loc_or l (fill_ref m x) in
-          let q_k = loc_under k l (fill_ref m x) h g.0.0 in
+          let q_k = loc_on (IsUnder s k) l (fill_ref m x) h g.0.0 in
           let a = rules_made (lay_rules s m q k es) in
           let a_is = rules_is es m q k q_k g.0.1 in
           let c = pour seen s r m q a.next p in

@@ -27,12 +27,14 @@ use Rattle.chem_laws.proofs.Lists.{Each-append, all_each, above, append_nil}
 use Rattle.chem_laws.proofs.Bags.{one_is}
 use Rattle.chem_laws.proofs.Terms.{fill-twice, fill_definitions-twice, process_weaker, processes_weaker, definitions_weaker, def_names_none, none_agrees, known_again, length_all_known}
 use Rattle.chem_laws.proofs.Within.{same_loc_is}
-use Rattle.chem_laws.proofs.Places.{live_parts, live_kept, term_weaker, terms_weaker, definitions_scope_weaker, born_all-append, closes_weaker, ref_known, refs_known}
+use Rattle.chem_laws.proofs.Places.{live_parts, live_kept, term_weaker, terms_weaker, definitions_scope_weaker, closes_weaker, ref_known, refs_known}
 use Rattle.chem_laws.proofs.Parts.{is_named, Closes, NamingIs, BlockFilled, PlacesStand, born_all, rules_left, bodies_left}
+use Rattle.chem_laws.proofs.Births.{born_all-append}
+use Rattle.chem_laws.proofs.LevelLeft.{loc_on, rules_on, bodies_on}
 use Rattle.chem_laws.proofs.Reached.{chain_trans, state, reached_same, reached_again, regroup}
 use Rattle.chem_laws.proofs.PlacesReached.{places_reached}
 use Rattle.chem_laws.proofs.ReachedNumbers.{IsUnder, Under, LocUnder, ProcessUnder, DefinitionUnder, OutUnder, loc_more, under_more, solution_weaker, IsBirth, birth_there, born_kept, born_not}
-use Rattle.chem_laws.proofs.ReachedMade.{AtomUnder, RuleUnder, IsMade, IsOnce, AreOnce, once_body, once_level, then_is, rules_is, loc_under, given_under, births_are, named_is, process_again, definitions_again, pour_is, lay_places_is}
+use Rattle.chem_laws.proofs.ReachedMade.{AtomUnder, RuleUnder, IsMade, IsOnce, AreOnce, once_body, once_level, then_is, rules_is, given_under, births_are, named_is, process_again, definitions_again, pour_is, lay_places_is}
 use Rattle.chem_laws.proofs.ReachedNames.{Fits, fits_more, place_ref, IsPlaceOf, stand_other, block_new, block_fresh, block_stands, block_closes}
 
 -- ---- bags of what was made
@@ -59,35 +61,6 @@ in_members : (s n : ℕ) (l : Loc) (ps : Processes) (x : Loc × Process) → Loc
 in_members s n l none x g h c = absurd (omega arith)
 in_members s n l (one_more p ps) x g h c =
     elim (above (one coded_located_process (l, p) x) (bag coded_located_process (at l (members ps)) x) c) [ inl u ↦ subst (ProcessUnder s n) (one_is coded_located_process (l, p) x u) (g, h.0) | inr u ↦ in_members s n l ps x g h.1 u ]
-
-in_clauses : (s n : ℕ) (l : Loc) (ds : Definitions) (x : Loc × Definition) → LocUnder s n l → OnDefinitions (Under s n) ds → 0 < bag coded_located_definition (at l (clauses ds)) x → DefinitionUnder s n x
-in_clauses s n l no_definition x g h c = absurd (omega arith)
-in_clauses s n l (and_also d ds) x g h c =
-    elim (above (one coded_located_definition (l, d) x) (bag coded_located_definition (at l (clauses ds)) x) c) [ inl u ↦ subst (DefinitionUnder s n) (one_is coded_located_definition (l, d) x u) (g, h.0) | inr u ↦ in_clauses s n l ds x g h.1 u ]
-
-pub in_rules_left : (s n : ℕ) (r l : Loc) (m : Naming) (ds : Definitions) (x : Loc × Definition) → LocUnder s n l → OnDefinitions (Under s n) (fill_definitions m ds) → 0 < rules_left l m ds x → DefinitionUnder s n x
-in_rules_left s n r l m no_definition x g h c = absurd (omega arith)
-in_rules_left s n r l m (and_also (Rule ps p) ds) x g h c =
-    elim (above (one coded_located_definition (l, Rule (fill_pats m ps) (fill m p)) x) (rules_left l m ds x) c) [
-      | inl u ↦ subst (DefinitionUnder s n) (one_is coded_located_definition (l, Rule (fill_pats m ps) (fill m p)) x u) (g, h.0)
-      | inr u ↦ in_rules_left s n r l m ds x g h.1 u
-    ]
-in_rules_left s n r l m (and_also (Place y es p) ds) x g h c =
-    let q = loc_or l (fill_ref m y) in
-    elim (above (bag coded_located_definition (at q (clauses (fill_definitions m es))) x) (rules_left l m ds x) c) [
-      | inl u ↦ in_clauses s n q (fill_definitions m es) x (loc_under s r n l (fill_ref m y) g h.0.0) h.0.1 u
-      | inr u ↦ in_rules_left s n r l m ds x g h.1 u
-    ]
-
-pub in_bodies_left : (s n : ℕ) (r l : Loc) (m : Naming) (ds : Definitions) (x : Loc × Process) → LocUnder s n l → OnDefinitions (Under s n) (fill_definitions m ds) → 0 < bodies_left l m ds x → ProcessUnder s n x
-in_bodies_left s n r l m no_definition x g h c = absurd (omega arith)
-in_bodies_left s n r l m (and_also (Rule ps p) ds) x g h c = in_bodies_left s n r l m ds x g h.1 c
-in_bodies_left s n r l m (and_also (Place y es p) ds) x g h c =
-    let q = loc_or l (fill_ref m y) in
-    elim (above (one coded_located_process (q, fill m p) x) (bodies_left l m ds x) c) [
-      | inl u ↦ subst (ProcessUnder s n) (one_is coded_located_process (q, fill m p) x u) (loc_under s r n l (fill_ref m y) g h.0.0, h.0.2)
-      | inr u ↦ in_bodies_left s n r l m ds x g h.1 u
-    ]
 
 -- the definitions of a level's places, at their locations
 abbrev pub levels_left : Loc → Naming → Definitions → Defs
@@ -287,9 +260,9 @@ module _ (seen : List ℕ) (s : ℕ) (r : Loc) where
           let fresh = block_fresh s l r m ds k n is pl h.places in
           let h1 = subst (λ (os : List Out). OnSolution (IsUnder s n.next) (state pl' (rules ⊕ e) ((bodies ⊕ poured) ⊕ q) os)) (append_nil tr)
           (on_grown k n.next is.up pl births (nothing ⊕ e) (rules ⊕ e) (whole ⊕ q) ((bodies ⊕ poured) ⊕ q) tr [] h born
-          (λ x y. elim (above (rules x) (e x) y) [ inl z ↦ inl (in_rules_left s n.next r l names ds x st_n.loc level z) | inr z ↦ inr (omega arith) ])
+          (λ x y. elim (above (rules x) (e x) y) [ inl z ↦ inl (rules_on (IsUnder s n.next) l names ds st_n.loc level x z) | inr z ↦ inr (omega arith) ])
           (λ x y. elim (above (bodies x + poured x) (q x) y) [
-            | inl z ↦ inl (elim (above (bodies x) (poured x) z) [ inl f ↦ in_bodies_left s n.next r l names ds x st_n.loc level f | inr f ↦ subst (ProcessUnder s n.next) (one_is coded_located_process (l, fill names p) x f) (st_n.loc, body) ])
+            | inl z ↦ inl (elim (above (bodies x) (poured x) z) [ inl f ↦ bodies_on (IsUnder s n.next) l names ds st_n.loc level x f | inr f ↦ subst (ProcessUnder s n.next) (one_is coded_located_process (l, fill names p) x f) (st_n.loc, body) ])
             | inr z ↦ inr (omega arith)
           ]) tt) in
           heats (def l (fill_definitions m ds) (fill m p) n.names q refl new refl)
@@ -329,7 +302,7 @@ module _ (seen : List ℕ) (s : ℕ) (r : Loc) where
       lay_places_leads (and_also (Place x es p) ds) pl scope m l k st levels stand t c o u =
           let q = loc_or l (fill_ref m x) in
           let found = place_ref (λ a. (live pl a ≡ true) × (root pl a ≡ r)) m x stand.0 in
-          let q_under = loc_under s r k l (fill_ref m x) st.loc u.0.0 in
+          let q_under = loc_on (IsUnder s k) l (fill_ref m x) st.loc u.0.0 in
           let stands_at : (live pl q ≡ true) × (root pl q ≡ r) = subst (λ (y : Ref). (live pl (loc_or l y) ≡ true) × (root pl (loc_or l y) ≡ r)) (sym found.1) found.2 in
           let st_q : Stands pl k q = record { is_live = stands_at.0; at_root = stands_at.1; root_there = st.root_there; loc = q_under; top = st.top } in
           let once_p : IsOnce m p = λ b. let v = o b in omega arith in
