@@ -1,7 +1,7 @@
 -- Laws of multisets.
-use Rattle.std.proofs.Common.{◌≡◌, ◌+◌, ◌<◌, Bool, true, false, ◌&&◌, cond, List, [], ◌∷◌, ◌++◌, refl, ap, ◌∙◌, arith, eqb-true, eq-eqb}
+use Rattle.std.proofs.Common.{◌≡◌, ◌+◌, ◌<◌, true, ◌&&◌, cond, List, [], ◌∷◌, ◌++◌, refl, ap, ◌∙◌, arith, eqb-true, eq-eqb}
 use Rattle.std.specs.Coded.{Coded}
-use Rattle.chem_laws.proofs.Lists.{both_true}
+use Rattle.chem_laws.proofs.Lists.{both_true, cond_above}
 use base.Stored.{Gv, gnil, gnum, gcons}
 use Rattle.chem_model.specs.Bag.{one, bag, same_code}
 
@@ -19,10 +19,6 @@ same_code_is _ _ e = cc
 pub one_self : {X : Type 0} (c : Coded X) (x : X) → one c x x ≡ 1
 unfolding one
 one_self c x = ap (λ t. cond t 1 0) (same_code_refl (c.code x))
-
-cond_above : (t : Bool) → 0 < cond t 1 0 → t ≡ true
-cond_above true h = refl
-cond_above false h = absurd (omega arith)
 
 pub one_is : {X : Type 0} (c : Coded X) (x y : X) → 0 < one c x y → x ≡ y
 unfolding one

@@ -1,6 +1,5 @@
 -- Filling by a map that names none of a block's binders leaves the block.
 use Rattle.std.proofs.Common.{◌≡◌, ℕ, ◌≤◌, List, [], ◌∷◌, ◌++◌, Option, Some, None, false, refl, sym, ap, ◌∙◌, subst, All, AllPairs}
-use Rattle.std.specs.Prelude.{is_some}
 use Rattle.chem_model.specs.declared.name.Loc.{Loc}
 use Rattle.chem_model.specs.declared.name.Name.{Name}
 use Rattle.chem_model.specs.declared.name.Ref.{Ref}
@@ -13,14 +12,11 @@ use Rattle.chem_model.specs.declared.name.Name.TheVariants as name
 use Rattle.chem_model.specs.Each.{Each}
 use Rattle.chem_model.specs.Fill.{Naming, name_at, or_binder, fill_ref, fill_pats, fill_definition, fill_definitions}
 use Rattle.chem_model.specs.NewNames.{IsChannelAt, IsLocation, OnBinder, NamesBlock}
+use Rattle.chem_laws.proofs.Lists.{has_none}
 use Rattle.chem_laws.proofs.Terms.{among_left, among_right, among_first}
 use Rattle.chem_laws.proofs.Parts.{NamesNone, BlockFilled}
 
 -- ---- which binders a map names none of
-
-pub no_name : (o : Option Name) → is_some o ≡ false → o ≡ None
-no_name None e = refl
-no_name (Some x) e = cc
 
 module _ (m : Naming) where
   pub names_none_left : (bs cs : List ℕ) → NamesNone (bs ++ cs) m → NamesNone bs m
@@ -32,7 +28,7 @@ module _ (m : Naming) where
   -- ---- what is left by filling
 
   pub ref_left : (r : Ref) → NamesNone (binder_of r) m → fill_ref m r ≡ r
-  ref_left (Binder b) h = ap (or_binder b) (no_name (name_at m b) (h b (among_first b [])))
+  ref_left (Binder b) h = ap (or_binder b) (has_none (name_at m b) (h b (among_first b [])))
   ref_left (Known n) h = refl
 
   pub pats_left : (ps : List Pat) → NamesNone (channels_of ps) m → fill_pats m ps ≡ ps

@@ -14,32 +14,20 @@ use Rattle.chem_model.specs.Scope.{IsPattern, IsInScope, IsTerm, AreTerms, IsDef
 use Rattle.chem_model.specs.Each.{Each}
 use Rattle.chem_model.specs.Fill.{Naming, name_at, or_binder, fill_ref, fill_refs, fill_pats, fill, fill_all, fill_definition, fill_definitions}
 use Rattle.chem_laws.proofs.Lists.{either_true}
-use Rattle.chem_laws.proofs.Terms.{among-append, among_left, among_right}
+use Rattle.chem_laws.proofs.Terms.{among-append, among_left, among_right, def_names_none}
 use Rattle.chem_laws.proofs.Parts.{is_named, Closes, NamesNone, AreDifferent, RuleFilled}
 use Rattle.chem_laws.proofs.Filled.{names_none_left, names_none_right, pats_left, params_left, block_left, is_block_filled, are_rules_and_places_filled}
 
 -- ---- a term's binders are bound once, also with those that the map names
 
 module _ (m : Naming) where
-  -- the map names no binder that is bound once already
-  pub names_none : (bs : List ℕ) → ((b : ℕ) → is_named m b + once bs b ≤ 1) → NamesNone bs m
-  names_none bs h b e = go (is_some (name_at m b)) (is_among bs b) (h b) e
-    where
-      go : (t u : Bool) → cond t 1 0 + cond u 1 0 ≤ 1 → u ≡ true → t ≡ false
-      go true true g f = absurd (omega arith)
-      go true false g f = cc
-      go false u g f = refl
-
-  pub def_names_none : (ds : Definitions) (p : Process) → ((b : ℕ) → is_named m b + bound_in (Def ds p) b ≤ 1) → NamesNone (block ds) m
-  def_names_none ds p h = names_none (block ds) (λ b. omega (arith, h b))
-
   -- filling keeps how often a binder is bound
   mutual
     pub bound_filled : (p : Process) → ((b : ℕ) → is_named m b + bound_in p b ≤ 1) → (b : ℕ) → bound_in (fill m p) b ≡ bound_in p b
     bound_filled (Msg x vs) h b = refl
     bound_filled (Par ps) h b = bound_all_filled ps h b
     bound_filled (Def ds p) h b =
-        let blocks : once (block (fill_definitions m ds)) b ≡ once (block ds) b = ap (λ bs. once bs b) (block_left m ds (def_names_none ds p h)) in
+        let blocks : once (block (fill_definitions m ds)) b ≡ once (block ds) b = ap (λ bs. once bs b) (block_left m ds (def_names_none m ds p h)) in
         let inner = bound_definitions_filled ds (λ c. omega (arith, h c)) b in
         let body = bound_filled p (λ c. omega (arith, h c)) b in
         omega (arith, blocks, inner, body)

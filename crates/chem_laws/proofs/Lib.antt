@@ -4,6 +4,8 @@ pub mod Terms
 pub mod Parts
 pub mod Within
 pub mod Places
+pub mod Births
+pub mod LevelLeft
 pub mod PourSoundMade
 pub mod PourSoundPieces
 pub mod PourSoundTerms

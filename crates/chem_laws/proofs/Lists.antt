@@ -1,6 +1,6 @@
--- Laws of lists and of truth values.
-use Rattle.std.proofs.Common.{◌≡◌, ℕ, ◌+◌, ◌<◌, List, [], ◌∷◌, ◌++◌, Bool, true, false, refl, ap, arith, ◌&&◌, ◌||◌, ◌⊎◌, inl, inr, zero, suc, length}
-use Rattle.std.specs.Prelude.{slice_index_or}
+-- Laws of lists, of options and of truth values.
+use Rattle.std.proofs.Common.{◌≡◌, ℕ, ◌+◌, ◌<◌, List, [], ◌∷◌, ◌++◌, Bool, true, false, refl, ap, arith, ◌&&◌, ◌||◌, ◌⊎◌, inl, inr, zero, suc, length, Option, Some, None, cond, ◌≤◌}
+use Rattle.std.specs.Prelude.{slice_index_or, is_some}
 use Rattle.std.specs.List.{All, AllPairs}
 use Rattle.chem_model.specs.Each.{Each}
 
@@ -40,8 +40,41 @@ or_comm true false = refl
 or_comm false true = refl
 or_comm false false = refl
 
+-- a test that isn't true is false
+pub is_false : (t : Bool) → (t ≡ true → ⊥) → t ≡ false
+is_false true h = absurd (h refl)
+is_false false h = refl
+
+-- ---- counts
+
+pub cond_above : (t : Bool) → 0 < cond t 1 0 → t ≡ true
+cond_above true h = refl
+cond_above false h = absurd (omega arith)
+
+pub cond_most : (t : Bool) → cond t 1 0 ≤ 1
+cond_most true = omega arith
+cond_most false = omega arith
+
+pub cond_either : (t u : Bool) → cond (t || u) 1 0 ≤ cond t 1 0 + cond u 1 0
+cond_either true u = omega arith
+cond_either false u = omega arith
+
+pub zero_or_above : (n : ℕ) → (n ≡ 0) ⊎ (0 < n)
+zero_or_above zero = inl refl
+zero_or_above (suc n) = inr (omega arith)
+
 pub above : (m n : ℕ) → 0 < m + n → (0 < m) ⊎ (0 < n)
 above m n h = grind arith
+
+-- ---- options
+
+pub has_some : {X : Type 0} (o : Option X) → is_some o ≡ true → (x : X) × (o ≡ Some x)
+has_some None e = cc
+has_some (Some x) e = (x, refl)
+
+pub has_none : {X : Type 0} (o : Option X) → is_some o ≡ false → o ≡ None
+has_none None e = refl
+has_none (Some x) e = cc
 
 -- ---- lists
 

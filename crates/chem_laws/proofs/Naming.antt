@@ -19,12 +19,11 @@ use Rattle.chem_model.specs.Solution.{is_there, same_loc}
 use Rattle.chem_model.specs.NewNames.{Pair, coded_pair, pair_of, pairs_of, HasDomain, NamesBlock, OnBinder, IsChannelAt, IsLocation}
 use Rattle.chem_model.specs.Numbered.{standing, place_pairs, channel_pairs}
 use Rattle.chem_model.specs.Pour.{Drawn, name_channel, name_ref, name_pats, name_channels, name_place, name_places, naming, births_of, loc_or}
-use Rattle.chem_laws.proofs.Lists.{or_assoc, or_comm, or_right, Each-append, Each-weaker}
+use Rattle.chem_laws.proofs.Lists.{or_assoc, or_comm, or_right, Each-append, Each-weaker, has_some, has_none}
 use Rattle.chem_laws.proofs.Terms.{or_name, name_at-append, some_or, among-append, among_left, among_right, among_first}
 use Rattle.chem_laws.proofs.Within.{same_loc_refl}
 use Rattle.chem_laws.proofs.Parts.{in_range, Agree, IsGivenAt, NamingIs}
-use Rattle.chem_laws.proofs.Filled.{no_name}
-use Rattle.chem_laws.proofs.NamingRange.{in_range_joins, in_range_empty, in_range_once, one_in_range, pairs_of-append, channel_pairs-append, IsMade, has_name, one_binder}
+use Rattle.chem_laws.proofs.NamingRange.{in_range_joins, in_range_empty, in_range_once, one_in_range, pairs_of-append, channel_pairs-append, IsMade, one_binder}
 use Rattle.chem_laws.proofs.NamingLevels.{top_channels, rules_block, AreChannels, block_channels, Fresh, block_fresh}
 
 -- ---- one entry more
@@ -299,7 +298,7 @@ HadTurns s m (and_also (Place (Binder b) es p) ds) a =
 HadTurns s m (and_also (Place (Known n) es p) ds) a = ⊥
 
 unnamed : (bs : List ℕ) (m : Naming) (c : ℕ) → HasDomain bs m → is_among bs c ≡ false → name_at m c ≡ None
-unnamed bs m c dom e = no_name (name_at m c) (dom c ∙ e)
+unnamed bs m c dom e = has_none (name_at m c) (dom c ∙ e)
 
 had_turns : (s : ℕ) (ds : Definitions) (bs : List ℕ) (a : Drawn) → AreRulesAndPlaces ds → AreChannels ds → Fresh bs ds → HasDomain bs a.names → HadTurns s (name_places s ds a).names ds a
 had_turns s no_definition bs a ok is fresh dom = tt
@@ -316,7 +315,7 @@ had_turns s (and_also (Place (Binder b) es p) ds) bs a ok is fresh dom =
     ∙ sym (among-append (bs ++ b ∷ []) (block es) c) in
     let level : NamesBlock q second.names es = rules_named second.names q es ok.0 is.0 (λ c e. channels_at s q es first c (unnamed (bs ++ b ∷ []) first.names c dom_first (fresh.1 c e)) (ap (λ cs. is_among cs c) (sym (rules_block es ok.0)) ∙ e)) in
     let same : Agree (block es) last.names second.names = λ c e.
-    let some = has_name (name_at second.names c) (dom_second c ∙ among_right (bs ++ b ∷ []) (block es) c e) in
+    let some = has_some (name_at second.names c) (dom_second c ∙ among_right (bs ++ b ∷ []) (block es) c e) in
     places_kept s ds second c some.0 some.1 ∙ sym some.1 in (
       places_kept s ds second b (name.Place q) (channels_kept s q es first b (name.Place q) (push_new b (name.Place q) a (unnamed bs a.names b dom fresh.0))),
       names_agree last.names second.names q es same level,
@@ -407,7 +406,7 @@ naming_is s l r e ds k is ok agree =
     let dom = naming_domain s l ds k ok in
     let turns : HadTurns s m ds first = had_turns s ds (top_channels ds) first ok (block_channels ds is) (block_fresh ds is ok) (λ c. channels_found s l ds c start) in
     let tops : (c : ℕ) → is_among (top_channels ds) c ≡ true → IsChannelAt l (name_at m c) = λ c t.
-    let some = has_name (name_at first.names c) (channels_found s l ds c start ∙ t) in
+    let some = has_some (name_at first.names c) (channels_found s l ds c start ∙ t) in
     subst (IsChannelAt l) (some.1 ∙ sym (places_kept s ds first c some.0 some.1)) (channels_at s l ds start c refl t) in
     let sorts = level_named s m l ds first (block_channels ds is) tops turns in
     let births : births_of r e ds ≡ births_of r m ds = births_agree r e m ds agree in
@@ -422,7 +421,7 @@ naming_is s l r e ds k is ok agree =
       split = λ p. let same = ap (λ bs. bag coded_pair (place_pairs bs) p) births in omega (arith, same, places_split s r m ds first p turns, channels_split s l ds start p);
       given = subst (λ bs. Each (λ (x : Named). IsGivenAt l bs x.name) m) (sym births) given;
       different = λ b c hb hc same.
-          let some = has_name (name_at m b) (dom b ∙ hb) in
+          let some = has_some (name_at m b) (dom b ∙ hb) in
           one_binder m
           (Each-weaker (λ (x : Named). IsGivenAt l (births_of r m ds) x.name) (λ (x : Named). IsMade x.name) (λ x g. given_made l (births_of r m ds) x.name g) m given)
           (λ p. omega (arith, ranged.1 p, in_range_once s k (naming s l ds k).next p)) b c some.0 some.1 (sym (agree c hc) ∙ sym same ∙ agree b hb ∙ some.1);

@@ -8,7 +8,7 @@ use Rattle.chem_model.specs.Process.{Rule, Place, Definitions, no_definition, an
 use Rattle.chem_model.specs.Binders.{binder_of, channels_of, block, places_of, at, patterns_of, is_among, times}
 use Rattle.chem_model.specs.Scope.{IsBinder, AreRules, AreRulesAndPlaces, AreNamed, Agree, IsBlock}
 use Rattle.chem_model.specs.Each.{Each}
-use Rattle.chem_laws.proofs.Lists.{either_true}
+use Rattle.chem_laws.proofs.Lists.{either_true, is_false}
 use Rattle.chem_laws.proofs.Terms.{among-append, times-cons, times-append}
 
 -- ---- how often a binder stands in a list
@@ -23,10 +23,6 @@ not_among (b ∷ bs) c e = times-cons b bs c ∙ go (b == c) (not_among bs c) e
     go : (t : Bool) → (is_among bs c ≡ false → times bs c ≡ 0) → t || is_among bs c ≡ false → ◌≡◌ {A = ℕ} (cond t 1 0 + times bs c) 0
     go true ih e' = cc
     go false ih e' = omega (arith, ih e')
-
-pub is_not_true : (t : Bool) → (t ≡ true → ⊥) → t ≡ false
-is_not_true true h = absurd (h refl)
-is_not_true false h = refl
 
 -- ---- membership, by recursion
 
@@ -174,7 +170,7 @@ module _ (xs : List (Option Ref × Pat)) (qs : List ℕ)
   fresh_from (and_also (Rule ps p) ds) before bs ok named sub count was = fresh_from ds before bs ok named.1 (λ x i. sub x (in_right x (at None ps) (patterns_of None ds) i)) count was
   fresh_from (and_also (Place (Known n) es p) ds) before bs ok named sub count was = absurd named.0.0
   fresh_from (and_also (Place (Binder b) es p) ds) before bs ok named sub count was =
-      (is_not_true (is_among bs b) (λ t. old b t (inl refl)), own_new, fresh_from ds after ((bs ++ b ∷ []) ++ block es) ok.1 named.1 (λ x i. sub x (in_right x (patterns_of (Some (Binder b)) es) (patterns_of None ds) i)) count_after was_after)
+      (is_false (is_among bs b) (λ t. old b t (inl refl)), own_new, fresh_from ds after ((bs ++ b ∷ []) ++ block es) ok.1 named.1 (λ x i. sub x (in_right x (patterns_of (Some (Binder b)) es) (patterns_of None ds) i)) count_after was_after)
     where
       after : ℕ → ℕ
       after c = before c + cond (b == c) 1 0
@@ -205,7 +201,7 @@ module _ (xs : List (Option Ref × Pat)) (qs : List ℕ)
       ]
 
       own_new : (c : ℕ) → is_among (block es) c ≡ true → is_among (bs ++ b ∷ []) c ≡ false
-      own_new c e = is_not_true (is_among (bs ++ b ∷ []) c) (λ t. elim (either_true (is_among bs c) (is_among (b ∷ []) c) (sym (among-append bs (b ∷ []) c) ∙ t)) [
+      own_new c e = is_false (is_among (bs ++ b ∷ []) c) (λ t. elim (either_true (is_among bs c) (is_among (b ∷ []) c) (sym (among-append bs (b ∷ []) c) ∙ t)) [
         | inl u ↦ old c u (inr (owned c e))
         | inr u ↦ elim (either_true (b == c) false u) [
           | inl v ↦ (let o = owned c e in b_place (apart (Some (Binder b), o.0) o.1 b (o.2 ∙ ap Binder (sym (eqb-true b c v)))))

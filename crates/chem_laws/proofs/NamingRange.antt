@@ -1,6 +1,6 @@
 -- Numbers drawn one after another, as a range of pairs that is counted; and names whose pairs all differ.
-use Rattle.std.proofs.Common.{◌≡◌, ℕ, ◌+◌, ◌<◌, ◌≤◌, [], ◌∷◌, ◌++◌, Option, Some, None, Bool, true, false, cond, refl, sym, ap, ◌∙◌, arith, ◌==◌, ◌&&◌, eqb-true}
-use Rattle.std.specs.Prelude.{nat_lt, nat_le, is_some}
+use Rattle.std.proofs.Common.{◌≡◌, ℕ, ◌+◌, ◌<◌, ◌≤◌, [], ◌∷◌, ◌++◌, Some, Bool, true, false, cond, refl, sym, ap, ◌∙◌, arith, ◌==◌, ◌&&◌, eqb-true, leb-true, ltb-true}
+use Rattle.std.specs.Prelude.{nat_lt, nat_le}
 use Rattle.chem_model.specs.Bag.{one, bag}
 use Rattle.chem_model.specs.Each.{Each}
 use Rattle.chem_model.specs.declared.name.Name.{Name}
@@ -9,6 +9,7 @@ use Rattle.chem_model.specs.declared.numbered.Named.{Named}
 use Rattle.chem_model.specs.Fill.{Naming, name_at}
 use Rattle.chem_model.specs.NewNames.{Pair, coded_pair, pair_of, pairs_of}
 use Rattle.chem_model.specs.Numbered.{channel_pair, channel_pairs}
+use Rattle.chem_laws.proofs.Lists.{both_true, cond_above, cond_most}
 use Rattle.chem_laws.proofs.Bags.{one_self, bag-append}
 use Rattle.chem_laws.proofs.Parts.{in_range}
 
@@ -28,11 +29,7 @@ pub in_range_empty : (s k : ℕ) (p : Pair) → in_range s k k p ≡ 0
 in_range_empty s k p = grind arith
 
 pub in_range_once : (s k n : ℕ) (p : Pair) → in_range s k n p ≤ 1
-in_range_once s k n p = once ((p.0 == s) && (nat_le k p.1 && nat_lt p.1 n))
-  where
-    once : (t : Bool) → cond t 1 0 ≤ 1
-    once true = omega arith
-    once false = omega arith
+in_range_once s k n p = cond_most ((p.0 == s) && (nat_le k p.1 && nat_lt p.1 n))
 
 pub one_in_range : (s k : ℕ) (p : Pair) → one coded_pair (s, k) p ≡ in_range s k (k + 1) p
 unfolding one
@@ -40,6 +37,16 @@ one_in_range s k p = same (s == p.0) (p.0 == s) (k == p.1) (nat_le k p.1) (nat_l
   where
     same : (t u v w x : Bool) → t ≡ u → v ≡ (w && x) → ◌≡◌ {A = ℕ} (cond (t && v) 1 0) (cond (u && (w && x)) 1 0)
     same t u v w x e f = λ i. cond (e i && f i) 1 0
+
+-- a pair of this site with a number from k up to n
+abbrev pub InRange : ℕ → ℕ → ℕ → Pair → Type 0
+InRange s k n p = (p.0 ≡ s) × (k ≤ p.1) × (p.1 < n)
+
+pub in_range_is : (s k n : ℕ) (p : Pair) → 0 < in_range s k n p → InRange s k n p
+in_range_is s k n p h =
+    let whole = both_true (p.0 == s) (nat_le k p.1 && nat_lt p.1 n) (cond_above ((p.0 == s) && (nat_le k p.1 && nat_lt p.1 n)) h) in
+    let numbers = both_true (nat_le k p.1) (nat_lt p.1 n) whole.1 in
+    (eqb-true p.0 s whole.0, leb-true k p.1 numbers.0, ltb-true p.1 n numbers.1)
 
 -- ---- the pairs of more names
 
@@ -66,10 +73,6 @@ made_pair (name.Chan s k g) h = ((s, k), omega (arith, one_self coded_pair (s, k
 
 pub some_is : (x y : Name) → Some x ≡ Some y → x ≡ y
 some_is x y e = cc
-
-pub has_name : (o : Option Name) → is_some o ≡ true → (x : Name) × (o ≡ Some x)
-has_name None e = cc
-has_name (Some x) e = (x, refl)
 
 found_pair : (es : Naming) (b : ℕ) (x : Name) (p : Pair) → name_at es b ≡ Some x → bag coded_pair (pair_of x) p ≤ bag coded_pair (pairs_of es) p
 found_pair [] b x p h = cc

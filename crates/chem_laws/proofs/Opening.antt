@@ -29,15 +29,15 @@ use Rattle.chem_model.specs.Sound.{IsSound, IsNameOf}
 use Rattle.chem_model.specs.Runs.{only_roots, definitions_at, processes_at}
 use Rattle.chem_model.specs.Laws.{OpeningIsAStart}
 use Rattle.chem_laws.proofs.Lists.{Each-weaker, Each-left, Each-right, above, all_each}
-use Rattle.chem_laws.proofs.Terms.{OnEntries}
-use Rattle.chem_laws.proofs.Places.{standing_left, name_more, definitions_scope_weaker, term_weaker}
+use Rattle.chem_laws.proofs.Terms.{OnEntries, definitions_on}
+use Rattle.chem_laws.proofs.Places.{standing_left, name_more, definitions_scope_weaker, term_weaker, place_below, name_below}
 use Rattle.chem_laws.proofs.Parts.{is_named, NamingIs, PourSound, LaySound, PourReached, LayReached, PlacesReached, IsPourable, IsLayable, IsBelow, PlacesStand, Others, beside, bodies_left, born_all}
 use Rattle.chem_laws.proofs.Reached.{chain_trans, state, reached_same, reached_again}
 use Rattle.chem_laws.proofs.OpeningBlocks.{IsBlockAt, of_block, other_block}
 use Rattle.chem_laws.proofs.OpeningNames.{SitesAre, HasLevel, sites_are, rest_found, names_sites, pairs_once}
 use Rattle.chem_laws.proofs.OpeningPlaces.{live_root, roots_alone, root_found, standing-append, born_standing, levels_unmarked, rules_all, bodies_all, sites_placed}
 use Rattle.chem_laws.proofs.OpeningSound.{IsEntryIn, roots_stand, places_stand, start_sound, start_entries, start_names, start_fresh}
-use Rattle.chem_laws.proofs.OpeningTerms.{definitions_on, all_rules_on, all_bodies_on, body_on, all_processes_on, place_below, name_below}
+use Rattle.chem_laws.proofs.OpeningTerms.{all_rules_on, all_bodies_on, body_on, all_processes_on}
 use Rattle.chem_laws.proofs.NamingRange.{pairs_of-append}
 
 counts_length : (ds : List SeenDecl) → length (counts_of ds) ≡ length ds

@@ -8,8 +8,8 @@ use Rattle.chem_model.specs.Process.{Process, Definition, Rule, Place, Definitio
 use Rattle.chem_model.specs.Binders.{binder_of, channels_of, block, defined, places_of, place_of, at, patterns_of, patterns_in, is_among, times}
 use Rattle.chem_model.specs.Scope.{IsBinder, IsBlock, AreNamed, IsNamed, Agree}
 use Rattle.chem_model.specs.Each.{Each}
-use Rattle.chem_laws.proofs.Lists.{Each-weaker, Each-append, Each-left, Each-right, all_each, each_all, EachPair, pairs_each}
-use Rattle.chem_laws.proofs.OpeningLists.{each_map, all_pairs, pairs_left, pairs_right, pairs_across, pairs_map, among_either, not_among, is_false, once_apart}
+use Rattle.chem_laws.proofs.Lists.{Each-weaker, Each-append, Each-left, Each-right, all_each, each_all, EachPair, pairs_each, is_false}
+use Rattle.chem_laws.proofs.OpeningLists.{each_map, all_pairs, pairs_left, pairs_right, pairs_across, pairs_map, among_either, not_among, once_apart}
 use Rattle.chem_laws.proofs.Terms.{among_left, among_right, among_first, times-append, times-cons}
 
 abbrev Item : Type 0

@@ -1,5 +1,5 @@
 -- Lists by recursion: what is kept of each member and of each two, and how often a number stands in a list.
-use Rattle.std.proofs.Common.{◌≡◌, ℕ, zero, suc, ◌+◌, ◌<◌, ◌≤◌, List, [], ◌∷◌, ◌++◌, Bool, true, false, cond, refl, sym, ◌∙◌, subst, arith, map, ◌||◌, ◌==◌, ◌⊎◌}
+use Rattle.std.proofs.Common.{◌≡◌, ℕ, zero, suc, ◌+◌, ◌<◌, ◌≤◌, List, [], ◌∷◌, ◌++◌, Bool, true, false, cond, sym, ◌∙◌, subst, arith, map, ◌||◌, ◌==◌, ◌⊎◌}
 use Rattle.std.specs.List.{AllPairs}
 use Rattle.chem_model.specs.Each.{Each}
 use Rattle.chem_model.specs.Binders.{is_among, times}
@@ -58,11 +58,6 @@ among_either xs ys b h = either_true (is_among xs b) (is_among ys b) (sym (among
 
 pub not_among : (xs ys : List ℕ) (b : ℕ) → is_among (xs ++ ys) b ≡ false → (is_among xs b ≡ false) × (is_among ys b ≡ false)
 not_among xs ys b h = neither (is_among xs b) (is_among ys b) (sym (among-append xs ys b) ∙ h)
-
--- a test that isn't true is false
-pub is_false : (t : Bool) → (t ≡ true → ⊥) → t ≡ false
-is_false true h = absurd (h refl)
-is_false false h = refl
 
 -- in two lists together that have each number once, a number of the one isn't in the other
 pub once_apart : (xs ys : List ℕ) (b : ℕ) → times (xs ++ ys) b ≤ 1 → is_among xs b ≡ true → is_among ys b ≡ true → ⊥

@@ -1,6 +1,6 @@
 -- The names of what the sites define: each site's are its own, and their pairs are all different.
-use Rattle.std.proofs.Common.{◌≡◌, ℕ, zero, suc, ◌+◌, ◌<◌, ◌≤◌, List, [], ◌∷◌, ◌++◌, Option, Some, None, Bool, true, false, cond, refl, sym, ap, ◌∙◌, subst, arith, length, ◌||◌, ◌&&◌, ◌==◌, ◌⊎◌, inl, inr, eqb-true, eq-eqb, leb-true, ltb-true}
-use Rattle.std.specs.Prelude.{is_some, slice_index, nat_le, nat_lt}
+use Rattle.std.proofs.Common.{◌≡◌, ℕ, suc, ◌+◌, ◌<◌, ◌≤◌, List, [], ◌∷◌, ◌++◌, Option, Some, None, Bool, true, false, cond, refl, sym, ap, ◌∙◌, subst, arith, length, ◌||◌, ◌==◌, inl, inr, eqb-true, eq-eqb}
+use Rattle.std.specs.Prelude.{is_some, slice_index}
 use Rattle.chem_model.specs.declared.name.Name.{Name}
 use Rattle.chem_model.specs.declared.name.Name.TheVariants as name
 use Rattle.chem_model.specs.declared.name.Ref.TheVariants.{Binder}
@@ -16,13 +16,13 @@ use Rattle.chem_model.specs.NewNames.{Pair, coded_pair, pairs_of, HasDomain}
 use Rattle.chem_model.specs.Pour.{Drawn, naming}
 use Rattle.chem_model.specs.Opening.{root_of, root_names, level_names, level_counts}
 use Rattle.chem_model.specs.Runs.{NamesSites}
-use Rattle.chem_laws.proofs.Lists.{both_true, above}
+use Rattle.chem_laws.proofs.Lists.{above, is_false, has_none, cond_most, neither, zero_or_above}
 use Rattle.chem_laws.proofs.Bags.{one_is}
 use Rattle.chem_laws.proofs.Terms.{or_name, name_at-append, some_or, among-append, domain-append, among_first, among_left, among_right}
 use Rattle.chem_laws.proofs.Parts.{Agree, in_range, IsNaming, NamingIs}
-use Rattle.chem_laws.proofs.OpeningLists.{not_among, is_false}
+use Rattle.chem_laws.proofs.OpeningLists.{not_among}
 use Rattle.chem_laws.proofs.OpeningBlocks.{IsBlockAt, own_block, other_block, sites_apart, name_apart}
-use Rattle.chem_laws.proofs.NamingRange.{pairs_of-append}
+use Rattle.chem_laws.proofs.NamingRange.{pairs_of-append, in_range_once, in_range_is}
 
 -- ---- each site
 
@@ -79,14 +79,6 @@ block_is (t ∷ ts) b =
     ∙ shuffle (t.name == b) (is_among es b) (is_among (site_binders ts) b) (is_among (level_binders ts) b)
     ∙ ap (λ s. ((t.name == b) || is_among (site_binders ts) b) || s) (sym (among-append es (level_binders ts) b))
 
-none_is : (o : Option Name) → is_some o ≡ false → o ≡ None
-none_is None e = refl
-none_is (Some x) e = cc
-
-not_either : (s t : Bool) → s || t ≡ false → s ≡ false
-not_either true t e = cc
-not_either false t e = refl
-
 first_name : (o q : Option Name) → is_some o ≡ true → or_name o q ≡ o
 first_name None q e = cc
 first_name (Some x) q e = refl
@@ -134,16 +126,16 @@ module _ (naming_is : NamingIs) where
     here b e =
         let apart = sites_apart t.name (definitions t.defs) t.body (places ts) h b (among_right (t.name ∷ []) level b e) in
         let other : (t.name == b) ≡ false = is_false (t.name == b) (λ q. let f : is_among level b ≡ false = ap (is_among level) (sym (eqb-true t.name b q)) ∙ name_apart t.name (definitions t.defs) t.body (places ts) h in cc) in
-        let no_root : is_some (name_at roots b) ≡ false = root_found (i + 1) ts b ∙ not_either (is_among (site_binders ts) b) (is_among (level_binders ts) b) (sym (block_is ts b) ∙ apart) in
-        parts b other ∙ ap (λ o. or_name o (or_name (name_at own b) (name_at levels b))) (none_is (name_at roots b) no_root) ∙ first_name (name_at own b) (name_at levels b) (own_domain i t one_block g b ∙ e)
+        let no_root : is_some (name_at roots b) ≡ false = root_found (i + 1) ts b ∙ (neither (is_among (site_binders ts) b) (is_among (level_binders ts) b) (sym (block_is ts b) ∙ apart)).0 in
+        parts b other ∙ ap (λ o. or_name o (or_name (name_at own b) (name_at levels b))) (has_none (name_at roots b) no_root) ∙ first_name (name_at own b) (name_at levels b) (own_domain i t one_block g b ∙ e)
 
     later : Agree (block (places ts)) (rest_names i (t ∷ ts)) (rest_names (i + 1) ts)
     later b e =
         let apart : is_among (t.name ∷ level) b ≡ false = is_false (is_among (t.name ∷ level) b) (λ q. let f = sites_apart t.name (definitions t.defs) t.body (places ts) h b q in cc) in
         let both = not_among (t.name ∷ []) level b apart in
-        let other : (t.name == b) ≡ false = not_either (t.name == b) false both.0 in
+        let other : (t.name == b) ≡ false = (neither (t.name == b) false both.0).0 in
         let no_own : is_some (name_at own b) ≡ false = own_domain i t one_block g b ∙ both.1 in
-        parts b other ∙ ap (λ o. or_name (name_at roots b) (or_name o (name_at levels b))) (none_is (name_at own b) no_own) ∙ sym (name_at-append roots levels b)
+        parts b other ∙ ap (λ o. or_name (name_at roots b) (or_name o (name_at levels b))) (has_none (name_at own b) no_own) ∙ sym (name_at-append roots levels b)
 
   -- each site has its own names
   pub sites_are : (ts : List SiteTerm) (i : ℕ) (m : Naming) → IsBlockAt None (places ts) → Each HasLevel ts → Agree (block (places ts)) m (rest_names i ts) → SitesAre m i ts
@@ -174,10 +166,6 @@ pub record IsOnce (i : ℕ) (ts : List SiteTerm) (q : Pair) : Type 0 where
   pub once : site_pairs i ts q ≤ 1
   pub below : 0 < site_pairs i ts q → (j : ℕ) × (q.0 ≡ i + j) × (j < length ts) × (q.1 < slice_index (level_counts i ts) j)
 
-zero_or_above : (n : ℕ) → (n ≡ 0) ⊎ (0 < n)
-zero_or_above zero = inl refl
-zero_or_above (suc n) = inr (omega arith)
-
 one_of_three : (a b c : ℕ) → a ≤ 1 → b ≤ 1 → c ≤ 1 → (0 < a → 0 < b → ⊥) → (0 < a → 0 < c → ⊥) → (0 < b → 0 < c → ⊥) → a + (b + c) ≤ 1
 one_of_three a b c x y z f g h = elim (zero_or_above a) [
   | inl u ↦ elim (zero_or_above b) [ inl v ↦ omega arith | inr v ↦ elim (zero_or_above c) [ inl w ↦ omega arith | inr w ↦ absurd (h v w) ] ]
@@ -186,28 +174,7 @@ one_of_three a b c x y z f g h = elim (zero_or_above a) [
 
 one_at_most : (p q : Pair) → one coded_pair p q ≤ 1
 unfolding one
-one_at_most p q = go (same_code (coded_pair.code p) (coded_pair.code q))
-  where
-    go : (t : Bool) → cond t 1 0 ≤ 1
-    go true = omega arith
-    go false = omega arith
-
-range_at_most : (s k n : ℕ) (p : Pair) → in_range s k n p ≤ 1
-range_at_most s k n p = go ((p.0 == s) && (nat_le k p.1 && nat_lt p.1 n))
-  where
-    go : (t : Bool) → cond t 1 0 ≤ 1
-    go true = omega arith
-    go false = omega arith
-
-in_range_is : (s k n : ℕ) (p : Pair) → 0 < in_range s k n p → (p.0 ≡ s) × (k ≤ p.1) × (p.1 < n)
-in_range_is s k n p h =
-    let a = both_true (p.0 == s) (nat_le k p.1 && nat_lt p.1 n) (go ((p.0 == s) && (nat_le k p.1 && nat_lt p.1 n)) h) in
-    let b = both_true (nat_le k p.1) (nat_lt p.1 n) a.1 in
-    (eqb-true p.0 s a.0, leb-true k p.1 b.0, ltb-true p.1 n b.1)
-  where
-    go : (t : Bool) → 0 < cond t 1 0 → t ≡ true
-    go true e = refl
-    go false e = absurd (omega arith)
+one_at_most p q = cond_most (same_code (coded_pair.code p) (coded_pair.code q))
 
 pub pairs_once : (m : Naming) (ts : List SiteTerm) (i : ℕ) (q : Pair) → SitesAre m i ts → IsOnce i ts q
 pairs_once m [] i q h = record { once = omega arith; below = λ e. absurd (omega arith) }
@@ -223,7 +190,7 @@ pairs_once m (t ∷ ts) i q h =
     let split : site_pairs i (t ∷ ts) q ≡ a + (b + c) = omega (arith, h.0.own.range q, pairs_of-append own.names (level_names (i + 1) ts) q) in
     let at_root : 0 < a → (q.0 ≡ i) × (q.1 ≡ 0) = λ e. (ap (λ (x : Pair). x.0) (sym (one_is coded_pair p q e)), ap (λ (x : Pair). x.1) (sym (one_is coded_pair p q e))) in
     record {
-      once = subst (λ (n : ℕ). n ≤ 1) (sym split) (one_of_three a b c (one_at_most p q) (range_at_most i 1 own.next q) once
+      once = subst (λ (n : ℕ). n ≤ 1) (sym split) (one_of_three a b c (one_at_most p q) (in_range_once i 1 own.next q) once
           (λ x y. let f = at_root x in let g = in_range_is i 1 own.next q y in let z = f.1 in let w = g.1 in omega arith)
           (λ x y. let f = at_root x in let g = later.below y in let z = f.0 in let w = g.1 in omega arith)
           (λ x y. let f = in_range_is i 1 own.next q x in let g = later.below y in let z = f.0 in let w = g.1 in omega arith));

@@ -2,28 +2,26 @@
 use Rattle.std.proofs.Common.{◌≡◌, ℕ, ◌+◌, ◌<◌, ◌≤◌, List, [], ◌∷◌, ◌++◌, Option, Some, None, Bool, true, false, cond, refl, sym, ap, ◌∙◌, arith, length, ◌||◌, ◌&&◌, ◌==◌, eqb-true, eq-eqb, ltb-true, lt-ltb, ◌⊎◌, inl, inr, eq-or-lt_of_le}
 use Rattle.std.specs.Prelude.{not, nat_lt}
 use Rattle.chem_model.specs.declared.name.Loc.{Loc}
-use Rattle.chem_model.specs.declared.name.Name.{Name}
-use Rattle.chem_model.specs.declared.name.Name.TheVariants as name
-use Rattle.chem_model.specs.declared.name.Ref.TheVariants.{Binder, Known}
 use Rattle.chem_model.specs.declared.event.Out.{Out}
 use Rattle.chem_model.specs.declared.program.SiteTerm.{SiteTerm}
 use Rattle.chem_model.specs.declared.numbered.Placed.{Placed}
 use Rattle.chem_model.specs.Process.{Rule, Place, Definitions, no_definition, and_also, clauses, definitions}
 use Rattle.chem_model.specs.Bag.{one, bag, ◌⊕◌, nothing}
 use Rattle.chem_model.specs.Each.{Each}
-use Rattle.chem_model.specs.Fill.{Naming, name_at, or_binder, fill_definitions}
+use Rattle.chem_model.specs.Fill.{Naming, fill_definitions}
 use Rattle.chem_model.specs.Solution.{Standing, Places, Defs, Procs, coded_located_definition, same_loc, is_there, is_marked, host_of, or_itself, root, live, born, at}
-use Rattle.chem_model.specs.NewNames.{Pair, coded_pair, NamesBlock, IsLocation}
+use Rattle.chem_model.specs.NewNames.{Pair, coded_pair}
 use Rattle.chem_model.specs.Reduction.{IsReached}
 use Rattle.chem_model.specs.Numbered.{standing, place_pairs}
-use Rattle.chem_model.specs.Pour.{births_of, loc_or}
+use Rattle.chem_model.specs.Pour.{births_of}
 use Rattle.chem_model.specs.Opening.{root_of, roots, level_births}
 use Rattle.chem_model.specs.Runs.{only_roots, definitions_at}
 use Rattle.chem_laws.proofs.Lists.{both_true, true_both, Each-append}
 use Rattle.chem_laws.proofs.Bags.{one_self, bag-append}
 use Rattle.chem_laws.proofs.Within.{same_loc_is, same_loc_refl}
 use Rattle.chem_laws.proofs.Places.{root_loc}
-use Rattle.chem_laws.proofs.Parts.{rules_left, bodies_left, born_all, FreshPlaces, PlacesReached}
+use Rattle.chem_laws.proofs.Parts.{rules_left, bodies_left, born_all, PlacesReached}
+use Rattle.chem_laws.proofs.Births.{born_all-append, AreFresh, fresh_left, fresh_right, fresh_places}
 use Rattle.chem_laws.proofs.Reached.{chain_trans, state, reached_same, reached_again}
 use Rattle.chem_laws.proofs.OpeningNames.{SitesAre}
 
@@ -95,24 +93,8 @@ standing-append (x ∷ xs) ys l = go (same_loc x.loc l) (standing-append xs ys l
     go true ih = refl
     go false ih = ih
 
-pub place_pairs-append : (xs ys : List Placed) (q : Pair) → bag coded_pair (place_pairs (xs ++ ys)) q ≡ bag coded_pair (place_pairs xs) q + bag coded_pair (place_pairs ys) q
-place_pairs-append [] ys q = omega arith
-place_pairs-append (x ∷ xs) ys q = omega (arith, place_pairs-append xs ys q)
-
 abbrev pub at_pair : Loc → Pair
 at_pair l = (l.site, l.k)
-
--- a location that stands is counted
-pub counted : (xs : List Placed) (l : Loc) → is_there (standing xs l) ≡ true → 0 < bag coded_pair (place_pairs xs) (at_pair l)
-counted [] l h = cc
-counted (x ∷ xs) l h = go (same_loc x.loc l) refl (counted xs l) h
-  where
-    go : (s : Bool) → same_loc x.loc l ≡ s → (is_there (standing xs l) ≡ true → 0 < bag coded_pair (place_pairs xs) (at_pair l))
-        → is_there (cond s (Some (record { host = x.host; marked = x.marked })) (standing xs l)) ≡ true → 0 < one coded_pair (at_pair x.loc) (at_pair l) + bag coded_pair (place_pairs xs) (at_pair l)
-    go true e ih h' =
-        let here : one coded_pair (at_pair x.loc) (at_pair l) ≡ 1 = ap (λ (q : Loc). one coded_pair (at_pair x.loc) (at_pair q)) (sym (same_loc_is x.loc l e)) ∙ one_self coded_pair (at_pair x.loc) in
-        omega arith
-    go false e ih h' = let more = ih h' in omega arith
 
 abbrev Counted : List Placed → Placed → Type 0
 Counted xs x = 0 < bag coded_pair (place_pairs xs) (at_pair x.loc)
@@ -146,42 +128,6 @@ entries (x ∷ xs) h = (ap (λ s. cond s (Some (record { host = x.host; marked =
 
 -- ---- locations that are born
 
-abbrev pub AreFresh : Places → List Placed → Type 0
-AreFresh pl [] = Unit {0}
-AreFresh pl (b ∷ bs) = (pl b.loc ≡ None) × AreFresh (born pl b.loc b.host) bs
-
-pub born_all-append : (pl : Places) (xs ys : List Placed) (l : Loc) → born_all (born_all pl xs) ys l ≡ born_all pl (xs ++ ys) l
-born_all-append pl [] ys l = refl
-born_all-append pl (x ∷ xs) ys l = born_all-append (born pl x.loc x.host) xs ys l
-
-pub fresh_left : (pl : Places) (xs ys : List Placed) → AreFresh pl (xs ++ ys) → AreFresh pl xs
-fresh_left pl [] ys h = tt
-fresh_left pl (x ∷ xs) ys h = (h.0, fresh_left (born pl x.loc x.host) xs ys h.1)
-
-pub fresh_right : (pl : Places) (xs ys : List Placed) → AreFresh pl (xs ++ ys) → AreFresh (born_all pl xs) ys
-fresh_right pl [] ys h = h
-fresh_right pl (x ∷ xs) ys h = fresh_right (born pl x.loc x.host) xs ys h.1
-
-none_there : (o : Option Standing) → (is_there o ≡ true → ⊥) → o ≡ None
-none_there None h = refl
-none_there (Some s) h = absurd (h refl)
-
--- locations that aren't in the map, each born once
-pub fresh_births : (pl : Places) (bs : List Placed) → ((l : Loc) → is_there (pl l) ≡ true → bag coded_pair (place_pairs bs) (at_pair l) ≡ 0) → ((q : Pair) → bag coded_pair (place_pairs bs) q ≤ 1) → AreFresh pl bs
-fresh_births pl [] f g = tt
-fresh_births pl (b ∷ bs) f g =
-    let here = one_self coded_pair (at_pair b.loc) in (
-      none_there (pl b.loc) (λ e. (let none = f b.loc e in omega arith)),
-      fresh_births (born pl b.loc b.host) bs (λ l e. go l (same_loc b.loc l) refl e) (λ q. (let bound = g q in omega arith)),
-    )
-  where
-    go : (l : Loc) (s : Bool) → same_loc b.loc l ≡ s → is_there (cond s (Some (record { host = b.host; marked = false })) (pl l)) ≡ true → bag coded_pair (place_pairs bs) (at_pair l) ≡ 0
-    go l true e h =
-        let here : one coded_pair (at_pair b.loc) (at_pair l) ≡ 1 = ap (λ (q : Loc). one coded_pair (at_pair b.loc) (at_pair q)) (sym (same_loc_is b.loc l e)) ∙ one_self coded_pair (at_pair b.loc) in
-        let bound = g (at_pair l) in
-        omega arith
-    go l false e h = let none = f l h in omega arith
-
 abbrev pub IsUnmarked : Placed → Type 0
 IsUnmarked b = b.marked ≡ false
 
@@ -208,20 +154,6 @@ births_unmarked r m (and_also (Place x es p) ds) = (refl, births_unmarked r m ds
 pub levels_unmarked : (i : ℕ) (m : Naming) (ts : List SiteTerm) → Each IsUnmarked (level_births i m ts)
 levels_unmarked i m [] = tt
 levels_unmarked i m (t ∷ ts) = Each-append IsUnmarked (births_of (root_of i) m (definitions t.defs)) (level_births (i + 1) m ts) (births_unmarked (root_of i) m (definitions t.defs)) (levels_unmarked (i + 1) m ts)
-
--- the places of a level are born in their order
-pub fresh_places : (pl : Places) (l r : Loc) (m : Naming) (ds : Definitions) → NamesBlock l m ds → AreFresh pl (births_of r m ds) → FreshPlaces pl r m ds
-fresh_places pl l r m no_definition h f = tt
-fresh_places pl l r m (and_also (Rule ps p) ds) h f = fresh_places pl l r m ds h.1 f
-fresh_places pl l r m (and_also (Place (Binder b) es p) ds) h f = go (name_at m b) h.0 f (λ ql g. fresh_places ql l r m ds h.1 g)
-  where
-    go : (o : Option Name) → IsLocation (λ a. NamesBlock a m es) o → AreFresh pl (record { loc = loc_or r (or_binder b o); host = Some r; marked = false } ∷ births_of r m ds) → ((ql : Places) → AreFresh ql (births_of r m ds) → FreshPlaces ql r m ds)
-        → (a : Loc) × (or_binder b o ≡ Known (name.Place a)) × (pl a ≡ None) × FreshPlaces (born pl a (Some r)) r m ds
-    go None k g ih = absurd k
-    go (Some (name.Seen i)) k g ih = absurd k
-    go (Some (name.Place a)) k g ih = (a, refl, g.0, ih (born pl a (Some r)) g.1)
-    go (Some (name.Chan s j q)) k g ih = absurd k
-fresh_places pl l r m (and_also (Place (Known x) es p) ds) h f = absurd h.0
 
 -- ---- all places of all sites become locations
 

@@ -1,6 +1,6 @@
 -- The solution of locations and names alone is sound, and its locations and names are as the sites say.
-use Rattle.std.proofs.Common.{◌≡◌, ℕ, suc, ◌+◌, ◌<◌, ◌≤◌, List, [], ◌∷◌, Option, Some, None, true, false, refl, sym, ap, ◌∙◌, subst, arith, length, ◌||◌, ◌&&◌, inl, inr}
-use Rattle.std.specs.Prelude.{not, slice_index}
+use Rattle.std.proofs.Common.{◌≡◌, ℕ, suc, ◌+◌, ◌<◌, ◌≤◌, List, [], ◌∷◌, Option, Some, None, true, false, refl, sym, ap, ◌∙◌, subst, arith, length, inl, inr}
+use Rattle.std.specs.Prelude.{slice_index}
 use Rattle.chem_model.specs.declared.name.Loc.{Loc}
 use Rattle.chem_model.specs.declared.name.Name.{Name}
 use Rattle.chem_model.specs.declared.name.Name.TheVariants as name
@@ -13,19 +13,19 @@ use Rattle.chem_model.specs.Process.{Rule, Place, Definitions, no_definition, an
 use Rattle.chem_model.specs.Bag.{bag}
 use Rattle.chem_model.specs.Each.{Each}
 use Rattle.chem_model.specs.Fill.{Naming, name_at, or_binder}
-use Rattle.chem_model.specs.Solution.{Places, coded_name, is_there, is_marked, host_of, or_itself, root, live}
+use Rattle.chem_model.specs.Solution.{Places, coded_name, is_there, is_marked, host_of, root, live}
 use Rattle.chem_model.specs.NewNames.{Pair, coded_pair, pairs_of, NamesBlock, IsLocation}
 use Rattle.chem_model.specs.Numbered.{standing, place_pairs, channel_pairs, pairs}
 use Rattle.chem_model.specs.Pour.{births_of, loc_or}
 use Rattle.chem_model.specs.Opening.{root_of, roots, root_names, level_names, level_counts, level_births, site_names, named_sites}
 use Rattle.chem_model.specs.Sound.{IsSound, IsNameOf, IsRoot, IsHosted, names_in}
 use Rattle.chem_laws.proofs.Lists.{Each-weaker, Each-append}
-use Rattle.chem_laws.proofs.Bags.{one_self}
-use Rattle.chem_laws.proofs.Places.{standing_left, there_either}
+use Rattle.chem_laws.proofs.Places.{standing_left, there_either, place_pairs-append, place_pair_found, names_there, hosted_live}
 use Rattle.chem_laws.proofs.Parts.{IsGivenAt, PlacesStand}
+use Rattle.chem_laws.proofs.Births.{AreFresh, fresh_births}
 use Rattle.chem_laws.proofs.OpeningLists.{each_both}
 use Rattle.chem_laws.proofs.OpeningNames.{SitesAre, own_naming, site_pairs, pairs_once}
-use Rattle.chem_laws.proofs.OpeningPlaces.{at_root, at_pair, or_else, root_found, standing-append, place_pairs-append, counted, entries, RootsStand, AreFresh, fresh_births}
+use Rattle.chem_laws.proofs.OpeningPlaces.{at_root, at_pair, or_else, root_found, standing-append, entries, RootsStand}
 use Rattle.chem_laws.proofs.NamingRange.{pairs_of-append, channel_pairs-append}
 
 -- ---- the pairs of the locations and of the channels are those of the names
@@ -112,17 +112,6 @@ level_names_stand pl m i (t ∷ ts) h g f =
     (Each-weaker (λ (e : Named). IsGivenAt (root_of i) births e.name) (EntryStands pl) (λ e k. given_stands pl (root_of i) births (ap is_there g.0) (λ a there. f a (ap is_there (standing_left births later a there) ∙ there)) e.name k) own h.0.own.given)
     (level_names_stand pl m (i + 1) ts h.1 g.1 (λ a there. f a (there_either births later a there)))
 
-abbrev InNames : Naming → Named → Type 0
-InNames m e = 0 < bag coded_name (names_in m) e.name
-
-all_in_names : (m : Naming) → Each (InNames m) m
-all_in_names [] = tt
-all_in_names (e ∷ m) = ((let here = one_self coded_name e.name in omega arith), more m (all_in_names m))
-  where
-    more : (es : Naming) → Each (InNames m) es → Each (InNames (e ∷ m)) es
-    more [] h = tt
-    more (x ∷ xs) h = ((let first = h.0 in omega arith), more xs h.1)
-
 name_stands : (n : Numbered) (x : Name) → 0 < bag coded_name (names_in n.named) x → Stands (standing n.places) x → IsNameOf n x
 name_stands n (name.Seen i) c h = absurd h
 name_stands n (name.Place a) c h = h
@@ -134,12 +123,6 @@ name_stands n (name.Chan s k q) c h = (c, h)
 abbrev pub IsEntryIn : Places → Placed → Type 0
 IsEntryIn pl x = pl x.loc ≡ Some (record { host = x.host; marked = x.marked })
 
-live_place : (pl : Places) (a r : Loc) → pl r ≡ Some at_root → pl a ≡ Some (record { host = Some r; marked = false }) → (live pl a ≡ true) × (root pl a ≡ r)
-live_place pl a r f e =
-    let host : root pl a ≡ r = ap (λ o. or_itself (host_of o) a) e in
-    let mark : is_marked (pl (root pl a)) ≡ false = ap (λ q. is_marked (pl q)) host ∙ ap is_marked f in
-    (ap (λ o. is_there o && not (is_marked o || is_marked (pl (root pl a)))) e ∙ ap not mark, host)
-
 pub places_stand : (pl : Places) (l r : Loc) (m : Naming) (ds : Definitions) → pl r ≡ Some at_root → NamesBlock l m ds → Each (IsEntryIn pl) (births_of r m ds) → PlacesStand pl r m ds
 places_stand pl l r m no_definition f h g = tt
 places_stand pl l r m (and_also (Rule ps p) ds) f h g = places_stand pl l r m ds f h.1 g
@@ -148,7 +131,7 @@ places_stand pl l r m (and_also (Place (Binder b) es p) ds) f h g = (go (name_at
     go : (o : Option Name) → IsLocation (λ a. NamesBlock a m es) o → IsEntryIn pl (record { loc = loc_or r (or_binder b o); host = Some r; marked = false }) → IsLocation (λ a. (live pl a ≡ true) × (root pl a ≡ r)) o
     go None k e = absurd k
     go (Some (name.Seen i)) k e = absurd k
-    go (Some (name.Place a)) k e = live_place pl a r f e
+    go (Some (name.Place a)) k e = hosted_live pl r a e (ap is_marked f)
     go (Some (name.Chan s j q)) k e = absurd k
 places_stand pl l r m (and_also (Place (Known x) es p) ds) f h g = absurd h.0
 
@@ -200,10 +183,11 @@ module _ (seen : List ℕ) (ts : List SiteTerm) (are : SitesAre (site_names ts) 
       let pl = standing start.places in
       let stand = roots_stand pl (length ts) start_roots 0 ts (omega arith) in
       let each : Each (EntryStands pl) (site_names ts) = Each-append (EntryStands pl) (root_names 0 ts) (level_names 0 ts) (root_names_stand pl 0 ts stand) (level_names_stand pl (site_names ts) 0 ts are stand (λ a there. there_either (roots 0 ts) (level_births 0 (site_names ts) ts) a there)) in
-      Each-weaker (λ (e : Named). InNames (site_names ts) e × EntryStands pl e) (λ (e : Named). IsNameOf start e.name) (λ e h. name_stands start e.name h.0 h.1) (site_names ts) (each_both (InNames (site_names ts)) (EntryStands pl) (site_names ts) (all_in_names (site_names ts)) each)
+      Each-weaker (λ (e : Named). (0 < bag coded_name (names_in (site_names ts)) e.name) × EntryStands pl e) (λ (e : Named). IsNameOf start e.name) (λ e h. name_stands start e.name h.0 h.1) (site_names ts)
+      (each_both (λ (e : Named). 0 < bag coded_name (names_in (site_names ts)) e.name) (EntryStands pl) (site_names ts) (names_there (site_names ts)) each)
 
   -- the places of the levels are born anew, each once
   pub start_fresh : AreFresh (standing (roots 0 ts)) (level_births 0 (site_names ts) ts)
   start_fresh = fresh_births (standing (roots 0 ts)) (level_births 0 (site_names ts) ts)
-      (λ l there. (let above = counted (roots 0 ts) l there in omega (arith, start_once (at_pair l), place_pairs-append (roots 0 ts) (level_births 0 (site_names ts) ts) (at_pair l))))
+      (λ l there. (let above = place_pair_found (roots 0 ts) l there in omega (arith, start_once (at_pair l), place_pairs-append (roots 0 ts) (level_births 0 (site_names ts) ts) (at_pair l))))
       (λ q. omega (arith, start_once q, place_pairs-append (roots 0 ts) (level_births 0 (site_names ts) ts) q))

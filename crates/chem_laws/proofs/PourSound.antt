@@ -1,5 +1,5 @@
 -- Pouring a process and laying a level keep a numbered solution sound.
-use Rattle.std.proofs.Common.{◌≡◌, ℕ, ◌+◌, ◌<◌, ◌≤◌, List, [], ◌∷◌, ◌++◌, Option, Some, None, Bool, true, false, cond, refl, sym, ap, ◌∙◌, subst, arith, length, inl, inr, zero, suc}
+use Rattle.std.proofs.Common.{◌≡◌, ℕ, ◌+◌, ◌<◌, ◌≤◌, List, [], ◌∷◌, ◌++◌, Option, Some, None, true, cond, sym, ap, ◌∙◌, subst, arith, length, inl, inr, zero, suc}
 use Rattle.std.specs.Prelude.{slice_index, slice_set}
 use Rattle.std.proofs.Math.ListN.{length-set}
 use Rattle.std.proofs.lemmas.Grind.{common_steps}
@@ -16,55 +16,34 @@ use Rattle.chem_model.specs.declared.numbered.Made.{Made}
 use Rattle.chem_model.specs.Process.{Rule}
 use Rattle.chem_model.specs.Bag.{bag}
 use Rattle.chem_model.specs.Each.{Each}
-use Rattle.chem_model.specs.Fill.{Naming}
-use Rattle.chem_model.specs.Solution.{coded_name, is_there, host_of, root, same_loc}
+use Rattle.chem_model.specs.Solution.{coded_name, is_there, host_of, root}
 use Rattle.chem_model.specs.NewNames.{Pair}
 use Rattle.chem_model.specs.Numbered.{standing, pairs}
 use Rattle.chem_model.specs.Pour.{add_made, pour, lay}
 use Rattle.chem_model.specs.Opening.{root_of}
 use Rattle.chem_model.specs.Sound.{IsSound, IsNameOf, IsKnown, IsAtom, IsHomedAt, IsRule, IsRoot, IsHosted, names_in}
 use Rattle.chem_laws.proofs.Lists.{Each-weaker, Each-append, above}
-use Rattle.chem_laws.proofs.Bags.{one_self}
 use Rattle.chem_laws.proofs.Within.{same_loc_refl}
-use Rattle.chem_laws.proofs.Parts.{Closes, in_range, NamingIs, RuleFilled, IsBelow, PourSound, LaySound}
-use Rattle.chem_laws.proofs.Places.{standing_left, there_either, live_parts, root_is, names_bag, name_more, term_weaker, definition_scope_weaker, definitions_scope_weaker, known_weaker, settled_weaker}
-use Rattle.chem_laws.proofs.PourSoundMade.{IsMade, IsOut, HasHost, pairs_in-append, in_range-true, in_range-le}
+use Rattle.chem_laws.proofs.Parts.{in_range, NamingIs, RuleFilled, IsBelow, PourSound, LaySound}
+use Rattle.chem_laws.proofs.Places.{standing_left, there_either, live_parts, root_is, names_bag, name_more, term_weaker, definition_scope_weaker, definitions_scope_weaker, known_weaker, settled_weaker, names_there, closes_weaker}
+use Rattle.chem_laws.proofs.NamingRange.{in_range_once, in_range_is}
+use Rattle.chem_laws.proofs.PourSoundMade.{IsMade, IsOut, HasHost, pairs_in-append}
 use Rattle.chem_laws.proofs.PourSoundTerms.{Fits, pour_is, lay_is}
 
 -- ---- what is added stands in what results
-
-there_first : (x : Placed) (xs : List Placed) (l : Loc) → is_there (standing xs l) ≡ true → is_there (standing (x ∷ xs) l) ≡ true
-there_first x xs l h = go (same_loc x.loc l)
-  where
-    go : (t : Bool) → is_there (cond t (Some (record { host = x.host; marked = x.marked })) (standing xs l)) ≡ true
-    go true = refl
-    go false = h
 
 there_self : (x : Placed) (xs : List Placed) → is_there (standing (x ∷ xs) x.loc) ≡ true
 there_self x xs = ap (λ t. is_there (cond t (Some (record { host = x.host; marked = x.marked })) (standing xs x.loc))) (same_loc_refl x.loc)
 
 births_there : (xs : List Placed) → Each (λ (b : Placed). is_there (standing xs b.loc) ≡ true) xs
 births_there [] = tt
-births_there (x ∷ xs) = (there_self x xs, Each-weaker (λ (b : Placed). is_there (standing xs b.loc) ≡ true) (λ (b : Placed). is_there (standing (x ∷ xs) b.loc) ≡ true) (λ b h. there_first x xs b.loc h) xs (births_there xs))
-
-names_there : (m : Naming) → Each (λ (x : Named). 0 < bag coded_name (names_in m) x.name) m
-names_there [] = tt
-names_there (e ∷ m) = (
-  omega (arith, one_self coded_name e.name),
-  Each-weaker (λ (x : Named). 0 < bag coded_name (names_in m) x.name) (λ (x : Named). 0 < bag coded_name (names_in (e ∷ m)) x.name) (λ x h. omega arith) m (names_there m),
-)
+births_there (x ∷ xs) = (there_self x xs, Each-weaker (λ (b : Placed). is_there (standing xs b.loc) ≡ true) (λ (b : Placed). is_there (standing (x ∷ xs) b.loc) ≡ true) (λ b h. there_either (x ∷ []) xs b.loc h) xs (births_there xs))
 
 pub added_fits : (n : Numbered) (s : ℕ) (a : Made) → Fits (add_made n s a) a
 added_fits n s a = record {
   births = Each-weaker (λ (b : Placed). is_there (standing a.births b.loc) ≡ true) (λ (b : Placed). is_there (standing (n.places ++ a.births) b.loc) ≡ true) (λ b h. there_either n.places a.births b.loc h) a.births (births_there a.births);
   named = Each-weaker (λ (x : Named). 0 < bag coded_name (names_in a.named) x.name) (λ (x : Named). 0 < bag coded_name (names_in (n.named ++ a.named)) x.name) (λ x h. omega (arith, names_bag n.named a.named x.name)) a.named (names_there a.named);
 }
-
--- ---- a weaker fact on the names of an environment
-
-module _ (Q R : Name → Type 0) (f : (x : Name) → Q x → R x) where
-  pub closes_weaker : (scope : List ℕ) (m : Naming) → Closes Q scope m → Closes R scope m
-  closes_weaker scope m h = record { covers = h.covers; names = Each-weaker (λ (e : Named). Q e.name) (λ (e : Named). R e.name) (λ e g. f e.name g) m h.names }
 
 -- ---- numbers stay below their counts where a count rises
 
@@ -116,18 +95,18 @@ module _ (n : Numbered) (sound : IsSound n) (r : Loc) (at_root : IsRoot n r) (a 
     below_kept : (p : Pair) → 0 < pairs new p → IsBelow new.counts p.0 p.1
     below_kept p h = elim (above (pairs n p) (in_range r.site (slice_index n.counts r.site) a.next p) (subst (λ (k : ℕ). 0 < k) (pairs_new p) h)) [
       | inl g ↦ below_set n.counts r.site a.next p.0 p.1 at_root.1 made.up (sound.below p g)
-      | inr g ↦ (let drawn = in_range-true r.site (slice_index n.counts r.site) a.next p g in below_new n.counts r.site a.next p.0 p.1 at_root.1 drawn.0 drawn.2)
+      | inr g ↦ (let drawn = in_range_is r.site (slice_index n.counts r.site) a.next p g in below_new n.counts r.site a.next p.0 p.1 at_root.1 drawn.0 drawn.2)
     ]
 
     apart : (p : Pair) → 0 < pairs n p → 0 < in_range r.site (slice_index n.counts r.site) a.next p → ⊥
     apart p h g =
-        let drawn = in_range-true r.site (slice_index n.counts r.site) a.next p g in
+        let drawn = in_range_is r.site (slice_index n.counts r.site) a.next p g in
         let below = sound.below p h in
         let same = ap (λ i. slice_index n.counts i) drawn.0 in
         omega arith
 
     different_kept : (p : Pair) → pairs new p ≤ 1
-    different_kept p = subst (λ (k : ℕ). k ≤ 1) (sym (pairs_new p)) (go (pairs n p) (in_range r.site (slice_index n.counts r.site) a.next p) (sound.different p) (in_range-le r.site (slice_index n.counts r.site) a.next p) (apart p))
+    different_kept p = subst (λ (k : ℕ). k ≤ 1) (sym (pairs_new p)) (go (pairs n p) (in_range r.site (slice_index n.counts r.site) a.next p) (sound.different p) (in_range_once r.site (slice_index n.counts r.site) a.next p) (apart p))
       where
         go : (i j : ℕ) → i ≤ 1 → j ≤ 1 → (0 < i → 0 < j → ⊥) → i + j ≤ 1
         go zero j h g f = omega arith

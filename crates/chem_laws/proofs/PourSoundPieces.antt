@@ -13,56 +13,32 @@ use Rattle.chem_model.specs.declared.numbered.Numbered.{Numbered}
 use Rattle.chem_model.specs.declared.numbered.Made.{Made}
 use Rattle.chem_model.specs.Process.{Process, Msg, Rule, Place, Definitions, no_definition, and_also}
 use Rattle.chem_model.specs.Binders.{block, binder_of, channels_of, is_among, bound_in_definition, bound_in_definitions}
-use Rattle.chem_model.specs.Scope.{IsInScope, IsDefinition, AreDefinitions}
+use Rattle.chem_model.specs.Scope.{IsDefinition, AreDefinitions}
 use Rattle.chem_model.specs.Each.{Each}
-use Rattle.chem_model.specs.Fill.{Naming, name_at, or_binder, fill_ref, fill_refs, fill_pats, fill}
+use Rattle.chem_model.specs.Fill.{Naming, name_at, or_binder, fill_ref, fill_pats, fill}
 use Rattle.chem_model.specs.Solution.{is_there}
 use Rattle.chem_model.specs.NewNames.{IsChannelAt, OnBinder, NamesBlock}
 use Rattle.chem_model.specs.Numbered.{standing}
 use Rattle.chem_model.specs.Pour.{atom_made, out_made, message_made, known, is_count, lay_rules, rules_made}
 use Rattle.chem_model.specs.Sound.{IsNameOf, IsKnown, IsHomedAt, IsSettled, IsRule}
 use Rattle.chem_laws.proofs.Lists.{EachPair, pairs_each, or_left, or_right}
-use Rattle.chem_laws.proofs.Terms.{among-append}
+use Rattle.chem_laws.proofs.Terms.{among-append, known_names}
 use Rattle.chem_laws.proofs.Parts.{Closes, is_named, AreDifferent}
-use Rattle.chem_laws.proofs.PourSoundMade.{IsMade, nothing_is, then_is, range_one}
-
--- ---- an occurrence that is filled is a known name
-
-module _ (Q : Name → Type 0) where
-  pub found : (es : Naming) → Each (λ (e : Named). Q e.name) es → (b : ℕ) → is_some (name_at es b) ≡ true → IsKnown Q (or_binder b (name_at es b))
-  found [] h b e = cc
-  found (x ∷ es) h b e = go (x.binder == b) (found es h.1 b) e
-    where
-      go : (t : Bool) → (is_some (name_at es b) ≡ true → IsKnown Q (or_binder b (name_at es b))) → is_some (cond t (Some x.name) (name_at es b)) ≡ true → IsKnown Q (or_binder b (cond t (Some x.name) (name_at es b)))
-      go true ih e' = h.0
-      go false ih e' = ih e'
-
-  module _ (scope : List ℕ) (m : Naming) (closes : Closes Q scope m) where
-    pub ref_known : (r : Ref) → IsInScope Q scope r → IsKnown Q (fill_ref m r)
-    ref_known (Binder b) h = found m closes.names b (closes.covers b h)
-    ref_known (Known n) h = h
-
-    pub refs_known : (rs : List Ref) → Each (IsInScope Q scope) rs → Each (IsKnown Q) (fill_refs m rs)
-    refs_known [] h = tt
-    refs_known (r ∷ rs) h = (ref_known r h.0, refs_known rs h.1)
-
-  -- the names of a list of filled occurrences
-  pub known_are : (rs : List Ref) → Each (IsKnown Q) rs → Each Q (known rs)
-  known_are [] h = tt
-  known_are (Binder b ∷ rs) h = absurd h.0
-  known_are (Known n ∷ rs) h = (h.0, known_are rs h.1)
+use Rattle.chem_laws.proofs.Places.{found_known}
+use Rattle.chem_laws.proofs.NamingRange.{one_in_range}
+use Rattle.chem_laws.proofs.PourSoundMade.{IsMade, nothing_is, then_is}
 
 -- ---- messages and requests
 
 module _ (n : Numbered) (s : ℕ) (r : Loc) where
   pub atom_is : (l : Loc) (k : ℕ) (p : Process) → is_there (standing n.places l) ≡ true → IsSettled n.seen (IsNameOf n) l p → IsMade n s r k (atom_made s l k p)
-  atom_is l k p h g = record { up = omega arith; range = λ x. omega (arith, range_one s k x); hosts = tt; rules = tt; atoms = ((h, g), tt); outs = tt }
+  atom_is l k p h g = record { up = omega arith; range = λ x. omega (arith, one_in_range s k x); hosts = tt; rules = tt; atoms = ((h, g), tt); outs = tt }
 
   seen_is : (l : Loc) (k i : ℕ) (vs : List Ref) (t : Bool) → is_there (standing n.places l) ≡ true → i < length n.seen → Each (IsKnown (IsNameOf n)) vs → is_count (slice_get n.seen i) (length vs) ≡ t
       → IsMade n s r k (cond t (out_made k i (known vs)) (atom_made s l k (Msg (Known (name.Seen i)) vs)))
   seen_is l k i vs true there h g e =
       let none_made = nothing_is n s r k in
-      record { up = omega arith; range = none_made.range; hosts = tt; rules = tt; atoms = tt; outs = ((h, known_are (IsNameOf n) vs g), tt) }
+      record { up = omega arith; range = none_made.range; hosts = tt; rules = tt; atoms = tt; outs = ((h, known_names (IsNameOf n) vs g), tt) }
   seen_is l k i vs false there h g e = atom_is l k (Msg (Known (name.Seen i)) vs) there (h, g, tt, e)
 
   pub message_is : (l : Loc) (k : ℕ) (x : Ref) (vs : List Ref) → is_there (standing n.places l) ≡ true → IsKnown (IsNameOf n) x → Each (IsKnown (IsNameOf n)) vs → IsMade n s r k (message_made n.seen s l k x vs)
@@ -103,7 +79,7 @@ among_right cs ds bs h b e = h b (among-append cs ds b ∙ or_right (is_among cs
 
 module _ (Q : Name → Type 0) (l : Loc) (m : Naming) (names : Each (λ (e : Named). Q e.name) m) where
   channel_known : (x : Ref) → OnBinder m (IsChannelAt l) x → IsKnown Q (fill_ref m x) × IsKnown (IsHomedAt l) (fill_ref m x)
-  channel_known (Binder b) h = (found Q m names b (channel_some l (name_at m b) h), channel_homed l b (name_at m b) h)
+  channel_known (Binder b) h = (found_known Q m names b (channel_some l (name_at m b) h), channel_homed l b (name_at m b) h)
   channel_known (Known x) h = absurd h
 
   pub channels_known : (ps : List Pat) → Each (λ (q : Pat). OnBinder m (IsChannelAt l) q.on) ps → Each (λ (p : Pat). IsKnown Q p.on × IsKnown (IsHomedAt l) p.on) (fill_pats m ps)
@@ -156,6 +132,6 @@ module _ (n : Numbered) (s : ℕ) (r : Loc) (rule_filled : RuleFilledFor (IsName
     rules_are (and_also (Rule ps p) ds) l k h g f once =
         let rule = rule_is l ps p (record { site = s; k = k }) h.0 g.0 (among_left (channels_of ps) (block ds) bs f) (λ b. let o = once b in omega arith) in
         let first : Made = rules_made (record { next = k + 1; rules = record { id = record { site = s; k = k }; loc = l; pats = fill_pats m ps; body = fill m p } ∷ [] }) in
-        let is_first : IsMade n s r k first = record { up = omega arith; range = λ x. omega (arith, range_one s k x); hosts = tt; rules = (rule, tt); atoms = tt; outs = tt } in
+        let is_first : IsMade n s r k first = record { up = omega arith; range = λ x. omega (arith, one_in_range s k x); hosts = tt; rules = (rule, tt); atoms = tt; outs = tt } in
         then_is n s r k first (rules_made (lay_rules s m l (k + 1) ds)) is_first (rules_are ds l (k + 1) h.1 g.1 (among_right (channels_of ps) (block ds) bs f) (λ b. let o = once b in omega arith))
     rules_are (and_also (Place x es p) ds) l k h g f once = rules_are ds l k h.1 g.1 (among_right (binder_of x ++ block es) (block ds) bs f) (λ b. let o = once b in omega arith)

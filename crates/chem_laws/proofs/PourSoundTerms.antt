@@ -1,5 +1,5 @@
 -- What a poured process and a laid level make.
-use Rattle.std.proofs.Common.{◌≡◌, ℕ, ◌+◌, ◌<◌, ◌≤◌, List, [], ◌∷◌, ◌++◌, Option, Some, None, Bool, true, false, cond, refl, sym, ap, ◌∙◌, subst, arith, ◌||◌, inl, inr}
+use Rattle.std.proofs.Common.{◌≡◌, ℕ, ◌+◌, ◌<◌, ◌≤◌, List, [], ◌∷◌, ◌++◌, Option, Some, None, true, refl, sym, ap, ◌∙◌, arith, inl, inr}
 use Rattle.std.specs.Prelude.{is_some}
 use Rattle.chem_model.specs.declared.name.Loc.{Loc}
 use Rattle.chem_model.specs.declared.name.Name.{Name}
@@ -11,51 +11,22 @@ use Rattle.chem_model.specs.declared.numbered.Placed.{Placed}
 use Rattle.chem_model.specs.declared.numbered.Numbered.{Numbered}
 use Rattle.chem_model.specs.declared.numbered.Made.{Made}
 use Rattle.chem_model.specs.Process.{Process, Msg, Par, Def, Go, Fail, Halt, Processes, none, one_more, Rule, Place, Definitions, no_definition, and_also}
-use Rattle.chem_model.specs.Binders.{block, defined, binder_of, is_among, once, bound_in, bound_in_all, bound_in_definitions}
+use Rattle.chem_model.specs.Binders.{block, defined, binder_of, bound_in, bound_in_all, bound_in_definitions}
 use Rattle.chem_model.specs.Scope.{IsInScope, IsTerm, AreTerms, AreDefinitions, AreRulesAndPlaces}
 use Rattle.chem_model.specs.Bag.{bag}
 use Rattle.chem_model.specs.Each.{Each}
 use Rattle.chem_model.specs.Fill.{Naming, name_at, or_binder, fill_ref, fill_refs}
 use Rattle.chem_model.specs.Solution.{coded_name, is_there}
-use Rattle.chem_model.specs.NewNames.{HasDomain, IsLocation, OnBinder, NamesBlock}
+use Rattle.chem_model.specs.NewNames.{IsLocation, OnBinder, NamesBlock}
 use Rattle.chem_model.specs.Numbered.{standing}
 use Rattle.chem_model.specs.Pour.{Drawn, nothing_made, then_made, naming, loc_or, births_of, names_made, lay_rules, rules_made, pour, pour_all, lay_places, lay}
 use Rattle.chem_model.specs.Sound.{IsNameOf, IsKnown, names_in}
-use Rattle.chem_laws.proofs.Lists.{Each-append, Each-left, Each-right, all_each, or_left, or_right, either_true}
-use Rattle.chem_laws.proofs.Terms.{or_name, name_at-append, some_or, among-append}
-use Rattle.chem_laws.proofs.Parts.{Closes, is_named, Agree, IsGivenAt, IsNaming, NamingIs}
-use Rattle.chem_laws.proofs.Places.{placed_found}
+use Rattle.chem_laws.proofs.Lists.{Each-left, Each-right, all_each}
+use Rattle.chem_laws.proofs.Terms.{named_more, def_names_none, none_agrees}
+use Rattle.chem_laws.proofs.Parts.{Closes, is_named, IsGivenAt, IsNaming, NamingIs}
+use Rattle.chem_laws.proofs.Places.{placed_found, closes_more, found_known, ref_known, refs_known}
 use Rattle.chem_laws.proofs.PourSoundMade.{IsMade, AreNamesOf, HasHost, nothing_is, then_is}
-use Rattle.chem_laws.proofs.PourSoundPieces.{RuleFilledFor, NamedApart, AreAmong, among_left, among_right, found, ref_known, refs_known, atom_is, message_is, rules_are}
-
--- ---- an environment and the names of a block
-
-pub named_either : (bs : List ℕ) (m n : Naming) (b : ℕ) → HasDomain bs n → is_some (name_at (m ++ n) b) ≡ is_some (name_at m b) || is_among bs b
-named_either bs m n b h = ap is_some (name_at-append m n b) ∙ some_or (name_at m b) (name_at n b) ∙ ap (λ t. is_some (name_at m b) || t) (h b)
-
-pub closes_more : (Q : Name → Type 0) (scope bs : List ℕ) (m n : Naming) → Closes Q scope m → HasDomain bs n → Each (λ (e : Named). Q e.name) n → Closes Q (bs ++ scope) (m ++ n)
-closes_more Q scope bs m n h g f = record {
-  covers = λ b e. named_either bs m n b g ∙ elim (either_true (is_among bs b) (is_among scope b) (sym (among-append bs scope b) ∙ e)) [
-    | inl u ↦ or_right (is_some (name_at m b)) (is_among bs b) u
-    | inr u ↦ or_left (is_some (name_at m b)) (is_among bs b) (h.covers b u)
-  ];
-  names = Each-append (λ (e : Named). Q e.name) m n h.names f;
-}
-
-cond_either : (t u : Bool) → cond (t || u) 1 0 ≤ cond t 1 0 + cond u 1 0
-cond_either true u = grind arith
-cond_either false u = omega arith
-
-pub named_more : (bs : List ℕ) (m n : Naming) (b : ℕ) → HasDomain bs n → is_named (m ++ n) b ≤ is_named m b + once bs b
-named_more bs m n b h = subst (λ (t : Bool). cond t 1 0 ≤ is_named m b + once bs b) (sym (named_either bs m n b h)) (cond_either (is_some (name_at m b)) (is_among bs b))
-
-pub agree_new : (bs : List ℕ) (m n : Naming) → ((b : ℕ) → is_named m b + once bs b ≤ 1) → Agree bs (m ++ n) n
-agree_new bs m n h b e = name_at-append m n b ∙ go (name_at m b) (is_among bs b) e (h b)
-  where
-    go : (o : Option Name) (t : Bool) → t ≡ true → cond (is_some o) 1 0 + cond t 1 0 ≤ 1 → or_name o (name_at n b) ≡ name_at n b
-    go None t e' h' = refl
-    go (Some x) true e' h' = absurd (omega arith)
-    go (Some x) false e' h' = cc
+use Rattle.chem_laws.proofs.PourSoundPieces.{RuleFilledFor, NamedApart, AreAmong, among_left, among_right, atom_is, message_is, rules_are}
 
 births_hosted : (r : Loc) (m : Naming) (ds : Definitions) → Each (HasHost r) (births_of r m ds)
 births_hosted r m no_definition = tt
@@ -76,7 +47,7 @@ module _ (n : Numbered) (K : Loc → Type 0) (l : Loc) where
   location_is b (Some (name.Chan s k q)) h g = absurd h
 
   place_there : (m : Naming) → AreNamesOf n m → (x : Ref) → OnBinder m (IsLocation K) x → K (loc_or l (fill_ref m x)) × (is_there (standing n.places (loc_or l (fill_ref m x))) ≡ true)
-  place_there m f (Binder b) h = location_is b (name_at m b) h (found (IsNameOf n) m f b (location_some K (name_at m b) h))
+  place_there m f (Binder b) h = location_is b (name_at m b) h (found_known (IsNameOf n) m f b (location_some K (name_at m b) h))
   place_there m f (Known x) h = absurd h
 
 -- ---- what is made stands in the solution that results
@@ -130,7 +101,7 @@ module _ (naming_is : NamingIs) (n : Numbered) (s : ℕ) (r : Loc) (rule_filled 
         let q = lay_places n.seen s r e l a.next ds in
         let b = then_made a q in
         let z = pour n.seen s r e l b.next p in
-        let agree = agree_new (block ds) m d.names (λ i. let i_once = o i in omega arith) in
+        let agree = none_agrees (block ds) m d.names (def_names_none m ds p o) in
         let is = naming_is s l r e ds k h.0 h.1 agree in
         let births = births_of r e ds in
         let first = fits_left n (names_made d births) (then_made b z) f in

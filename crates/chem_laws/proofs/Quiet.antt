@@ -28,6 +28,7 @@ use Rattle.chem_model.specs.Sound.{IsSound, IsNameOf, IsKnown, IsSettled, IsAtom
 use Rattle.chem_model.specs.Laws.{ActsAs, StuckIsQuiet}
 use Rattle.chem_laws.proofs.Lists.{Each-weaker, true_both, above}
 use Rattle.chem_laws.proofs.Bags.{one_self, one_is}
+use Rattle.chem_laws.proofs.Terms.{length_all_known}
 use Rattle.chem_laws.proofs.Within.{same_loc_refl}
 use Rattle.chem_laws.proofs.Parts.{PourSound, PourReached}
 use Rattle.chem_laws.proofs.Step.{event_is_a_reduction}
@@ -82,10 +83,6 @@ rule_is_there (b ∷ rules) x d h =
     later s = record { rule = s.rule; found = ap (λ t. cond t (Some b) (rule_at rules s.rule.id)) (other s (same_rule b.id s.rule.id) refl) ∙ s.found; is = s.is }
 
 -- ---- messages that meet the patterns can be taken
-
-length_all_known : (ns : List Name) → length (all_known ns) ≡ length ns
-length_all_known [] = refl
-length_all_known (n ∷ ns) = omega (arith, length_all_known ns)
 
 same_channel : (Q : Name → Type 0) (x : Ref) → IsKnown Q x → same_ref x x ≡ true
 same_channel Q (Binder b) h = absurd h

@@ -1,6 +1,6 @@
 -- Every number that a body or a level brings is below its count afterwards, and its births are new.
-use Rattle.std.proofs.Common.{◌≡◌, ℕ, ◌+◌, ◌<◌, ◌≤◌, List, [], ◌∷◌, ◌++◌, Option, Some, None, Bool, true, false, cond, refl, sym, ap, ◌∙◌, subst, arith, length, ◌||◌}
-use Rattle.std.specs.Prelude.{slice_get, is_some}
+use Rattle.std.proofs.Common.{ℕ, ◌+◌, ◌<◌, ◌≤◌, List, [], ◌∷◌, ◌++◌, Bool, true, false, cond, refl, subst, arith, length}
+use Rattle.std.specs.Prelude.{slice_get}
 use Rattle.chem_model.specs.declared.name.Loc.{Loc}
 use Rattle.chem_model.specs.declared.name.Name.{Name}
 use Rattle.chem_model.specs.declared.name.Name.TheVariants as name
@@ -10,20 +10,22 @@ use Rattle.chem_model.specs.declared.numbered.NumberedRule.{NumberedRule}
 use Rattle.chem_model.specs.declared.numbered.NumberedAtom.{NumberedAtom}
 use Rattle.chem_model.specs.declared.numbered.Made.{Made}
 use Rattle.chem_model.specs.Process.{Process, Msg, Par, Def, Go, Fail, Halt, Processes, none, one_more, Rule, Place, Definitions, no_definition, and_also}
-use Rattle.chem_model.specs.Binders.{block, is_among, once, bound_in, bound_in_all, bound_in_definitions}
+use Rattle.chem_model.specs.Binders.{block, bound_in, bound_in_all, bound_in_definitions}
 use Rattle.chem_model.specs.Scope.{IsTerm, AreTerms, AreDefinitions}
 use Rattle.chem_model.specs.Bag.{bag}
 use Rattle.chem_model.specs.Each.{Each}
-use Rattle.chem_model.specs.Fill.{Naming, name_at, fill_ref, fill_refs, fill_pats, fill, fill_all, fill_definitions}
+use Rattle.chem_model.specs.Fill.{Naming, fill_ref, fill_refs, fill_pats, fill, fill_all, fill_definitions}
 use Rattle.chem_model.specs.OnNames.{OnRef, OnProcess, OnProcesses, OnDefinition, OnDefinitions}
 use Rattle.chem_model.specs.NewNames.{Pair, coded_pair, HasDomain}
 use Rattle.chem_model.specs.Numbered.{place_pairs}
 use Rattle.chem_model.specs.Pour.{Drawn, naming, births_of, loc_or, nothing_made, then_made, atom_made, out_made, names_made, rules_made, lay_rules, known, is_count, message_made, pour, pour_all, lay_places, lay}
 use Rattle.chem_laws.proofs.Lists.{Each-weaker, Each-append}
 use Rattle.chem_laws.proofs.Bags.{one_self}
-use Rattle.chem_laws.proofs.Terms.{OnEntries, process_weaker, processes_weaker, definition_weaker, definitions_weaker, process_filled, definitions_filled, fill-twice, fill_definitions-twice, or_name, name_at-append, some_or}
-use Rattle.chem_laws.proofs.Parts.{is_named, Agree, NamesNone, IsNaming, NamingIs}
-use Rattle.chem_laws.proofs.ReachedNumbers.{Under, LocUnder, OutUnder, loc_more, under_more, outs_weaker, InRange, in_range_is, IsBirth, birth_wider, names_under}
+use Rattle.chem_laws.proofs.Terms.{OnEntries, process_weaker, processes_weaker, definition_weaker, definitions_weaker, process_filled, definitions_filled, fill-twice, fill_definitions-twice, named_more, def_names_none, none_agrees}
+use Rattle.chem_laws.proofs.Parts.{is_named, IsNaming, NamingIs}
+use Rattle.chem_laws.proofs.LevelLeft.{loc_on}
+use Rattle.chem_laws.proofs.NamingRange.{InRange, in_range_is}
+use Rattle.chem_laws.proofs.ReachedNumbers.{Under, LocUnder, OutUnder, loc_more, under_more, outs_weaker, IsBirth, birth_wider, names_under, IsUnder}
 
 abbrev pub AtomUnder : ℕ → ℕ → NumberedAtom → Type 0
 AtomUnder s k a = LocUnder s k a.loc × OnProcess (Under s k) a.term
@@ -41,43 +43,17 @@ pub record IsMade (s : ℕ) (r : Loc) (k : ℕ) (a : Made) : Type 0 where
 
 -- ---- each binder is bound once
 
-cond_both : (t u : Bool) → cond (t || u) 1 0 ≤ cond t 1 0 + cond u 1 0
-cond_both true u = omega arith
-cond_both false u = omega arith
-
-cond_none : (t u : Bool) (n : ℕ) → cond t 1 0 + (cond u 1 0 + n) ≤ 1 → u ≡ true → t ≡ false
-cond_none true true n h e = absurd (omega arith)
-cond_none true false n h e = cc
-cond_none false u n h e = refl
-
 abbrev pub IsOnce : Naming → Process → Type 0
 IsOnce m p = (b : ℕ) → is_named m b + bound_in p b ≤ 1
 
 abbrev pub AreOnce : Naming → Definitions → Type 0
 AreOnce m ds = (b : ℕ) → is_named m b + bound_in_definitions ds b ≤ 1
 
--- the map names none of a block's binders
-pub once_none : (m : Naming) (ds : Definitions) (p : Process) → IsOnce m (Def ds p) → NamesNone (block ds) m
-once_none m ds p h b e = cond_none (is_some (name_at m b)) (is_among (block ds) b) (bound_in_definitions ds b + bound_in p b) (let g = h b in omega arith) e
-
--- so of the two maps together the second counts
-pub none_agrees : (bs : List ℕ) (m n : Naming) → NamesNone bs m → Agree bs (m ++ n) n
-none_agrees bs m n h b e = name_at-append m n b ∙ go (name_at m b) (h b e)
-  where
-    go : (o : Option Name) → is_some o ≡ false → or_name o (name_at n b) ≡ name_at n b
-    go None q = refl
-    go (Some x) q = cc
-
-named_both : (bs : List ℕ) (m n : Naming) → HasDomain bs n → (b : ℕ) → is_named (m ++ n) b ≤ is_named m b + once bs b
-named_both bs m n dom b =
-    let e : is_some (name_at (m ++ n) b) ≡ is_some (name_at m b) || is_among bs b = ap is_some (name_at-append m n b) ∙ some_or (name_at m b) (name_at n b) ∙ ap (λ t. is_some (name_at m b) || t) (dom b) in
-    subst (λ (t : Bool). cond t 1 0 ≤ is_named m b + once bs b) (sym e) (cond_both (is_some (name_at m b)) (is_among bs b))
-
 pub once_body : (ds : Definitions) (p : Process) (m n : Naming) → HasDomain (block ds) n → IsOnce m (Def ds p) → IsOnce (m ++ n) p
-once_body ds p m n dom h b = let g = h b in let le = named_both (block ds) m n dom b in omega arith
+once_body ds p m n dom h b = let g = h b in let le = named_more (block ds) m n b dom in omega arith
 
 pub once_level : (ds : Definitions) (p : Process) (m n : Naming) → HasDomain (block ds) n → IsOnce m (Def ds p) → AreOnce (m ++ n) ds
-once_level ds p m n dom h b = let g = h b in let le = named_both (block ds) m n dom b in omega arith
+once_level ds p m n dom h b = let g = h b in let le = named_more (block ds) m n b dom in omega arith
 
 -- ---- what is made
 
@@ -134,12 +110,6 @@ module _ (s : ℕ) (r : Loc) where
       (rules_is ds m l (k + 1) l_more (definitions_weaker (Under s k) (Under s (k + 1)) more (fill_definitions m ds) g.1))
   rules_is (and_also (Place x es p) ds) m l k h g = rules_is ds m l k h g.1
 
-  pub loc_under : (k : ℕ) (l : Loc) (x : Ref) → LocUnder s k l → OnRef (Under s k) x → LocUnder s k (loc_or l x)
-  loc_under k l (Binder b) h g = h
-  loc_under k l (Known (name.Seen i)) h g = h
-  loc_under k l (Known (name.Place a)) h g = g
-  loc_under k l (Known (name.Chan t j q)) h g = h
-
   -- ---- the naming of a `def`
 
   births_range : (k n : ℕ) (ds : Definitions) (e : Naming) → ((p : Pair) → 0 < bag coded_pair (place_pairs (births_of r e ds)) p → InRange s k n p) → Each (IsBirth s r k n) (births_of r e ds)
@@ -174,7 +144,7 @@ module _ (s : ℕ) (r : Loc) where
       pour_is (Def ds p) scope m l k t o h g =
           let n = naming s l ds k in
           let e = m ++ n.names in
-          let is = naming_is s l r e ds k t.0 t.1 (none_agrees (block ds) m n.names (once_none m ds p o)) in
+          let is = naming_is s l r e ds k t.0 t.1 (none_agrees (block ds) m n.names (def_names_none m ds p o)) in
           let given = given_under l e ds k n is h in
           let level = definitions_again k n.next is.up m n.names ds given g.0 in
           let body = process_again k n.next is.up m n.names p given g.1 in
@@ -203,7 +173,7 @@ module _ (s : ℕ) (r : Loc) where
       lay_places_is (and_also (Rule ps p) ds) scope m l k t o h g = lay_places_is ds scope m l k t.1 (λ b. let q = o b in omega arith) h g.1
       lay_places_is (and_also (Place x es p) ds) scope m l k t o h g =
           let q = loc_or l (fill_ref m x) in
-          let q_k = loc_under k l (fill_ref m x) h g.0.0 in
+          let q_k = loc_on (IsUnder s k) l (fill_ref m x) h g.0.0 in
           let a = rules_made (lay_rules s m q k es) in
           let a_is = rules_is es m q k q_k g.0.1 in
           let c = pour seen s r m q a.next p in

@@ -1,6 +1,5 @@
 -- The names that a `def` gives are new, its places become live locations, and all its binders have names.
-use Rattle.std.proofs.Common.{◌≡◌, ◌⊎◌, ℕ, ◌+◌, ◌<◌, ◌≤◌, List, [], ◌∷◌, ◌++◌, Option, Some, None, Bool, true, false, cond, refl, sym, ap, ◌∙◌, subst, arith, ◌||◌, ◌&&◌, inl, inr}
-use Rattle.std.specs.Prelude.{is_some, not}
+use Rattle.std.proofs.Common.{◌≡◌, ◌⊎◌, ℕ, ◌<◌, List, [], ◌∷◌, ◌++◌, Option, Some, None, Bool, true, false, cond, refl, sym, ap, ◌∙◌, subst, arith, inl, inr}
 use Rattle.chem_model.specs.declared.name.Loc.{Loc}
 use Rattle.chem_model.specs.declared.name.Name.{Name}
 use Rattle.chem_model.specs.declared.name.Name.TheVariants as name
@@ -9,22 +8,23 @@ use Rattle.chem_model.specs.declared.name.Ref.TheVariants.{Binder, Known}
 use Rattle.chem_model.specs.declared.numbered.Named.{Named}
 use Rattle.chem_model.specs.declared.numbered.Placed.{Placed}
 use Rattle.chem_model.specs.Process.{Rule, Place, Definitions, no_definition, and_also}
-use Rattle.chem_model.specs.Binders.{block, is_among}
+use Rattle.chem_model.specs.Binders.{block}
 use Rattle.chem_model.specs.Scope.{IsBlock}
-use Rattle.chem_model.specs.Bag.{one, bag}
+use Rattle.chem_model.specs.Bag.{bag}
 use Rattle.chem_model.specs.Each.{Each}
 use Rattle.chem_model.specs.Fill.{Naming, name_at, or_binder, fill_ref, fill_definitions}
-use Rattle.chem_model.specs.Solution.{Solution, Standing, Places, is_there, is_marked, host_of, or_itself, root, live, same_loc, born}
+use Rattle.chem_model.specs.Solution.{Solution, Places, is_there, is_marked, root, live, same_loc, born}
 use Rattle.chem_model.specs.OnNames.{OnSolution}
 use Rattle.chem_model.specs.NewNames.{Pair, coded_pair, pairs_of, HasDomain, NamesBlock, OnBinder, IsLocation, NewNames}
 use Rattle.chem_model.specs.Numbered.{standing, place_pairs}
 use Rattle.chem_model.specs.Pour.{Drawn, births_of, loc_or}
-use Rattle.chem_laws.proofs.Lists.{either_true, or_left, or_right, Each-weaker, Each-append}
-use Rattle.chem_laws.proofs.Bags.{one_self}
-use Rattle.chem_laws.proofs.Terms.{name_at-append, some_or, among-append}
-use Rattle.chem_laws.proofs.Within.{same_loc_is, same_loc_refl}
+use Rattle.chem_laws.proofs.Lists.{Each-weaker, zero_or_above}
+use Rattle.chem_laws.proofs.Within.{same_loc_refl}
+use Rattle.chem_laws.proofs.Places.{closes_weaker, closes_more, hosted_live}
 use Rattle.chem_laws.proofs.Parts.{Closes, NamesNone, IsNaming, IsGivenAt, BlockFilled, PlacesStand, FreshPlaces, born_all}
-use Rattle.chem_laws.proofs.ReachedNumbers.{IsUnder, InRange, in_range_is, in_range_most, drawn_nowhere, IsBirth, born_is}
+use Rattle.chem_laws.proofs.Births.{fresh_births, fresh_places}
+use Rattle.chem_laws.proofs.NamingRange.{in_range_once, InRange, in_range_is}
+use Rattle.chem_laws.proofs.ReachedNumbers.{IsUnder, drawn_nowhere, IsBirth, born_is}
 
 -- ---- names that can stand with this map of locations
 
@@ -46,9 +46,6 @@ pub fits_more : (bs : List Placed) (pl : Places) (n : Name) → Fits pl n → Fi
 fits_more bs pl (name.Seen i) h = tt
 fits_more bs pl (name.Place a) h = born_still bs pl a h
 fits_more bs pl (name.Chan s k q) h = born_still bs pl q h
-
-pub closes_weaker : (Q R : Name → Type 0) → ((n : Name) → Q n → R n) → (scope : List ℕ) (m : Naming) → Closes Q scope m → Closes R scope m
-closes_weaker Q R f scope m h = record { covers = h.covers; names = Each-weaker (λ (e : Named). Q e.name) (λ (e : Named). R e.name) (λ e. f e.name) m h.names }
 
 -- ---- the location of a place
 
@@ -73,39 +70,7 @@ other_place K L m (Binder b) f h = go (name_at m b) f h
     go (Some (name.Chan s k q)) f' h' = h'
 other_place K L m (Known n) f h = h
 
--- ---- its places are new, one after another
-
-pub fresh_places : (r : Loc) (e : Naming) (ds : Definitions) (pl : Places) (l : Loc) → NamesBlock l e ds → ((a : Loc) → 0 < bag coded_pair (place_pairs (births_of r e ds)) (a.site, a.k) → pl a ≡ None) → ((p : Pair) → bag coded_pair (place_pairs (births_of r e ds)) p ≤ 1)
-    → FreshPlaces pl r e ds
-fresh_places r e no_definition pl l h new once = tt
-fresh_places r e (and_also (Rule ps p) ds) pl l h new once = fresh_places r e ds pl l h.1 new once
-fresh_places r e (and_also (Place x es p) ds) pl l h new once =
-    let f = place_ref (λ a. NamesBlock a e es) e x h.0 in
-    let a = f.0 in
-    let others = bag coded_pair (place_pairs (births_of r e ds)) in
-    let at_a : loc_or r (fill_ref e x) ≡ a = ap (loc_or r) f.1 in
-    let new_a : (z : Loc) → 0 < one coded_pair (a.site, a.k) (z.site, z.k) + others (z.site, z.k) → pl z ≡ None
-    = subst (λ (y : Loc). (z : Loc) → 0 < one coded_pair (y.site, y.k) (z.site, z.k) + others (z.site, z.k) → pl z ≡ None) at_a new in
-    let once_a : (p : Pair) → one coded_pair (a.site, a.k) p + others p ≤ 1
-    = subst (λ (y : Loc). (p : Pair) → one coded_pair (y.site, y.k) p + others p ≤ 1) at_a once in
-    (a, f.1, new_a a (omega (arith, one_self coded_pair (a.site, a.k))), fresh_places r e ds (born pl a (Some r)) l h.1 (λ z c. later a others new_a once_a z c (same_loc a z) refl) (λ p. let u = once_a p in omega arith))
-  where
-    later : (a : Loc) (others : Pair → ℕ) → ((z : Loc) → 0 < one coded_pair (a.site, a.k) (z.site, z.k) + others (z.site, z.k) → pl z ≡ None) → ((p : Pair) → one coded_pair (a.site, a.k) p + others p ≤ 1)
-        → (z : Loc) → 0 < others (z.site, z.k) → (t : Bool) → same_loc a z ≡ t → cond t (Some (record { host = Some r; marked = false })) (pl z) ≡ None
-    later a others new_a once_a z c true q =
-        let at_z : 0 < others (a.site, a.k) = subst (λ (y : Loc). 0 < others (y.site, y.k)) (sym (same_loc_is a z q)) c in
-        let u = once_a (a.site, a.k) in
-        absurd (omega (arith, one_self coded_pair (a.site, a.k)))
-    later a others new_a once_a z c false q = new_a z (omega arith)
-
 -- ---- its places stand
-
--- a location that is hosted by r and unmarked is live where r isn't marked
-pub hosted_live : (pl : Places) (r a : Loc) → pl a ≡ Some (record { host = Some r; marked = false }) → is_marked (pl r) ≡ false → (live pl a ≡ true) × (root pl a ≡ r)
-hosted_live pl r a e unmarked = (
-  ap (λ o. is_there o && not (is_marked o || is_marked (pl (or_itself (host_of o) a)))) e ∙ ap not unmarked,
-  ap (λ o. or_itself (host_of o) a) e,
-)
 
 pub places_stand : (r : Loc) (e : Naming) (ds : Definitions) (pl : Places) (l : Loc) → NamesBlock l e ds → ((a : Loc) → is_there (standing (births_of r e ds) a) ≡ true → pl a ≡ Some (record { host = Some r; marked = false })) → is_marked (pl r) ≡ false
     → PlacesStand pl r e ds
@@ -158,35 +123,26 @@ module _ (s : ℕ) (l r : Loc) (m : Naming) (ds : Definitions) (k : ℕ) (n : Dr
       record {
         domain = subst (λ (bs : List ℕ). HasDomain bs n.names) (sym left.block) is.domain;
         names = left.names l n.names is.sorts;
-        different = λ p. omega (arith, is.range p, in_range_most s k n.next p);
+        different = λ p. omega (arith, is.range p, in_range_once s k n.next p);
         nowhere = drawn_nowhere s k n.next t h (pairs_of n.names) (λ p c. in_range_is s k n.next p (omega (arith, is.range p)));
       }
 
   birth_range : (p : Pair) → 0 < bag coded_pair (place_pairs births) p → InRange s k n.next p
   birth_range p c = in_range_is s k n.next p (omega (arith, is.split p, is.range p))
 
-  absent : (o : Option Standing) → (is_there o ≡ true → ⊥) → o ≡ None
-  absent None f = refl
-  absent (Some x) f = absurd (f refl)
-
   -- where all locations of the site are below k, its places are new
   pub block_fresh : (pl : Places) → ((a : Loc) → is_there (pl a) ≡ true → IsUnder s k a.site a.k) → FreshPlaces pl r (m ++ n.names) ds
-  block_fresh pl under = fresh_places r (m ++ n.names) ds pl l is.whole
-      (λ a c. absent (pl a) (λ there. let g = birth_range (a.site, a.k) c in let lt = under a there g.0 in let le = g.1 in omega arith))
-      (λ p. omega (arith, is.split p, is.range p, in_range_most s k n.next p))
+  block_fresh pl under = fresh_places pl l r (m ++ n.names) ds is.whole (fresh_births pl births unborn (λ p. omega (arith, is.split p, is.range p, in_range_once s k n.next p)))
+    where
+      unborn : (a : Loc) → is_there (pl a) ≡ true → bag coded_pair (place_pairs births) (a.site, a.k) ≡ 0
+      unborn a there = elim (zero_or_above (bag coded_pair (place_pairs births) (a.site, a.k))) [ inl e ↦ e | inr c ↦ (let g = birth_range (a.site, a.k) c in let lt = under a there g.0 in let le = g.1 in absurd (omega arith)) ]
 
   pub block_stands : (pl : Places) → Each (IsBirth s r k n.next) births → is_marked (born_all pl births r) ≡ false → PlacesStand (born_all pl births) r (m ++ n.names) ds
   block_stands pl h unmarked = places_stand r (m ++ n.names) ds (born_all pl births) l is.whole (λ a q. born_is s r k n.next births pl a h q) unmarked
 
   -- each binder in scope has a name that fits
   pub block_closes : (pl : Places) (scope : List ℕ) → Each (IsBirth s r k n.next) births → is_there (pl l) ≡ true → Closes (Fits pl) scope m → Closes (Fits (born_all pl births)) (block ds ++ scope) (m ++ n.names)
-  block_closes pl scope h there c = record {
-    covers = λ b q. ap is_some (name_at-append m n.names b) ∙ some_or (name_at m b) (name_at n.names b) ∙ covered b (either_true (is_among (block ds) b) (is_among scope b) (sym (among-append (block ds) scope b) ∙ q));
-    names = Each-append (λ (e : Named). Fits (born_all pl births) e.name) m n.names
-        (Each-weaker (λ (e : Named). Fits pl e.name) (λ (e : Named). Fits (born_all pl births) e.name) (λ e. fits_more births pl e.name) m c.names)
-        (Each-weaker (λ (e : Named). IsGivenAt l births e.name) (λ (e : Named). Fits (born_all pl births) e.name) (λ e g. given_fits s r k n.next births pl l e.name h there g) n.names is.given);
-  }
-    where
-      covered : (b : ℕ) → (is_among (block ds) b ≡ true) ⊎ (is_among scope b ≡ true) → is_some (name_at m b) || is_some (name_at n.names b) ≡ true
-      covered b (inl u) = or_right (is_some (name_at m b)) (is_some (name_at n.names b)) (is.domain b ∙ u)
-      covered b (inr u) = or_left (is_some (name_at m b)) (is_some (name_at n.names b)) (c.covers b u)
+  block_closes pl scope h there c =
+      let fits = closes_weaker (Fits pl) (Fits (born_all pl births)) (fits_more births pl) scope m c in
+      let given = Each-weaker (λ (e : Named). IsGivenAt l births e.name) (λ (e : Named). Fits (born_all pl births) e.name) (λ e g. given_fits s r k n.next births pl l e.name h there g) n.names is.given in
+      closes_more (Fits (born_all pl births)) scope (block ds) m n.names fits is.domain given

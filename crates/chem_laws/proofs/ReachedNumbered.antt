@@ -18,15 +18,16 @@ use Rattle.chem_model.specs.Pour.{pour, lay, add_made}
 use Rattle.chem_model.specs.Sound.{IsSound, IsNameOf}
 use Rattle.chem_laws.proofs.Lists.{Each-weaker, above}
 use Rattle.chem_laws.proofs.Bags.{one_is}
-use Rattle.chem_laws.proofs.Terms.{OnEntries, process_weaker, definitions_weaker, process_filled, definitions_filled}
-use Rattle.chem_laws.proofs.Places.{live_parts, root_is, term_weaker, definitions_scope_weaker}
+use Rattle.chem_laws.proofs.Terms.{OnEntries, process_filled, definitions_filled, term_on}
+use Rattle.chem_laws.proofs.Places.{live_parts, root_is, term_weaker, definitions_scope_weaker, place_below, name_below, closes_weaker}
 use Rattle.chem_laws.proofs.Parts.{Closes, NamingIs, BlockFilled, IsBelow, beside, Others, PourReached, LayReached, rules_left, bodies_left}
+use Rattle.chem_laws.proofs.LevelLeft.{rules_on, bodies_on}
 use Rattle.chem_laws.proofs.Reached.{chain_trans, state, reached_same, reached_again}
 use Rattle.chem_laws.proofs.ReachedNumbers.{IsUnder, Under, LocUnder, ProcessUnder, DefinitionUnder, pairs_weaker, solution_weaker, standing_born}
 use Rattle.chem_laws.proofs.ReachedMade.{IsMade, pour_is, lay_is}
-use Rattle.chem_laws.proofs.ReachedNames.{Fits, closes_weaker}
-use Rattle.chem_laws.proofs.ReachedPour.{defs_both, procs_both, in_rules_left, in_bodies_left, Leads, Stands, pour_leads, lay_leads}
-use Rattle.chem_laws.proofs.ReachedBelow.{term_on, definitions_on, place_below, name_below, sound_below}
+use Rattle.chem_laws.proofs.ReachedNames.{Fits}
+use Rattle.chem_laws.proofs.ReachedPour.{defs_both, procs_both, Leads, Stands, pour_leads, lay_leads}
+use Rattle.chem_laws.proofs.ReachedBelow.{sound_below, level_on}
 
 module _ (naming_is : NamingIs) (block_filled : BlockFilled) where
   module _ (n : Numbered) (sound : IsSound n) (m : Naming) (l : Loc) (is_live : live (standing n.places) l ≡ true) where
@@ -69,7 +70,7 @@ module _ (naming_is : NamingIs) (block_filled : BlockFilled) where
     start_under : (e d : Defs) (p q : Procs) → Others n d q → ((x : Loc × Definition) → 0 < e x → DefinitionUnder site count x) → ((x : Loc × Process) → 0 < p x → ProcessUnder site count x)
         → OnSolution (IsUnder site count) (state map (e ⊕ (d ⊕ (erase n).defs)) (p ⊕ (q ⊕ (erase n).procs)) n.trace)
     start_under e d p q others f g =
-        let own = solution_weaker (IsBelow n.counts) (IsUnder site count) below_under (erase n) (sound_below n sound naming_is) in
+        let own = solution_weaker (IsBelow n.counts) (IsUnder site count) below_under (erase n) (sound_below n sound) in
         let more = solution_weaker (IsBelow n.counts) (IsUnder site count) below_under (state map d q []) others in
         record {
           places = own.places;
@@ -94,7 +95,7 @@ module _ (naming_is : NamingIs) (block_filled : BlockFilled) where
       let s = r.site in
       let k = slice_index n.counts s in
       let st = stands n sound m l h.is_live in
-      let on : OnProcess (Under s k) (fill m p) = process_filled (Under s k) m (entries_under n sound m l h.is_live h.scope h.closes) p (process_weaker (IsNameOf n) (Under s k) (name_under n sound m l h.is_live) p (term_on naming_is (IsNameOf n) p h.scope h.term)) in
+      let on : OnProcess (Under s k) (fill m p) = process_filled (Under s k) m (entries_under n sound m l h.is_live h.scope h.closes) p (term_on (IsNameOf n) (Under s k) (name_under n sound m l h.is_live) h.scope p h.term) in
       let fits = name_fits n sound m l h.is_live in
       let a = pour n.seen s r m l k p in
       let leads = pour_leads n.seen s r naming_is block_filled p (standing n.places) h.scope m l k st (term_weaker (IsNameOf n) (Fits (standing n.places)) fits h.scope p h.term) (closes_weaker (IsNameOf n) (Fits (standing n.places)) fits h.scope m h.closes) h.once on in
@@ -108,7 +109,7 @@ module _ (naming_is : NamingIs) (block_filled : BlockFilled) where
       let s = r.site in
       let k = slice_index n.counts s in
       let st = stands n sound m l h.is_live in
-      let on : OnDefinitions (Under s k) (fill_definitions m ds) = definitions_filled (Under s k) m (entries_under n sound m l h.is_live h.scope h.closes) ds (definitions_weaker (IsNameOf n) (Under s k) (name_under n sound m l h.is_live) ds (definitions_on naming_is (IsNameOf n) ds h.scope l m h.sorts h.terms)) in
+      let on : OnDefinitions (Under s k) (fill_definitions m ds) = definitions_filled (Under s k) m (entries_under n sound m l h.is_live h.scope h.closes) ds (level_on (IsNameOf n) (Under s k) (name_under n sound m l h.is_live) h.scope ds l m h.sorts h.terms) in
       let fits = name_fits n sound m l h.is_live in
       let leads = lay_leads n.seen s r naming_is block_filled ds (standing n.places) h.scope m l k st h.levels h.stand (definitions_scope_weaker (IsNameOf n) (Fits (standing n.places)) fits h.scope ds h.terms) (closes_weaker (IsNameOf n) (Fits (standing n.places)) fits h.scope m h.closes) h.once on in
-      added n sound m l h.is_live (rules_left l m ds) d (bodies_left l m ds) q (lay n.seen s r m l k ds) others (lay_is s r naming_is n.seen (IsNameOf n) ds h.scope m l k h.terms h.once st.loc on) (λ x c. in_rules_left s k r l m ds x st.loc on c) (λ x c. in_bodies_left s k r l m ds x st.loc on c) leads
+      added n sound m l h.is_live (rules_left l m ds) d (bodies_left l m ds) q (lay n.seen s r m l k ds) others (lay_is s r naming_is n.seen (IsNameOf n) ds h.scope m l k h.terms h.once st.loc on) (rules_on (IsUnder s k) l m ds st.loc on) (bodies_on (IsUnder s k) l m ds st.loc on) leads

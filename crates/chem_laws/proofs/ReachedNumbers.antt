@@ -1,6 +1,5 @@
 -- Numbers of a site that are below a count, and numbers that were drawn from a count on.
-use Rattle.std.proofs.Common.{◌≡◌, ℕ, ◌<◌, ◌≤◌, List, [], ◌∷◌, ◌++◌, Option, Some, None, Bool, true, false, cond, refl, sym, ap, ◌∙◌, subst, arith, ◌==◌, ◌&&◌, eqb-true, leb-true, ltb-true, inl, inr}
-use Rattle.std.specs.Prelude.{nat_le, nat_lt}
+use Rattle.std.proofs.Common.{◌≡◌, ℕ, ◌<◌, ◌≤◌, List, [], ◌∷◌, ◌++◌, Option, Some, None, Bool, true, false, cond, refl, sym, ap, ◌∙◌, subst, arith, inl, inr}
 use Rattle.chem_model.specs.declared.name.Loc.{Loc}
 use Rattle.chem_model.specs.declared.name.Name.{Name}
 use Rattle.chem_model.specs.declared.name.Name.TheVariants as name
@@ -15,12 +14,13 @@ use Rattle.chem_model.specs.Solution.{Solution, Standing, Places, is_there, same
 use Rattle.chem_model.specs.OnNames.{OnPairs, OnProcess, OnDefinition, OnSolution}
 use Rattle.chem_model.specs.NewNames.{Pair, coded_pair, pair_of, pairs_of, Differs}
 use Rattle.chem_model.specs.Numbered.{standing}
-use Rattle.chem_laws.proofs.Lists.{both_true, Each-weaker}
+use Rattle.chem_laws.proofs.Lists.{Each-weaker}
 use Rattle.chem_laws.proofs.Bags.{one_self, bag-append}
 use Rattle.chem_laws.proofs.Terms.{OnEntries, process_weaker, definition_weaker}
 use Rattle.chem_laws.proofs.Within.{same_loc_is}
 use Rattle.chem_laws.proofs.Places.{standing_left, standing_right}
-use Rattle.chem_laws.proofs.Parts.{in_range, IsGivenAt, born_all}
+use Rattle.chem_laws.proofs.Parts.{IsGivenAt, born_all}
+use Rattle.chem_laws.proofs.NamingRange.{InRange}
 
 -- ---- below a count
 
@@ -70,27 +70,6 @@ solution_weaker P R f s h = record {
 }
 
 -- ---- drawn from a count on
-
--- a pair of this site with a number from k up to n
-abbrev pub InRange : ℕ → ℕ → ℕ → Pair → Type 0
-InRange s k n p = (p.0 ≡ s) × (k ≤ p.1) × (p.1 < n)
-
-cond_one : (t : Bool) → 0 < cond t 1 0 → t ≡ true
-cond_one true h = refl
-cond_one false h = absurd (omega arith)
-
-cond_most : (t : Bool) → cond t 1 0 ≤ 1
-cond_most true = omega arith
-cond_most false = omega arith
-
-pub in_range_is : (s k n : ℕ) (p : Pair) → 0 < in_range s k n p → InRange s k n p
-in_range_is s k n p h =
-    let whole = both_true (p.0 == s) (nat_le k p.1 && nat_lt p.1 n) (cond_one ((p.0 == s) && (nat_le k p.1 && nat_lt p.1 n)) h) in
-    let numbers = both_true (nat_le k p.1) (nat_lt p.1 n) whole.1 in
-    (eqb-true p.0 s whole.0, leb-true k p.1 numbers.0, ltb-true p.1 n numbers.1)
-
-pub in_range_most : (s k n : ℕ) (p : Pair) → in_range s k n p ≤ 1
-in_range_most s k n p = cond_most ((p.0 == s) && (nat_le k p.1 && nat_lt p.1 n))
 
 -- pairs that were drawn from k on occur nowhere where all are below k
 pub drawn_nowhere : (s k n : ℕ) (t : Solution) → OnSolution (IsUnder s k) t → (ps : List Pair) → ((p : Pair) → 0 < bag coded_pair ps p → InRange s k n p) → Each (λ (p : Pair). OnSolution (Differs p) t) ps

@@ -1,13 +1,11 @@
 -- What is poured or laid is reached by heating, Comm and Out alone, whatever else stands in the solution.
-use Rattle.std.proofs.Common.{◌≡◌, ℕ, ◌+◌, ◌<◌, ◌≤◌, List, [], ◌∷◌, ◌++◌, Option, Some, None, Bool, true, false, cond, refl, sym, ap, ◌∙◌, subst, arith, append_assoc, length, ◌==◌, ◌⊎◌, inl, inr, eqb-true, ◌||◌}
-use Rattle.std.specs.Prelude.{slice_get, is_some}
+use Rattle.std.proofs.Common.{◌≡◌, ℕ, ◌+◌, ◌<◌, ◌≤◌, List, [], ◌∷◌, ◌++◌, Option, Some, None, Bool, true, false, cond, refl, sym, ap, ◌∙◌, subst, arith, append_assoc, length, ◌⊎◌, inl, inr, eqb-true, ◌||◌}
+use Rattle.std.specs.Prelude.{slice_get}
 use Rattle.chem_model.specs.declared.name.Loc.{Loc}
-use Rattle.chem_model.specs.declared.name.Name.{Name}
 use Rattle.chem_model.specs.declared.name.Name.TheVariants as name
 use Rattle.chem_model.specs.declared.name.Ref.{Ref}
 use Rattle.chem_model.specs.declared.name.Ref.TheVariants.{Binder, Known}
 use Rattle.chem_model.specs.declared.event.Out.{Out}
-use Rattle.chem_model.specs.declared.numbered.Named.{Named}
 use Rattle.chem_model.specs.declared.numbered.Placed.{Placed}
 use Rattle.chem_model.specs.declared.numbered.NumberedRule.{NumberedRule}
 use Rattle.chem_model.specs.declared.numbered.NumberedAtom.{NumberedAtom}
@@ -17,7 +15,7 @@ use Rattle.chem_model.specs.Binders.{block, bound_in_all}
 use Rattle.chem_model.specs.Scope.{IsInScope, IsTerm, AreTerms, AreDefinitions, AreRules, AreRulesAndPlaces}
 use Rattle.chem_model.specs.Bag.{one, bag, ◌⊕◌, nothing}
 use Rattle.chem_model.specs.Each.{Each}
-use Rattle.chem_model.specs.Fill.{Naming, name_at, or_binder, fill_ref, fill_refs, fill_pats, fill, fill_all, fill_definitions}
+use Rattle.chem_model.specs.Fill.{Naming, fill_ref, fill_refs, fill_pats, fill, fill_all, fill_definitions}
 use Rattle.chem_model.specs.Solution.{Places, Defs, Procs, coded_located_process, coded_located_definition, is_there, is_marked, root, live, same_loc, at}
 use Rattle.chem_model.specs.OnNames.{OnRef, OnProcess, OnProcesses, OnDefinitions, OnSolution}
 use Rattle.chem_model.specs.Heating.{par, def}
@@ -27,15 +25,17 @@ use Rattle.chem_model.specs.Pour.{naming, births_of, loc_or, nothing_made, then_
 use Rattle.chem_model.specs.Sound.{IsKnown}
 use Rattle.chem_laws.proofs.Lists.{Each-append, all_each, above, append_nil}
 use Rattle.chem_laws.proofs.Bags.{one_is}
-use Rattle.chem_laws.proofs.Terms.{fill-twice, fill_definitions-twice, process_weaker, processes_weaker, definitions_weaker}
+use Rattle.chem_laws.proofs.Terms.{fill-twice, fill_definitions-twice, process_weaker, processes_weaker, definitions_weaker, def_names_none, none_agrees, known_again, length_all_known}
 use Rattle.chem_laws.proofs.Within.{same_loc_is}
-use Rattle.chem_laws.proofs.Places.{live_parts, live_kept, term_weaker, terms_weaker, definitions_scope_weaker}
+use Rattle.chem_laws.proofs.Places.{live_parts, live_kept, term_weaker, terms_weaker, definitions_scope_weaker, closes_weaker, ref_known, refs_known}
 use Rattle.chem_laws.proofs.Parts.{is_named, Closes, NamingIs, BlockFilled, PlacesStand, born_all, rules_left, bodies_left}
+use Rattle.chem_laws.proofs.Births.{born_all-append}
+use Rattle.chem_laws.proofs.LevelLeft.{loc_on, rules_on, bodies_on}
 use Rattle.chem_laws.proofs.Reached.{chain_trans, state, reached_same, reached_again, regroup}
 use Rattle.chem_laws.proofs.PlacesReached.{places_reached}
 use Rattle.chem_laws.proofs.ReachedNumbers.{IsUnder, Under, LocUnder, ProcessUnder, DefinitionUnder, OutUnder, loc_more, under_more, solution_weaker, IsBirth, birth_there, born_kept, born_not}
-use Rattle.chem_laws.proofs.ReachedMade.{AtomUnder, RuleUnder, IsMade, IsOnce, AreOnce, once_none, none_agrees, once_body, once_level, then_is, rules_is, loc_under, given_under, births_are, named_is, process_again, definitions_again, pour_is, lay_places_is}
-use Rattle.chem_laws.proofs.ReachedNames.{Fits, fits_more, closes_weaker, place_ref, IsPlaceOf, stand_other, block_new, block_fresh, block_stands, block_closes}
+use Rattle.chem_laws.proofs.ReachedMade.{AtomUnder, RuleUnder, IsMade, IsOnce, AreOnce, once_body, once_level, then_is, rules_is, given_under, births_are, named_is, process_again, definitions_again, pour_is, lay_places_is}
+use Rattle.chem_laws.proofs.ReachedNames.{Fits, fits_more, place_ref, IsPlaceOf, stand_other, block_new, block_fresh, block_stands, block_closes}
 
 -- ---- bags of what was made
 
@@ -62,35 +62,6 @@ in_members s n l none x g h c = absurd (omega arith)
 in_members s n l (one_more p ps) x g h c =
     elim (above (one coded_located_process (l, p) x) (bag coded_located_process (at l (members ps)) x) c) [ inl u ↦ subst (ProcessUnder s n) (one_is coded_located_process (l, p) x u) (g, h.0) | inr u ↦ in_members s n l ps x g h.1 u ]
 
-in_clauses : (s n : ℕ) (l : Loc) (ds : Definitions) (x : Loc × Definition) → LocUnder s n l → OnDefinitions (Under s n) ds → 0 < bag coded_located_definition (at l (clauses ds)) x → DefinitionUnder s n x
-in_clauses s n l no_definition x g h c = absurd (omega arith)
-in_clauses s n l (and_also d ds) x g h c =
-    elim (above (one coded_located_definition (l, d) x) (bag coded_located_definition (at l (clauses ds)) x) c) [ inl u ↦ subst (DefinitionUnder s n) (one_is coded_located_definition (l, d) x u) (g, h.0) | inr u ↦ in_clauses s n l ds x g h.1 u ]
-
-pub in_rules_left : (s n : ℕ) (r l : Loc) (m : Naming) (ds : Definitions) (x : Loc × Definition) → LocUnder s n l → OnDefinitions (Under s n) (fill_definitions m ds) → 0 < rules_left l m ds x → DefinitionUnder s n x
-in_rules_left s n r l m no_definition x g h c = absurd (omega arith)
-in_rules_left s n r l m (and_also (Rule ps p) ds) x g h c =
-    elim (above (one coded_located_definition (l, Rule (fill_pats m ps) (fill m p)) x) (rules_left l m ds x) c) [
-      | inl u ↦ subst (DefinitionUnder s n) (one_is coded_located_definition (l, Rule (fill_pats m ps) (fill m p)) x u) (g, h.0)
-      | inr u ↦ in_rules_left s n r l m ds x g h.1 u
-    ]
-in_rules_left s n r l m (and_also (Place y es p) ds) x g h c =
-    let q = loc_or l (fill_ref m y) in
-    elim (above (bag coded_located_definition (at q (clauses (fill_definitions m es))) x) (rules_left l m ds x) c) [
-      | inl u ↦ in_clauses s n q (fill_definitions m es) x (loc_under s r n l (fill_ref m y) g h.0.0) h.0.1 u
-      | inr u ↦ in_rules_left s n r l m ds x g h.1 u
-    ]
-
-pub in_bodies_left : (s n : ℕ) (r l : Loc) (m : Naming) (ds : Definitions) (x : Loc × Process) → LocUnder s n l → OnDefinitions (Under s n) (fill_definitions m ds) → 0 < bodies_left l m ds x → ProcessUnder s n x
-in_bodies_left s n r l m no_definition x g h c = absurd (omega arith)
-in_bodies_left s n r l m (and_also (Rule ps p) ds) x g h c = in_bodies_left s n r l m ds x g h.1 c
-in_bodies_left s n r l m (and_also (Place y es p) ds) x g h c =
-    let q = loc_or l (fill_ref m y) in
-    elim (above (one coded_located_process (q, fill m p) x) (bodies_left l m ds x) c) [
-      | inl u ↦ subst (ProcessUnder s n) (one_is coded_located_process (q, fill m p) x u) (loc_under s r n l (fill_ref m y) g h.0.0, h.0.2)
-      | inr u ↦ in_bodies_left s n r l m ds x g h.1 u
-    ]
-
 -- the definitions of a level's places, at their locations
 abbrev pub levels_left : Loc → Naming → Definitions → Defs
 levels_left l m no_definition = nothing
@@ -109,41 +80,9 @@ laid_rules s l m k no_definition z h = refl
 laid_rules s l m k (and_also (Rule ps p) ds) z h = ap (λ n. one coded_located_definition (l, Rule (fill_pats m ps) (fill m p)) z + n) (laid_rules s l m (k + 1) ds z h)
 laid_rules s l m k (and_also (Place x es p) ds) z h = absurd h
 
--- ---- names in scope, once they are filled
-
-module _ (Q : Name → Type 0) (scope : List ℕ) (m : Naming) (c : Closes Q scope m) where
-  found_known : (es : Naming) → Each (λ (e : Named). Q e.name) es → (b : ℕ) → is_some (name_at es b) ≡ true → IsKnown Q (or_binder b (name_at es b))
-  found_known [] g b e = cc
-  found_known (x ∷ es) g b e = go (x.binder == b) (found_known es g.1 b) e
-    where
-      go : (t : Bool) → (is_some (name_at es b) ≡ true → IsKnown Q (or_binder b (name_at es b))) → is_some (cond t (Some x.name) (name_at es b)) ≡ true → IsKnown Q (or_binder b (cond t (Some x.name) (name_at es b)))
-      go true ih e' = g.0
-      go false ih e' = ih e'
-
-  pub ref_known : (x : Ref) → IsInScope Q scope x → IsKnown Q (fill_ref m x)
-  ref_known (Binder b) h = found_known m c.names b (c.covers b h)
-  ref_known (Known n) h = h
-
-  pub refs_known : (xs : List Ref) → Each (IsInScope Q scope) xs → Each (IsKnown Q) (fill_refs m xs)
-  refs_known [] h = tt
-  refs_known (x ∷ xs) h = (ref_known x h.0, refs_known xs h.1)
-
-pub known_again : (Q : Name → Type 0) (vs : List Ref) → Each (IsKnown Q) vs → vs ≡ all_known (known vs)
-known_again Q [] h = refl
-known_again Q (Binder b ∷ vs) h = absurd h.0
-known_again Q (Known n ∷ vs) h = ap (λ us. Known n ∷ us) (known_again Q vs h.1)
-
-length_known : (ns : List Name) → length (all_known ns) ≡ length ns
-length_known [] = refl
-length_known (n ∷ ns) = omega (arith, length_known ns)
-
 count_is : (o : Option ℕ) (n : ℕ) → is_count o n ≡ true → o ≡ Some n
 count_is None n e = cc
 count_is (Some m) n e = ap Some (eqb-true m n e)
-
-born_append : (xs ys : List Placed) (pl : Places) → born_all pl (xs ++ ys) ≡ born_all (born_all pl xs) ys
-born_append [] ys pl = refl
-born_append (x ∷ xs) ys pl = born_append xs ys _
 
 module _ (seen : List ℕ) (s : ℕ) (r : Loc) where
   -- ---- pieces
@@ -188,7 +127,7 @@ module _ (seen : List ℕ) (s : ℕ) (r : Loc) where
       (chain_trans (first (e ⊕ d') (q ⊕ q') tr h1)
       (chain_trans (reached_again seen pl' (rules ⊕ (e ⊕ d')) (e ⊕ (rules ⊕ d')) (atoms ⊕ (q ⊕ q')) (q ⊕ (atoms ⊕ q')) (tr ++ a.outs) (λ x. omega arith) (λ x. omega arith))
       (chain_trans (second (rules ⊕ d') (atoms ⊕ q') (tr ++ a.outs) h2)
-      (reached_same seen _ _ _ _ _ _ _ _ (λ l. ap (λ (f : Places). f l) (sym (born_append a.births b.births pl))) (λ x. omega (arith, defs_both a.rules b.rules x)) (λ x. omega (arith, procs_both a.atoms b.atoms x)) (append_assoc tr a.outs b.outs)))))
+      (reached_same seen _ _ _ _ _ _ _ _ (born_all-append pl a.births b.births) (λ x. omega (arith, defs_both a.rules b.rules x)) (λ x. omega (arith, procs_both a.atoms b.atoms x)) (append_assoc tr a.outs b.outs)))))
 
   -- ---- a live location of the root
 
@@ -241,7 +180,7 @@ module _ (seen : List ℕ) (s : ℕ) (r : Loc) where
   seen_leads : (pl : Places) (l : Loc) (i k : ℕ) (vs : List Ref) → live pl l ≡ true → vs ≡ all_known (known vs) → (b : Bool) → is_count (slice_get seen i) (length vs) ≡ b
       → Leads pl k nothing (one coded_located_process (l, Msg (Known (name.Seen i)) vs)) (cond b (out_made k i (known vs)) (atom_made s l k (Msg (Known (name.Seen i)) vs)))
   seen_leads pl l i k vs is_live e true c = λ d q tr under.
-      let fits = count_is (slice_get seen i) (length vs) c ∙ ap Some (ap length e ∙ length_known (known vs)) in
+      let fits = count_is (slice_get seen i) (length vs) c ∙ ap Some (ap length e ∙ length_all_known (known vs)) in
       observes (record { loc = l; on = i; args = known vs; rest = q; is_live = is_live; count = fits; there = λ j y. one coded_located_process (l, Msg (Known (name.Seen i)) (e j)) y + q y; after = refl })
       (reached_same seen _ _ _ _ _ _ _ _ (λ x. refl) (λ x. refl) (λ x. omega arith) refl)
   seen_leads pl l i k vs is_live e false c = atom_leads pl k l (Msg (Known (name.Seen i)) vs)
@@ -277,7 +216,7 @@ module _ (seen : List ℕ) (s : ℕ) (r : Loc) where
       pour_leads (Def ds p) pl scope m l k st t c o u =
           let n = naming s l ds k in
           let names = m ++ n.names in
-          let free = once_none m ds p o in
+          let free = def_names_none m ds p o in
           let is = naming_is s l r names ds k t.0 t.1 (none_agrees (block ds) m n.names free) in
           let births = births_of r names ds in
           let born = births_are s r l names ds k n is in
@@ -321,9 +260,9 @@ module _ (seen : List ℕ) (s : ℕ) (r : Loc) where
           let fresh = block_fresh s l r m ds k n is pl h.places in
           let h1 = subst (λ (os : List Out). OnSolution (IsUnder s n.next) (state pl' (rules ⊕ e) ((bodies ⊕ poured) ⊕ q) os)) (append_nil tr)
           (on_grown k n.next is.up pl births (nothing ⊕ e) (rules ⊕ e) (whole ⊕ q) ((bodies ⊕ poured) ⊕ q) tr [] h born
-          (λ x y. elim (above (rules x) (e x) y) [ inl z ↦ inl (in_rules_left s n.next r l names ds x st_n.loc level z) | inr z ↦ inr (omega arith) ])
+          (λ x y. elim (above (rules x) (e x) y) [ inl z ↦ inl (rules_on (IsUnder s n.next) l names ds st_n.loc level x z) | inr z ↦ inr (omega arith) ])
           (λ x y. elim (above (bodies x + poured x) (q x) y) [
-            | inl z ↦ inl (elim (above (bodies x) (poured x) z) [ inl f ↦ in_bodies_left s n.next r l names ds x st_n.loc level f | inr f ↦ subst (ProcessUnder s n.next) (one_is coded_located_process (l, fill names p) x f) (st_n.loc, body) ])
+            | inl z ↦ inl (elim (above (bodies x) (poured x) z) [ inl f ↦ bodies_on (IsUnder s n.next) l names ds st_n.loc level x f | inr f ↦ subst (ProcessUnder s n.next) (one_is coded_located_process (l, fill names p) x f) (st_n.loc, body) ])
             | inr z ↦ inr (omega arith)
           ]) tt) in
           heats (def l (fill_definitions m ds) (fill m p) n.names q refl new refl)
@@ -333,7 +272,7 @@ module _ (seen : List ℕ) (s : ℕ) (r : Loc) where
           (chain_trans (places_reached seen ds pl l r names e (poured ⊕ q) tr st.is_live st.at_root st.root_there fresh)
           (chain_trans (reached_again seen pl' (rules ⊕ e) (rules ⊕ e) (bodies ⊕ (poured ⊕ q)) ((bodies ⊕ poured) ⊕ q) tr (λ x. refl) (λ x. omega arith))
           (chain_trans (inner e q tr h1)
-          (reached_same seen _ _ _ _ _ _ _ _ (λ z. ap (λ (f : Places). f z) (sym (born_append births (b.births ++ w.births) pl))) (λ x. refl) (λ x. refl) refl)))))
+          (reached_same seen _ _ _ _ _ _ _ _ (born_all-append pl births (b.births ++ w.births)) (λ x. refl) (λ x. refl) refl)))))
       pour_leads (Go b c) pl scope m l k st t cl o u = atom_leads pl k l (fill m (Go b c))
       pour_leads (Fail b c) pl scope m l k st t cl o u = atom_leads pl k l (fill m (Fail b c))
       pour_leads Halt pl scope m l k st t c o u = atom_leads pl k l Halt
@@ -363,7 +302,7 @@ module _ (seen : List ℕ) (s : ℕ) (r : Loc) where
       lay_places_leads (and_also (Place x es p) ds) pl scope m l k st levels stand t c o u =
           let q = loc_or l (fill_ref m x) in
           let found = place_ref (λ a. (live pl a ≡ true) × (root pl a ≡ r)) m x stand.0 in
-          let q_under = loc_under s r k l (fill_ref m x) st.loc u.0.0 in
+          let q_under = loc_on (IsUnder s k) l (fill_ref m x) st.loc u.0.0 in
           let stands_at : (live pl q ≡ true) × (root pl q ≡ r) = subst (λ (y : Ref). (live pl (loc_or l y) ≡ true) × (root pl (loc_or l y) ≡ r)) (sym found.1) found.2 in
           let st_q : Stands pl k q = record { is_live = stands_at.0; at_root = stands_at.1; root_there = st.root_there; loc = q_under; top = st.top } in
           let once_p : IsOnce m p = λ b. let v = o b in omega arith in

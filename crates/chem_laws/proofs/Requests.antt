@@ -1,12 +1,12 @@
 -- What requests change: the host of a location, its mark, and the atoms that are left.
-use Rattle.std.proofs.Common.{◌≡◌, ℕ, ◌+◌, ◌<◌, ◌≤◌, List, [], ◌∷◌, Option, Some, None, Bool, true, false, cond, refl, sym, ap, ◌∙◌, arith, length, ◌||◌, not}
+use Rattle.std.proofs.Common.{◌≡◌, ℕ, ◌<◌, ◌≤◌, List, [], ◌∷◌, Option, Some, None, Bool, true, false, cond, refl, sym, ap, ◌∙◌, arith, length, ◌||◌, not}
 use Rattle.chem_model.specs.declared.name.Loc.{Loc}
 use Rattle.chem_model.specs.declared.name.Name.{Name}
 use Rattle.chem_model.specs.declared.name.Name.TheVariants as name
 use Rattle.chem_model.specs.declared.name.Pat.{Pat}
 use Rattle.chem_model.specs.declared.event.Out.{Out}
 use Rattle.chem_model.specs.Process.{Rule}
-use Rattle.chem_model.specs.Bag.{one, bag}
+use Rattle.chem_model.specs.Bag.{bag}
 use Rattle.chem_model.specs.Each.{Each}
 use Rattle.chem_model.specs.Solution.{Standing, Places, same_loc, is_there, is_marked, host_of, or_itself, root, live, with_host, with_mark, rehosted, marked}
 use Rattle.chem_model.specs.NewNames.{Pair, coded_pair}
@@ -19,7 +19,6 @@ use Rattle.chem_model.specs.Opening.{root_of}
 use Rattle.chem_model.specs.Apply.{with_hosts, with_marks}
 use Rattle.chem_model.specs.Sound.{IsSound, IsNameOf, IsKnown, IsHomedAt, IsAtom, IsRule, IsRoot, IsHosted}
 use Rattle.chem_laws.proofs.Lists.{Each-weaker, true_both, neither}
-use Rattle.chem_laws.proofs.Bags.{one_self}
 use Rattle.chem_laws.proofs.Within.{same_loc_is, same_loc_refl}
 use Rattle.chem_laws.proofs.Places.{definition_scope_weaker, live_parts, known_weaker, settled_weaker}
 
@@ -136,17 +135,6 @@ pairs_marks (p ∷ ps) a = go (same_loc p.loc a) (pairs_marks ps a)
     go : (t : Bool) → place_pairs (with_marks a ps) ≡ place_pairs ps → place_pairs (cond t (record p { marked = true }) p ∷ with_marks a ps) ≡ place_pairs (p ∷ ps)
     go true ih = ap (λ us. (p.loc.site, p.loc.k) ∷ us) ih
     go false ih = ap (λ us. (p.loc.site, p.loc.k) ∷ us) ih
-
-pub place_pair_found : (ps : List Placed) (l : Loc) → is_there (standing ps l) ≡ true → 0 < bag coded_pair (place_pairs ps) (l.site, l.k)
-place_pair_found [] l e = cc
-place_pair_found (p ∷ ps) l e = go (same_loc p.loc l) refl (place_pair_found ps l) e
-  where
-    go : (t : Bool) → same_loc p.loc l ≡ t → (is_there (standing ps l) ≡ true → 0 < bag coded_pair (place_pairs ps) (l.site, l.k)) → is_there (cond t (Some (record { host = p.host; marked = p.marked })) (standing ps l)) ≡ true
-        → 0 < one coded_pair (p.loc.site, p.loc.k) (l.site, l.k) + bag coded_pair (place_pairs ps) (l.site, l.k)
-    go true c ih e' =
-        let here : one coded_pair (p.loc.site, p.loc.k) (l.site, l.k) ≡ 1 = ap (λ (q : Loc). one coded_pair (q.site, q.k) (l.site, l.k)) (same_loc_is p.loc l c) ∙ one_self coded_pair (l.site, l.k) in
-        omega arith
-    go false c ih e' = omega (arith, ih e')
 
 module _ (n : Numbered) where
   pub hosted_hosts : (ps : List Placed) (a h : Loc) → IsRoot n h → Each (λ (p : Placed). IsHosted n p p.host) ps → Each (λ (p : Placed). IsHosted n p p.host) (with_hosts a h ps)

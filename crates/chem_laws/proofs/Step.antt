@@ -27,25 +27,25 @@ use Rattle.chem_model.specs.Opening.{root_of}
 use Rattle.chem_model.specs.Apply.{rule_at, atom_at, without, without_all, received_all, react_received, react_rule, with_hosts, with_marks, can_go, can_detect, at_location, move_to, move_atom, halt_atom, detect_of, detect_atom, with_atom, apply}
 use Rattle.chem_model.specs.Sound.{IsSound, IsNameOf, IsKnown, IsSettled, IsAtom, IsRule, IsRoot}
 use Rattle.chem_model.specs.Laws.{IsReduction, EventIsAReduction}
-use Rattle.chem_laws.proofs.Lists.{Each-weaker, both_true, append_nil}
+use Rattle.chem_laws.proofs.Lists.{Each-weaker, both_true, append_nil, has_some}
 use Rattle.chem_laws.proofs.Within.{same_loc_is}
 use Rattle.chem_laws.proofs.Parts.{is_named, IsPourable, PourSound, PourReached, beside}
-use Rattle.chem_laws.proofs.Places.{live_parts, root_is, known_weaker}
+use Rattle.chem_laws.proofs.Places.{live_parts, root_is, known_weaker, place_pair_found}
 use Rattle.chem_laws.proofs.Taking.{atom_found, rule_found, rule_stands, bag-without, Each-without, pairs-without, Each-without_all, pairs-without_all, named_once, apart, all_received, received_names, ids_differ, gathered}
-use Rattle.chem_laws.proofs.Requests.{standing_hosts, standing_marks, host_there, mark_there, mark_host, moved_live, pairs_hosts, pairs_marks, place_pair_found, hosted_hosts, hosted_marks, name_left, left_sound}
+use Rattle.chem_laws.proofs.Requests.{standing_hosts, standing_marks, host_there, mark_there, mark_host, moved_live, pairs_hosts, pairs_marks, hosted_hosts, hosted_marks, name_left, left_sound}
 
 -- a solution with one more process
 abbrev pub one_process : Numbered → Loc → Process → Solution
 one_process n l p = record (erase n) { procs = one coded_located_process (l, p) ⊕ (erase n).procs }
+
+zero_plus : (k : ℕ) → 0 + k ≡ k
+zero_plus k = omega arith
 
 beside_nothing : (n : Numbered) → beside n nothing nothing ≡ erase n
 beside_nothing n =
     let same_defs = λ (x : Loc × Definition). zero_plus ((erase n).defs x) in
     let same_procs = λ (x : Loc × Process). zero_plus ((erase n).procs x) in
     λ i. record { places = standing n.places; defs = λ x. same_defs x i; procs = λ x. same_procs x i; trace = n.trace }
-  where
-    zero_plus : (k : ℕ) → 0 + k ≡ k
-    zero_plus k = omega arith
 
 beside_one : (n : Numbered) (l : Loc) (p : Process) → beside n nothing (one coded_located_process (l, p) ⊕ nothing) ≡ one_process n l p
 beside_one n l p =
@@ -53,9 +53,6 @@ beside_one n l p =
     let same_procs = λ (x : Loc × Process). plus_zero (one coded_located_process (l, p) x) ((erase n).procs x) in
     λ i. record { places = standing n.places; defs = λ x. same_defs x i; procs = λ x. same_procs x i; trace = n.trace }
   where
-    zero_plus : (k : ℕ) → 0 + k ≡ k
-    zero_plus k = omega arith
-
     plus_zero : (j k : ℕ) → (j + 0) + k ≡ j + k
     plus_zero j k = omega arith
 
@@ -155,10 +152,6 @@ module _ (pour_sound : PourSound) (pour_reached : PourReached) where
     request_settled : (i : AtomId) (a : NumberedAtom) (p : Process) → atom_at n.atoms i ≡ Some a → a.term ≡ p → IsSettled n.seen (IsNameOf n) a.loc p
     request_settled i a p c term = subst (IsSettled n.seen (IsNameOf n) a.loc) term (atom_found (IsAtom n) n.atoms i a c sound.atoms).1
 
-    some_is : (o : Option Loc) → is_some o ≡ true → (h : Loc) × (o ≡ Some h)
-    some_is None e = cc
-    some_is (Some h) e = (h, refl)
-
     none_is : (o : Option Loc) → not (is_some o) ≡ true → o ≡ None
     none_is None e = refl
     none_is (Some h) e = cc
@@ -173,7 +166,7 @@ module _ (pour_sound : PourSound) (pour_reached : PourReached) where
         let sides = both_true (live pl l && is_some (host_of (pl l))) (live pl b && not (is_some (host_of (pl b)))) can in
         let from = both_true (live pl l) (is_some (host_of (pl l))) sides.0 in
         let to = both_true (live pl b) (not (is_some (host_of (pl b)))) sides.1 in
-        let host = some_is (host_of (pl l)) from.1 in
+        let host = has_some (host_of (pl l)) from.1 in
         let no_host = none_is (host_of (pl b)) to.1 in
         let settled = request_settled i a (Go (Known (name.Place b)) k) c term in
         let map_is : standing new.places ≡ rehosted pl l b = λ j x. standing_hosts n.places l b x j in

@@ -25,7 +25,7 @@ use Rattle.chem_model.specs.Apply.{same_atom, same_rule, rule_at, atom_at, witho
 use Rattle.chem_model.specs.Sound.{IsKnown, IsSettled}
 use Rattle.chem_laws.proofs.Lists.{both_true, true_both, Each-append}
 use Rattle.chem_laws.proofs.Bags.{one_self}
-use Rattle.chem_laws.proofs.Terms.{domain-append, times-cons}
+use Rattle.chem_laws.proofs.Terms.{domain-append, times-cons, known_again, known_names}
 use Rattle.chem_laws.proofs.Within.{same_loc_is, same_loc_refl}
 
 -- ---- tests of equality
@@ -163,16 +163,6 @@ pairs-without_all (i ∷ took) atoms p = omega (arith, pairs-without_all took (w
 -- ---- occurrences of known names
 
 module _ (Q : Name → Type 0) where
-  pub known_again : (vs : List Ref) → Each (IsKnown Q) vs → vs ≡ all_known (known vs)
-  known_again [] h = refl
-  known_again (Binder b ∷ vs) h = absurd h.0
-  known_again (Known n ∷ vs) h = ap (λ us. Known n ∷ us) (known_again vs h.1)
-
-  pub known_names : (vs : List Ref) → Each (IsKnown Q) vs → Each Q (known vs)
-  known_names [] h = tt
-  known_names (Binder b ∷ vs) h = absurd h.0
-  known_names (Known n ∷ vs) h = (h.0, known_names vs h.1)
-
   pub length_known : (vs : List Ref) → Each (IsKnown Q) vs → length (known vs) ≡ length vs
   length_known [] h = refl
   length_known (Binder b ∷ vs) h = absurd h.0

@@ -1,5 +1,5 @@
--- Names in terms: a weaker fact, and filling.
-use Rattle.std.proofs.Common.{◌≡◌, ℕ, List, [], ◌∷◌, ◌++◌, Option, Some, None, Bool, true, false, cond, refl, sym, ap, ◌∙◌, ◌==◌, ◌||◌, ◌+◌, eq-eqb}
+-- Names in terms: a weaker fact, filling, and which binders have a name.
+use Rattle.std.proofs.Common.{◌≡◌, ℕ, List, [], ◌∷◌, ◌++◌, Option, Some, None, Bool, true, false, cond, refl, sym, ap, ◌∙◌, ◌==◌, ◌||◌, ◌+◌, eq-eqb, ◌≤◌, arith, length, subst}
 use Rattle.std.specs.Prelude.{is_some}
 use Rattle.std.proofs.lemmas.List.Sums.{sum_by-cons, sum_by-append}
 use Rattle.chem_model.specs.declared.name.Name.{Name}
@@ -7,13 +7,19 @@ use Rattle.chem_model.specs.declared.name.Ref.{Ref}
 use Rattle.chem_model.specs.declared.name.Ref.TheVariants.{Binder, Known}
 use Rattle.chem_model.specs.declared.name.Pat.{Pat}
 use Rattle.chem_model.specs.Process.{Process, Msg, Par, Def, Go, Fail, Halt, Processes, none, one_more, Definition, Rule, Place, Definitions, no_definition, and_also}
-use Rattle.chem_model.specs.Binders.{is_among, times}
+use Rattle.chem_model.specs.Binders.{is_among, times, block, once, bound_in, params_of, patterns_of, patterns_in}
+use Rattle.chem_model.specs.Binders as binders
+use Rattle.chem_model.specs.Scope.{IsBinder, AreNamed, IsNamed, IsInScope, IsTerm, AreTerms, IsDefinition, AreDefinitions}
 use Rattle.chem_model.specs.Each.{Each}
 use Rattle.chem_model.specs.declared.numbered.Named.{Named}
 use Rattle.chem_model.specs.Fill.{Naming, name_at, or_binder, fill_ref, fill_refs, fill_pats, fill, fill_all, fill_definition, fill_definitions}
 use Rattle.chem_model.specs.OnNames.{OnRef, OnProcess, OnProcesses, OnDefinition, OnDefinitions}
+use Rattle.chem_model.specs.Reduction.{all_known}
 use Rattle.chem_model.specs.NewNames.{HasDomain}
-use Rattle.chem_laws.proofs.Lists.{or_assoc, or_left, or_right}
+use Rattle.chem_model.specs.Pour.{known}
+use Rattle.chem_model.specs.Sound.{IsKnown}
+use Rattle.chem_laws.proofs.Lists.{or_assoc, or_left, or_right, cond_either, Each-left, Each-right, all_each}
+use Rattle.chem_laws.proofs.Parts.{is_named, NamesNone, Agree}
 
 -- ---- a weaker fact
 module _ (Q R : Name → Type 0) (f : (n : Name) → Q n → R n) where
@@ -49,6 +55,52 @@ module _ (Q R : Name → Type 0) (f : (n : Name) → Q n → R n) where
     pub definitions_weaker : (ds : Definitions) → OnDefinitions Q ds → OnDefinitions R ds
     definitions_weaker no_definition h = tt
     definitions_weaker (and_also d ds) h = (definition_weaker d h.0, definitions_weaker ds h.1)
+
+-- ---- what holds of each known name of a term, where its channels and places are binders
+
+abbrev pub OnBinders : List (Option Ref × Pat) → Type 0
+OnBinders = Each (λ (x : Option Ref × Pat). IsBinder x.1.on)
+
+module _ (Q R : Name → Type 0) (f : (x : Name) → Q x → R x) where
+  ref_on : (scope : List ℕ) (r : Ref) → IsInScope Q scope r → OnRef R r
+  ref_on scope (Binder b) h = tt
+  ref_on scope (Known n) h = f n h
+
+  refs_on : (scope : List ℕ) (rs : List Ref) → Each (IsInScope Q scope) rs → Each (OnRef R) rs
+  refs_on scope [] h = tt
+  refs_on scope (r ∷ rs) h = (ref_on scope r h.0, refs_on scope rs h.1)
+
+  binder_on : (r : Ref) → IsBinder r → OnRef R r
+  binder_on (Binder b) h = tt
+  binder_on (Known n) h = absurd h
+
+  pats_on : (l : Option Ref) (ps : List Pat) → OnBinders (binders.at l ps) → Each (λ (q : Pat). OnRef R q.on) ps
+  pats_on l [] h = tt
+  pats_on l (p ∷ ps) h = (binder_on p.on h.0, pats_on l ps h.1)
+
+  mutual
+    pub term_on : (scope : List ℕ) (p : Process) → IsTerm Q scope p → OnProcess R p
+    term_on scope (Msg x vs) h = (ref_on scope x h.0, refs_on scope vs (all_each (IsInScope Q scope) vs h.1))
+    term_on scope (Par ps) h = terms_on scope ps h
+    term_on scope (Def ds p) h = (definitions_on (block ds ++ scope) None ds (all_each (λ (x : Option Ref × Pat). IsBinder x.1.on) (patterns_of None ds) h.0.channels) h.0.places h.2, term_on (block ds ++ scope) p h.3)
+    term_on scope (Go b k) h = (ref_on scope b h.0, ref_on scope k h.1)
+    term_on scope (Fail b k) h = (ref_on scope b h.0, ref_on scope k h.1)
+    term_on scope Halt h = tt
+
+    pub terms_on : (scope : List ℕ) (ps : Processes) → AreTerms Q scope ps → OnProcesses R ps
+    terms_on scope none h = tt
+    terms_on scope (one_more p ps) h = (term_on scope p h.0, terms_on scope ps h.1)
+
+    pub definition_on : (scope : List ℕ) (l : Option Ref) (d : Definition) → OnBinders (patterns_in l d) → IsNamed d → IsDefinition Q scope d → OnDefinition R d
+    definition_on scope l (Rule ps p) c n h = (pats_on l ps c, term_on (params_of ps ++ scope) p h.1)
+    definition_on scope l (Place a ds p) c n h = (binder_on a n.0, definitions_on scope (Some a) ds c n.1 h.0, term_on scope p h.1)
+
+    pub definitions_on : (scope : List ℕ) (l : Option Ref) (ds : Definitions) → OnBinders (patterns_of l ds) → AreNamed ds → AreDefinitions Q scope ds → OnDefinitions R ds
+    definitions_on scope l no_definition c n h = tt
+    definitions_on scope l (and_also d ds) c n h = (
+      definition_on scope l d (Each-left (λ (x : Option Ref × Pat). IsBinder x.1.on) (patterns_in l d) (patterns_of l ds) c) n.0 h.0,
+      definitions_on scope l ds (Each-right (λ (x : Option Ref × Pat). IsBinder x.1.on) (patterns_in l d) (patterns_of l ds) c) n.1 h.1,
+    )
 
 -- ---- filling
 abbrev pub OnEntries : (Name → Type 0) → Naming → Type 0
@@ -169,6 +221,48 @@ among_right bs cs b h = among-append bs cs b ∙ or_right (is_among bs b) (is_am
 
 pub among_first : (b : ℕ) (bs : List ℕ) → is_among (b ∷ bs) b ≡ true
 among_first b bs = or_left (b == b) (is_among bs b) (eq-eqb b b refl)
+
+pub named_either : (bs : List ℕ) (m n : Naming) (b : ℕ) → HasDomain bs n → is_some (name_at (m ++ n) b) ≡ is_some (name_at m b) || is_among bs b
+named_either bs m n b h = ap is_some (name_at-append m n b) ∙ some_or (name_at m b) (name_at n b) ∙ ap (λ t. is_some (name_at m b) || t) (h b)
+
+pub named_more : (bs : List ℕ) (m n : Naming) (b : ℕ) → HasDomain bs n → is_named (m ++ n) b ≤ is_named m b + once bs b
+named_more bs m n b h = subst (λ (t : Bool). cond t 1 0 ≤ is_named m b + once bs b) (sym (named_either bs m n b h)) (cond_either (is_some (name_at m b)) (is_among bs b))
+
+-- the map names no binder that is bound once already
+pub names_none : (m : Naming) (bs : List ℕ) → ((b : ℕ) → is_named m b + once bs b ≤ 1) → NamesNone bs m
+names_none m bs h b e = go (is_some (name_at m b)) (is_among bs b) (h b) e
+  where
+    go : (t u : Bool) → cond t 1 0 + cond u 1 0 ≤ 1 → u ≡ true → t ≡ false
+    go true true g f = absurd (omega arith)
+    go true false g f = cc
+    go false u g f = refl
+
+pub def_names_none : (m : Naming) (ds : Definitions) (p : Process) → ((b : ℕ) → is_named m b + bound_in (Def ds p) b ≤ 1) → NamesNone (block ds) m
+def_names_none m ds p h = names_none m (block ds) (λ b. omega (arith, h b))
+
+-- so of the two maps together the second counts
+pub none_agrees : (bs : List ℕ) (m n : Naming) → NamesNone bs m → Agree bs (m ++ n) n
+none_agrees bs m n h b e = name_at-append m n b ∙ go (name_at m b) (h b e)
+  where
+    go : (o : Option Name) → is_some o ≡ false → or_name o (name_at n b) ≡ name_at n b
+    go None q = refl
+    go (Some x) q = cc
+
+-- ---- known names
+
+pub known_again : (Q : Name → Type 0) (vs : List Ref) → Each (IsKnown Q) vs → vs ≡ all_known (known vs)
+known_again Q [] h = refl
+known_again Q (Binder b ∷ vs) h = absurd h.0
+known_again Q (Known n ∷ vs) h = ap (λ us. Known n ∷ us) (known_again Q vs h.1)
+
+pub known_names : (Q : Name → Type 0) (vs : List Ref) → Each (IsKnown Q) vs → Each Q (known vs)
+known_names Q [] h = tt
+known_names Q (Binder b ∷ vs) h = absurd h.0
+known_names Q (Known n ∷ vs) h = (h.0, known_names Q vs h.1)
+
+pub length_all_known : (ns : List Name) → length (all_known ns) ≡ length ns
+length_all_known [] = refl
+length_all_known (n ∷ ns) = omega (arith, length_all_known ns)
 
 -- ---- how often a number stands in a list
 
