@@ -1,15 +1,7 @@
 -- Numbers among others.
-use Rattle.std.proofs.Common.{◌≡◌, ℕ, ◌<◌, ◌≤◌, ◌⊎◌, inl, inr, Bool, true, false, cond, eqb, ◌||◌, List, [], ◌∷◌, ◌++◌, refl, arith}
-use Rattle.std.proofs.lemmas.Bool.{or_cases, eqb-true, eq-eqb}
+use Rattle.std.proofs.Common.{◌≡◌, ℕ, ◌<◌, ◌≤◌, ◌⊎◌, inl, inr, Bool, true, false, cond, eqb, List, [], ◌∷◌, ◌++◌, refl, arith}
+use Rattle.std.proofs.lemmas.Bool.{or_cases, or_left, or_right, eqb-true, eq-eqb}
 use Rattle.chem_model.specs.Binders.{is_among, once}
-
-or_left : (x y : Bool) → x ≡ true → (x || y) ≡ true
-or_left true y e = refl
-or_left false y e = cc
-
-or_right : (x y : Bool) → y ≡ true → (x || y) ≡ true
-or_right true y e = refl
-or_right false y e = e
 
 pub among-here : (bs : List ℕ) (b : ℕ) → is_among (b ∷ bs) b ≡ true
 among-here bs b = or_left (eqb b b) (is_among bs b) (eq-eqb b b refl)

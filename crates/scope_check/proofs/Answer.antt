@@ -1,5 +1,5 @@
 -- What the check answers: the walks' tables, terms and faults are those of the tree.
-use Rattle.std.proofs.Common.{◌≡◌, ℕ, ◌+◌, ◌≤◌, List, [], ◌∷◌, ◌++◌, Option, Some, None, inl, inr, length, drop, get_or, refl, sym, ap, ◌∙◌, subst, arith}
+use Rattle.std.proofs.Common.{◌≡◌, ℕ, ◌+◌, ◌≤◌, List, [], ◌∷◌, ◌++◌, Option, Some, None, inl, inr, length, drop, get_or, refl, sym, ap, ◌∙◌, subst, arith, append-nil}
 use Rattle.join_parse.specs.declared.tree.PlaceTree.{PlaceTree}
 use Rattle.join_parse.specs.Source as s
 use Rattle.join_parse.specs.Grammar.{TreeOfText}
@@ -22,7 +22,7 @@ use Rattle.scope_check.specs.Clashes.{clashes_in}
 use Rattle.scope_check.specs.Naming.{Level, name_all, walk_level}
 use Rattle.join_parse.specs.declared.word.SeenTree.{SeenTree}
 use Rattle.scope_check.specs.Checked.{most_sites, no_literals, IsProgramOf, OneOutcome}
-use Rattle.scope_check.proofs.Lists.{append-nil, none_left, none_right}
+use Rattle.scope_check.proofs.Lists.{none_left, none_right}
 use Rattle.scope_check.proofs.Folds.{first-append}
 use Rattle.scope_check.proofs.Declares.{all_clashes}
 use Rattle.scope_check.proofs.Tables.{StandsFor, EnvStandsFor, AllOwnDefined, LevelFits, binder-is, members-are, level-is}

@@ -1,5 +1,5 @@
 -- The block of a term without a clash keeps what a program's blocks keep.
-use Rattle.std.proofs.Common.{◌≡◌, ℕ, ◌+◌, ◌≤◌, inl, inr, Bool, true, false, cond, ◌||◌, List, [], ◌∷◌, ◌++◌, Option, Some, None, length, refl, sym, ap, ◌∙◌, subst, arith, append_assoc}
+use Rattle.std.proofs.Common.{◌≡◌, ℕ, ◌+◌, ◌≤◌, inl, inr, Bool, true, false, cond, ◌||◌, List, [], ◌∷◌, ◌++◌, Option, Some, None, length, refl, sym, ap, ◌∙◌, subst, arith, append_assoc, append-nil}
 use Rattle.std.specs.List.{All, AllPairs, list_any}
 use Rattle.std.proofs.lemmas.List.Elements.{All-nil, All-cons}
 use Rattle.std.proofs.lemmas.Bool.{cases_Bool}
@@ -21,7 +21,7 @@ use Rattle.scope_check.specs.Blocks.{Defining, channels, defining, defining_one,
 use Rattle.scope_check.specs.FaultList.{clash_if, clashes, is_spelled_in, repeated_if, repeats}
 use Rattle.scope_check.specs.Numbers.{Binder, binder, is_same, keys, in_params, index_of}
 use Rattle.scope_check.specs.Stands.{numbers, level}
-use Rattle.scope_check.proofs.Lists.{append-nil, none_left, none_right}
+use Rattle.scope_check.proofs.Lists.{none_left, none_right}
 use Rattle.scope_check.proofs.Among.{among-cons}
 use Rattle.scope_check.proofs.Sorts.{Has, has-left, has-right, Settled, settled, AllIn, tells, once-each}
 use Rattle.scope_check.proofs.TermBlock.{pairs-nil, pairs-cons, Patterned, all_patterned, place_words, all_place_words, HasAll, all-has, HasPlaces, all-places, location, Described, all-described, all-named, channels-binders, places-numbers}

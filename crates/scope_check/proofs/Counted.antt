@@ -3,18 +3,11 @@ use Rattle.std.proofs.Common.{◌≡◌, ◌+◌, Bool, true, false, cond, eqb, 
 use Rattle.std.specs.List.{list_any}
 use Rattle.std.specs.Str.{bytes_eq}
 use Rattle.std.specs.Cmp.Lexicographic.{bytes_decides}
+use Rattle.std.proofs.lemmas.Bool.{or_parts}
 use Rattle.std.proofs.lemmas.Bool.Decides.{nat_tests}
 use Rattle.scope_check.specs.Numbers.{Binder, is_same, firsts_after, index_of}
 use Rattle.scope_check.proofs.Lists.{any-append}
 use Rattle.scope_check.proofs.Counting.{Consecutive}
-
-or-false-left : (a b : Bool) → (a || b) ≡ false → a ≡ false
-or-false-left true b e = absurd cc
-or-false-left false b e = refl
-
-or-false-right : (a b : Bool) → (a || b) ≡ false → b ≡ false
-or-false-right true b e = absurd cc
-or-false-right false b e = e
 
 pub same-self : (b : Binder) → is_same b b ≡ true
 same-self b = grind (arith, nat_tests, (bytes_decides b.text b.text).1 refl)
@@ -23,8 +16,8 @@ same-self b = grind (arith, nat_tests, (bytes_decides b.text b.text).1 refl)
 pub index-behind : (front rest : List Binder) (b : Binder) → list_any (is_same b) front ≡ false → index_of (front ++ b ∷ rest) b ≡ length front
 index-behind [] rest b e = ap (λ v. cond v 0 (1 + index_of rest b)) (same-self b)
 index-behind (c ∷ front) rest b e =
-    ap (λ v. cond v 0 (1 + index_of (front ++ b ∷ rest) b)) (or-false-left (is_same b c) (list_any (is_same b) front) e)
-    ∙ omega (arith, index-behind front rest b (or-false-right (is_same b c) (list_any (is_same b) front) e))
+    ap (λ v. cond v 0 (1 + index_of (front ++ b ∷ rest) b)) (or_parts (is_same b c) (list_any (is_same b) front) e).0
+    ∙ omega (arith, index-behind front rest b (or_parts (is_same b c) (list_any (is_same b) front) e).1)
 
 -- what isn't among those that came isn't in the list so far
 abbrev pub Covers : List Binder → List Binder → Type 0
@@ -36,12 +29,12 @@ counted [] before out rest cover = tt
 counted (b ∷ bs) before out rest cover = by (list_any (is_same b) before) refl (counted bs (before ++ b ∷ []) out rest wider) (counted bs (before ++ b ∷ []) (out ++ b ∷ []) rest both)
   where
     wider : Covers (before ++ b ∷ []) out
-    wider = λ c e. cover c (or-false-left (list_any (is_same c) before) (list_any (is_same c) (b ∷ [])) (sym (any-append (is_same c) before (b ∷ [])) ∙ e))
+    wider = λ c e. cover c (or_parts (list_any (is_same c) before) (list_any (is_same c) (b ∷ [])) (sym (any-append (is_same c) before (b ∷ [])) ∙ e)).0
 
     both : Covers (before ++ b ∷ []) (out ++ b ∷ [])
     both = λ c e.
-        let a = sym (any-append (is_same c) before (b ∷ [])) ∙ e in
-        any-append (is_same c) out (b ∷ []) ∙ (λ i. cover c (or-false-left (list_any (is_same c) before) (list_any (is_same c) (b ∷ [])) a) i || or-false-right (list_any (is_same c) before) (list_any (is_same c) (b ∷ [])) a i)
+        let a = or_parts (list_any (is_same c) before) (list_any (is_same c) (b ∷ [])) (sym (any-append (is_same c) before (b ∷ [])) ∙ e) in
+        any-append (is_same c) out (b ∷ []) ∙ (λ i. cover c a.0 i || a.1 i)
 
     by : (v : Bool) → list_any (is_same b) before ≡ v
         → Consecutive (index_of (out ++ (firsts_after (before ++ b ∷ []) bs ++ rest))) (length out) (firsts_after (before ++ b ∷ []) bs)

@@ -1,7 +1,6 @@
 -- The tables of what came so far find exactly what stands twice.
-use Rattle.std.proofs.Common.{◌≡◌, ℕ, Bool, true, false, cond, ◌||◌, List, [], ◌∷◌, ◌++◌, Option, Some, None, refl, sym, ap, ◌∙◌, subst, is_some, append_assoc}
+use Rattle.std.proofs.Common.{◌≡◌, ℕ, Bool, true, false, cond, ◌||◌, List, [], ◌∷◌, ◌++◌, Option, Some, None, refl, sym, ap, ◌∙◌, subst, is_some, append_assoc, append-nil}
 use Rattle.std.specs.Str.{bytes_eq}
-use Rattle.std.specs.Cmp.Lexicographic.{bytes_decides}
 use Rattle.join_base.specs.declared.fault.Kind.{Kind}
 use Rattle.join_base.specs.declared.fault.Kind.TheVariants.{Scope4, Scope5}
 use Rattle.join_parse.specs.declared.word.Word.{Word}
@@ -15,7 +14,7 @@ use Rattle.scope_check.specs.Faults.{ons}
 use Rattle.scope_check.specs.FaultList.{clash_if, clashes, is_spelled_in, repeated_if, repeats, pattern_faults}
 use Rattle.scope_check.specs.Clashes.{clash_with, remember_if, remember, clashes_in, remember_all, repeats_in, channel_repeats, parameter_repeats}
 use Rattle.scope_check.specs.Twin.{Table}
-use Rattle.scope_check.proofs.Lists.{or_sort, first-append, or_entry, frame-append, spelled-append, append-nil}
+use Rattle.scope_check.proofs.Lists.{or_sort, first-append, or_entry, frame-append, frame-kept, spelled-append}
 
 abbrev new_entry : Sort → Entry
 new_entry s = record { sort = s; binder = 0 }
@@ -25,18 +24,8 @@ remember-finds : (text : List ℕ) (table : Table) (w : Word) (s : Sort)
     → in_frame text (remember table w s) ≡ or_entry (in_frame text table) (cond (bytes_eq text w.text) (Some (new_entry s)) None)
 remember-finds text table w s = by (in_frame w.text table) refl
   where
-    same : (e : Entry) → in_frame w.text table ≡ Some e → (b : Bool) → bytes_eq text w.text ≡ b → in_frame text table ≡ or_entry (in_frame text table) (cond b (Some (new_entry s)) None)
-    same e q true t =
-        let is : in_frame text table ≡ Some e = ap (λ x. in_frame x table) ((bytes_decides text w.text).0 t) ∙ q in
-        subst (λ o. o ≡ or_entry o (Some (new_entry s))) (sym is) refl
-    same e q false t = nothing (in_frame text table)
-      where
-        nothing : (o : Option Entry) → o ≡ or_entry o None
-        nothing None = refl
-        nothing (Some x) = refl
-
     by : (o : Option Entry) → in_frame w.text table ≡ o → in_frame text (remember_if (is_some (in_frame w.text table)) table w s) ≡ or_entry (in_frame text table) (cond (bytes_eq text w.text) (Some (new_entry s)) None)
-    by (Some e) q = ap (λ o. in_frame text (remember_if (is_some o) table w s)) q ∙ same e q (bytes_eq text w.text) refl
+    by (Some e) q = ap (λ o. in_frame text (remember_if (is_some o) table w s)) q ∙ frame-kept text table w e (new_entry s) q (bytes_eq text w.text) refl
     by None q = ap (λ o. in_frame text (remember_if (is_some o) table w s)) q ∙ frame-append text table ((w.text, new_entry s) ∷ [])
 
 abbrev sort_of : Option Entry → Option Sort

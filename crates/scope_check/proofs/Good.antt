@@ -1,11 +1,11 @@
 -- A tree with no fault stands for terms whose patterns, blocks and scopes are right.
-use Rattle.std.proofs.Common.{◌≡◌, ◌≢◌, ℕ, ◌+◌, ◌<◌, ◌≤◌, Bool, true, false, cond, ◌||◌, List, [], ◌∷◌, ◌++◌, Option, Some, None, length, refl, sym, ap, ◌∙◌, subst, arith}
+use Rattle.std.proofs.Common.{◌≡◌, ◌≢◌, ℕ, ◌+◌, ◌<◌, ◌≤◌, Bool, true, false, cond, List, [], ◌∷◌, ◌++◌, Option, Some, None, length, refl, sym, ap, ◌∙◌, subst, arith, append-nil}
 use Rattle.std.specs.List.{All, AllPairs, list_any}
+use Rattle.std.proofs.lemmas.Bool.{or_left, or_right}
 use Rattle.std.proofs.lemmas.List.Elements.{All-nil, All-cons}
 use Rattle.std.specs.Option.{unwrap_or}
 use Rattle.std.specs.Str.{bytes_eq}
 use Rattle.std.specs.Cmp.Lexicographic.{bytes_decides}
-use Rattle.join_base.specs.declared.fault.Kind.{Kind}
 use Rattle.join_base.specs.declared.fault.Kind.TheVariants.{Scope4, Scope5}
 use Rattle.join_parse.specs.declared.word.Word.{Word}
 use Rattle.join_parse.specs.declared.word.PatTree.{PatTree}
@@ -29,12 +29,12 @@ use Rattle.scope_check.specs.Faults.{ons}
 use Rattle.scope_check.specs.FaultList.{used_by, use_faults, clashes, is_spelled_in, repeated_if, repeats, pattern_faults, process_faults, processes_faults, definition_faults, level_faults}
 use Rattle.scope_check.specs.Numbers.{Binder, binder, is_same, keys, in_params, in_patterns, in_process, in_processes, in_definition, in_definitions, index_of}
 use Rattle.scope_check.specs.Stands.{together, ref_as, ref_to, ref_of, refs_of, numbers, pats_of, process, members, definition, level}
-use Rattle.scope_check.proofs.Lists.{append-nil, none_left, none_right, spelled-append, same-spelling}
+use Rattle.scope_check.proofs.Lists.{keys-append, none_left, none_right, spelled-append, same-spelling}
 use Rattle.scope_check.proofs.Among.{among-here, among-front, among-back}
 use Rattle.scope_check.proofs.Tables.{IsBinding}
 use Rattle.scope_check.proofs.Uses.{faults-append}
 use Rattle.scope_check.proofs.Size.{length-numbers, length-refs}
-use Rattle.scope_check.proofs.Sorts.{AllIn, in_front, in_back, in_both, tells, once-each}
+use Rattle.scope_check.proofs.Sorts.{repeated-none, AllIn, in_front, in_back, in_both, tells, once-each}
 use Rattle.scope_check.proofs.TermBlock.{pairs-nil, pairs-cons, bound_at, level-block, params-numbers, params-bound}
 use Rattle.scope_check.proofs.BlockFacts.{block-fine, locs-all}
 
@@ -179,30 +179,18 @@ module _ (bs : List Binder) (seen : ℕ) where
   channels-in own k at [] h = tt
   channels-in own k at (p ∷ ps) h = (h.0, channels-in own k at ps (in_back bs (in_params k p.params) (in_patterns own k ps) h.1))
 
-  or-left : (a b : Bool) → a ≡ true → (a || b) ≡ true
-  or-left true b e = refl
-  or-left false b e = absurd cc
-
-  or-right : (a b : Bool) → b ≡ true → (a || b) ≡ true
-  or-right true b e = refl
-  or-right false b e = e
-
-  if-none : (b : Bool) (kind : Kind) (w : Word) → repeated_if b kind w ≡ [] → b ≡ false
-  if-none true kind w e = absurd cc
-  if-none false kind w e = refl
-
   other-channels : (own k : ℕ) (w : Word) (before : List Word) (ps : List PatTree) → list_any (is_same (binder own w)) bs ≡ true → is_spelled_in w.text before ≡ true
       → repeats Scope5 before (ons ps) ≡ [] → All (λ q. ref.Binder (index_of bs (binder own w)) ≢ q.on) (pats_of (index_of bs) own k ps)
   other-channels own k w before [] there h none = All-nil (λ (q : Pat). ref.Binder (index_of bs (binder own w)) ≢ q.on)
   other-channels own k w before (p ∷ ps) there h none =
-      let now : is_spelled_in p.on.text before ≡ false = if-none (is_spelled_in p.on.text before) Scope5 p.on (none_left _ (repeats Scope5 (before ++ p.on ∷ []) (ons ps)) none) in
+      let now : is_spelled_in p.on.text before ≡ false = repeated-none (is_spelled_in p.on.text before) Scope5 p.on (none_left _ (repeats Scope5 (before ++ p.on ∷ []) (ons ps)) none) in
       All-cons (λ (q : Pat). ref.Binder (index_of bs (binder own w)) ≢ q.on) (record { on = ref.Binder (index_of bs (binder own p.on)); params = numbers (index_of bs) k p.params }) (pats_of (index_of bs) own k ps)
       (λ e.
       let n : index_of bs (binder own w) ≡ index_of bs (binder own p.on) = cc in
       let same : w.text ≡ p.on.text = tells bs own w.text p.on.text there n in
       let bad : is_spelled_in p.on.text before ≡ true = ap (λ x. is_spelled_in x before) (sym same) ∙ h in
       absurd cc)
-      (other-channels own k w (before ++ p.on ∷ []) ps there (spelled-append w.text before p.on ∙ or-left (is_spelled_in w.text before) (bytes_eq w.text p.on.text) h)
+      (other-channels own k w (before ++ p.on ∷ []) ps there (spelled-append w.text before p.on ∙ or_left (is_spelled_in w.text before) (bytes_eq w.text p.on.text) h)
       (none_right (repeated_if (is_spelled_in p.on.text before) Scope5 p.on) (repeats Scope5 (before ++ p.on ∷ []) (ons ps)) none))
 
   channels-apart : (own k : ℕ) (before : List Word) (ps : List PatTree) → AllIn bs (in_patterns own k ps) → repeats Scope5 before (ons ps) ≡ [] → AllPairs (λ p q. p.on ≢ q.on) (pats_of (index_of bs) own k ps)
@@ -210,7 +198,7 @@ module _ (bs : List Binder) (seen : ℕ) where
   channels-apart own k before (p ∷ ps) h none =
       let rest = none_right (repeated_if (is_spelled_in p.on.text before) Scope5 p.on) (repeats Scope5 (before ++ p.on ∷ []) (ons ps)) none in
       pairs-cons (λ (p q : Pat). p.on ≢ q.on) (record { on = ref.Binder (index_of bs (binder own p.on)); params = numbers (index_of bs) k p.params }) (pats_of (index_of bs) own k ps)
-      (other-channels own k p.on (before ++ p.on ∷ []) ps h.0 (spelled-append p.on.text before p.on ∙ or-right (is_spelled_in p.on.text before) (bytes_eq p.on.text p.on.text) (same-spelling p.on.text)) rest)
+      (other-channels own k p.on (before ++ p.on ∷ []) ps h.0 (spelled-append p.on.text before p.on ∙ or_right (is_spelled_in p.on.text before) (bytes_eq p.on.text p.on.text) (same-spelling p.on.text)) rest)
       (channels-apart own k (before ++ p.on ∷ []) ps (in_back bs (in_params k p.params) (in_patterns own k ps) h.1) rest)
 
   short-fine : (own k : ℕ) (ps : List PatTree) → g.AreShort ps → All (λ p. length p.params ≤ 255) (pats_of (index_of bs) own k ps)
@@ -232,10 +220,6 @@ module _ (bs : List Binder) (seen : ℕ) where
   }
 
   -- ---- the binders of a block
-
-  keys-append : (k : ℕ) (xs ys : List Defining) → keys k (xs ++ ys) ≡ keys k xs ++ keys k ys
-  keys-append k [] ys = refl
-  keys-append k (x ∷ xs) ys = ap (λ l. binder k x.0 ∷ l) (keys-append k xs ys)
 
   mutual
     one-in : (d : s.Definition) (own k at next : ℕ) → AllIn bs (in_definition own k d) → AllIn bs (keys own (defining_one at next d))

@@ -1,5 +1,5 @@
 -- Spellings in lists that are joined.
-use Rattle.std.proofs.Common.{◌≡◌, ℕ, Bool, true, false, cond, ◌||◌, List, [], ◌∷◌, ◌++◌, Option, Some, None, refl, ap, ◌∙◌}
+use Rattle.std.proofs.Common.{◌≡◌, ℕ, Bool, true, false, cond, ◌||◌, List, [], ◌∷◌, ◌++◌, Option, Some, None, refl, sym, ap, ◌∙◌, subst}
 use Rattle.std.specs.Str.{bytes_eq}
 use Rattle.std.specs.List.{list_any}
 use Rattle.std.specs.Cmp.Lexicographic.{bytes_decides}
@@ -11,6 +11,7 @@ use Rattle.scope_names.specs.Frames.{in_frame}
 use Rattle.scope_check.specs.declared.fault.Fault.{Fault}
 use Rattle.scope_check.specs.Blocks.{Defining, parameters, first_in}
 use Rattle.scope_check.specs.FaultList.{is_spelled_in}
+use Rattle.scope_check.specs.Numbers.{binder, keys}
 use Rattle.scope_check.specs.Twin.{Table}
 
 abbrev pub or_sort : Option Sort → Option Sort → Option Sort
@@ -39,6 +40,18 @@ frame-append text (x ∷ xs) ys = by (bytes_eq text x.0) (frame-append text xs y
     by true ih = refl
     by false ih = ih
 
+-- a word that stands in a table already changes no answer
+pub frame-kept : (text : List ℕ) (table : Table) (w : Word) (old new : Entry) → in_frame w.text table ≡ Some old → (b : Bool) → bytes_eq text w.text ≡ b
+    → in_frame text table ≡ or_entry (in_frame text table) (cond b (Some new) None)
+frame-kept text table w old new q true t =
+    let is : in_frame text table ≡ Some old = ap (λ x. in_frame x table) ((bytes_decides text w.text).0 t) ∙ q in
+    subst (λ o. o ≡ or_entry o (Some new)) (sym is) refl
+frame-kept text table w old new q false t = nothing (in_frame text table)
+  where
+    nothing : (o : Option Entry) → o ≡ or_entry o None
+    nothing None = refl
+    nothing (Some x) = refl
+
 pub any-append : {A : Type 0} (f : A → Bool) (xs ys : List A) → list_any f (xs ++ ys) ≡ (list_any f xs || list_any f ys)
 any-append f [] ys = refl
 any-append f (x ∷ xs) ys = by (f x) (any-append f xs ys)
@@ -58,12 +71,12 @@ pub parameters-append : (xs ys : List Word) → parameters (xs ++ ys) ≡ parame
 parameters-append [] ys = refl
 parameters-append (x ∷ xs) ys = ap (λ l. (x, Parameter) ∷ l) (parameters-append xs ys)
 
+pub keys-append : (k : ℕ) (xs ys : List Defining) → keys k (xs ++ ys) ≡ keys k xs ++ keys k ys
+keys-append k [] ys = refl
+keys-append k (x ∷ xs) ys = ap (λ l. binder k x.0 ∷ l) (keys-append k xs ys)
+
 pub same-spelling : (text : List ℕ) → bytes_eq text text ≡ true
 same-spelling text = (bytes_decides text text).1 refl
-
-pub append-nil : {X : Type 0} (xs : List X) → xs ++ [] ≡ xs
-append-nil [] = refl
-append-nil (x ∷ xs) = ap (λ l. x ∷ l) (append-nil xs)
 
 -- no fault in two lists
 pub none_left : (xs ys : List Fault) → xs ++ ys ≡ [] → xs ≡ []

@@ -1,8 +1,8 @@
 -- The outermost block: its names are numbered first, and then all that its bodies bind.
-use Rattle.std.proofs.Common.{◌≡◌, ℕ, ◌+◌, Bool, true, false, cond, ◌||◌, List, [], ◌∷◌, ◌++◌, Option, Some, None, length, drop, refl, sym, ap, ◌∙◌, subst, arith, append_assoc, is_some}
+use Rattle.std.proofs.Common.{◌≡◌, ℕ, ◌+◌, Bool, true, false, cond, ◌||◌, List, [], ◌∷◌, ◌++◌, Option, Some, None, length, drop, refl, sym, ap, ◌∙◌, subst, arith, append_assoc, append-nil, is_some}
+use Rattle.std.proofs.lemmas.Bool.{or_parts}
 use Rattle.std.specs.Str.{bytes_eq}
 use Rattle.std.specs.List.{list_any}
-use Rattle.std.specs.Cmp.Lexicographic.{bytes_decides}
 use Rattle.join_parse.specs.declared.word.Word.{Word}
 use Rattle.join_parse.specs.declared.word.SeenTree.{SeenTree}
 use Rattle.join_parse.specs.Grammar.{TreeOfText}
@@ -16,7 +16,7 @@ use Rattle.scope_check.specs.Stands.{texts}
 use Rattle.scope_check.specs.Naming.{Named, numbered_as, name_if, name_one, name_all, Level, walk_level}
 use Rattle.scope_check.specs.Twin.{Table}
 use Rattle.scope_check.proofs.Counting.{Consecutive, Counts}
-use Rattle.scope_check.proofs.Lists.{or_sort, first-append, or_entry, frame-append, any-append, append-nil}
+use Rattle.scope_check.proofs.Lists.{or_sort, first-append, or_entry, frame-append, frame-kept, any-append}
 use Rattle.scope_check.proofs.Tables.{StandsFor, entered, LevelFits}
 use Rattle.scope_check.proofs.Steps.{key, Before, before-more, name-step}
 use Rattle.scope_check.proofs.Outside.{Outside, outside-cons}
@@ -32,18 +32,8 @@ name-finds : (text : List ℕ) (spell : List (List ℕ)) (table : Table) (w : Wo
     → in_frame text (name_one spell table w s).table ≡ or_entry (in_frame text table) (cond (bytes_eq text w.text) (Some (entry_as spell s)) None)
 name-finds text spell table w s = by (in_frame w.text table) refl
   where
-    same : (e : Entry) → in_frame w.text table ≡ Some e → (b : Bool) → bytes_eq text w.text ≡ b → in_frame text table ≡ or_entry (in_frame text table) (cond b (Some (entry_as spell s)) None)
-    same e q true t =
-        let is : in_frame text table ≡ Some e = ap (λ x. in_frame x table) ((bytes_decides text w.text).0 t) ∙ q in
-        subst (λ o. o ≡ or_entry o (Some (entry_as spell s))) (sym is) refl
-    same e q false t = nothing (in_frame text table)
-      where
-        nothing : (o : Option Entry) → o ≡ or_entry o None
-        nothing None = refl
-        nothing (Some x) = refl
-
     by : (o : Option Entry) → in_frame w.text table ≡ o → in_frame text (name_if (is_some (in_frame w.text table)) spell table w s).table ≡ or_entry (in_frame text table) (cond (bytes_eq text w.text) (Some (entry_as spell s)) None)
-    by (Some e) q = ap (λ o. in_frame text (name_if (is_some o) spell table w s).table) q ∙ same e q (bytes_eq text w.text) refl
+    by (Some e) q = ap (λ o. in_frame text (name_if (is_some o) spell table w s).table) q ∙ frame-kept text table w e (entry_as spell s) q (bytes_eq text w.text) refl
     by None q = ap (λ o. in_frame text (name_if (is_some o) spell table w s).table) q ∙ frame-append text table ((w.text, entry_as spell s) ∷ [])
 
 observed-spell : (spell : List (List ℕ)) (table : Table) (w : Word) (m i : ℕ) → (name_one spell table w (Observed m i)).spell ≡ spell
@@ -116,10 +106,6 @@ name-all-append : (xs ys : List Defining) (spell : List (List ℕ)) (table : Tab
 name-all-append [] ys spell table = refl
 name-all-append (x ∷ xs) ys spell table = let a = name_one spell table x.0 x.1 in name-all-append xs ys a.spell a.table
 
-keys-append : (k : ℕ) (xs ys : List Defining) → keys k (xs ++ ys) ≡ keys k xs ++ keys k ys
-keys-append k [] ys = refl
-keys-append k (x ∷ xs) ys = ap (λ l. binder k x.0 ∷ l) (keys-append k xs ys)
-
 -- the binders of a list stand before as its names do
 before-keys : (ds : List Defining) (k : ℕ) (before : List Binder) (names : List Defining) → Before before k names → Before (before ++ keys k ds) k (names ++ ds)
 before-keys [] k before names b = subst (λ l. Before l k (names ++ [])) (sym (append-nil before)) (subst (Before before k) (sym (append-nil names)) b)
@@ -132,22 +118,14 @@ keys-outside : (ds : List Defining) (j k : ℕ) → (j ≡ k → ⊥) → Outsid
 keys-outside [] j k o = λ text. refl
 keys-outside (d ∷ ds) j k o = outside-cons j k d.0 (keys k ds) o (keys-outside ds j k o)
 
-pub or-false-left : (a b : Bool) → (a || b) ≡ false → a ≡ false
-or-false-left true b e = absurd cc
-or-false-left false b e = refl
-
-pub or-false-right : (a b : Bool) → (a || b) ≡ false → b ≡ false
-or-false-right true b e = absurd cc
-or-false-right false b e = e
-
 -- what isn't in a list isn't among its first occurrences
 pub firsts-within : (bs before : List Binder) (b : Binder) → list_any (is_same b) bs ≡ false → list_any (is_same b) (firsts_after before bs) ≡ false
 firsts-within [] before b e = refl
-firsts-within (c ∷ bs) before b e = by (list_any (is_same c) before) (firsts_after (before ++ c ∷ []) bs) (firsts-within bs (before ++ c ∷ []) b (or-false-right (is_same b c) (list_any (is_same b) bs) e))
+firsts-within (c ∷ bs) before b e = by (list_any (is_same c) before) (firsts_after (before ++ c ∷ []) bs) (firsts-within bs (before ++ c ∷ []) b (or_parts (is_same b c) (list_any (is_same b) bs) e).1)
   where
     by : (v : Bool) (more : List Binder) → list_any (is_same b) more ≡ false → list_any (is_same b) (cond v more (c ∷ more)) ≡ false
     by true more ih = ih
-    by false more ih = (λ i. or-false-left (is_same b c) (list_any (is_same b) bs) e i || ih i)
+    by false more ih = (λ i. (or_parts (is_same b c) (list_any (is_same b) bs) e).0 i || ih i)
 
 consecutive-append : (number : Binder → ℕ) (xs ys : List Binder) (n : ℕ) → Consecutive number n xs → Consecutive number (n + length xs) ys → Consecutive number n (xs ++ ys)
 consecutive-append number [] ys n a b = let e : n + 0 ≡ n = omega arith in subst (λ m. Consecutive number m ys) e b
@@ -165,7 +143,7 @@ numbers-other t =
     (counted (all_binding t) (observed t ++ site_names t) (site_level t) [] covers)
   where
     covers : Covers (observed t ++ site_names t) (site_level t)
-    covers b e = firsts-within (site_names t) (observed t) b (or-false-right (list_any (is_same b) (observed t)) (list_any (is_same b) (site_names t)) (sym (any-append (is_same b) (observed t) (site_names t)) ∙ e))
+    covers b e = firsts-within (site_names t) (observed t) b (or_parts (list_any (is_same b) (observed t)) (list_any (is_same b) (site_names t)) (sym (any-append (is_same b) (observed t) (site_names t)) ∙ e)).1
 
 texts-append : (xs ys : List Binder) → texts (xs ++ ys) ≡ texts xs ++ texts ys
 texts-append [] ys = refl

@@ -1,5 +1,5 @@
 -- A block's own words stand in it, and a list of tables is read from its place on.
-use Rattle.std.proofs.Common.{◌≡◌, ℕ, zero, suc, ◌+◌, Bool, true, false, cond, List, [], ◌∷◌, ◌++◌, Option, Some, None, length, get_or, drop, refl, sym, ap, ◌∙◌, subst, arith, append_assoc}
+use Rattle.std.proofs.Common.{◌≡◌, ℕ, zero, suc, ◌+◌, Bool, true, false, cond, List, [], ◌∷◌, ◌++◌, Option, Some, None, length, get_or, drop, refl, sym, ap, ◌∙◌, subst, arith, append_assoc, append-nil}
 use Rattle.std.specs.Str.{bytes_eq}
 use Rattle.std.specs.Cmp.Lexicographic.{bytes_decides}
 use Rattle.join_parse.specs.declared.word.Word.{Word}
@@ -10,7 +10,7 @@ use Rattle.scope_names.specs.declared.scope.Sort.TheVariants.{Channel, Location,
 use Rattle.scope_check.specs.Blocks.{Defining, channels, params, parameters, defining, defining_one, places_of, first_in}
 use Rattle.scope_check.specs.Numbers.{Binder}
 use Rattle.scope_check.specs.Twin.{Table}
-use Rattle.scope_check.proofs.Lists.{first-append, or_sort, parameters-append, append-nil}
+use Rattle.scope_check.proofs.Lists.{first-append, or_sort, parameters-append}
 use Rattle.scope_check.proofs.Tables.{IsBinding, Defined, AllDefined, PatsDefined, OwnDefined, AllOwnDefined}
 
 pub drop-suc : (k : ℕ) (ts : List Table) (t : Table) (rest : List Table) → drop k ts ≡ t ∷ rest → drop (suc k) ts ≡ rest

@@ -1,8 +1,8 @@
 -- A tree with no fault stands for a program.
-use Rattle.std.proofs.Common.{◌≡◌, ℕ, zero, suc, ◌+◌, ◌<◌, ◌≤◌, ◌⊎◌, ◌↔◌, inl, inr, Bool, true, false, cond, eqb, ◌||◌, ◌&&◌, List, [], ◌∷◌, ◌++◌, Option, Some, None, length, drop, nat_lt, refl, sym, ap, ◌∙◌, subst, arith}
+use Rattle.std.proofs.Common.{◌≡◌, ℕ, zero, suc, ◌+◌, ◌<◌, ◌≤◌, ◌⊎◌, ◌↔◌, inl, inr, Bool, true, false, cond, eqb, ◌||◌, ◌&&◌, List, [], ◌∷◌, ◌++◌, Option, Some, None, length, drop, nat_lt, refl, sym, ap, ◌∙◌, subst, arith, append-nil}
 use Rattle.std.specs.List.{All, list_any}
 use Rattle.std.proofs.lemmas.List.Elements.{All-nil, All-cons}
-use Rattle.std.proofs.lemmas.Bool.{cases_Bool, or_cases}
+use Rattle.std.proofs.lemmas.Bool.{cases_Bool, or_cases, or_right}
 use Rattle.join_parse.specs.declared.word.Word.{Word}
 use Rattle.join_parse.specs.declared.word.SeenTree.{SeenTree}
 use Rattle.join_parse.specs.declared.tree.PlaceTree.{PlaceTree}
@@ -29,7 +29,7 @@ use Rattle.scope_check.specs.FaultList.{use_faults, clashes, processes_faults, d
 use Rattle.scope_check.specs.Numbers.{Binder, binder, is_same, firsts_after, keys, observed, site_names, all_binding, site_level, others, binders, index_of, in_params, in_patterns, in_processes, in_definition, in_definitions}
 use Rattle.scope_check.specs.Stands.{together, members, level, site_terms, seen_decls, texts, program}
 use Rattle.scope_check.specs.Checked.{most_sites}
-use Rattle.scope_check.proofs.Lists.{append-nil, none_left, none_right, any-append, or-false}
+use Rattle.scope_check.proofs.Lists.{keys-append, none_left, none_right, any-append, or-false}
 use Rattle.scope_check.proofs.Among.{among-here, among-cons, among-front, among-back}
 use Rattle.scope_check.proofs.Counting.{Consecutive}
 use Rattle.scope_check.proofs.Counted.{same-self, same-is}
@@ -107,11 +107,7 @@ member-first x (z ∷ zs) before e = by (is_same x z) refl e (member-first x zs 
 
     later : (v : Bool) → (list_any (is_same x) (firsts_after (before ++ z ∷ []) zs) ≡ true) → list_any (is_same x) (cond v (firsts_after (before ++ z ∷ []) zs) (z ∷ firsts_after (before ++ z ∷ []) zs)) ≡ true
     later true q = q
-    later false q = or-right (is_same x z) (list_any (is_same x) (firsts_after (before ++ z ∷ []) zs)) q
-      where
-        or-right : (a b : Bool) → b ≡ true → (a || b) ≡ true
-        or-right true b e = refl
-        or-right false b e = e
+    later false q = or_right (is_same x z) (list_any (is_same x) (firsts_after (before ++ z ∷ []) zs)) q
 
     now : is_same x z ≡ true → (list_any (is_same x) before ≡ true) ⊎ (list_any (is_same x) (cond (list_any (is_same z) before) (firsts_after (before ++ z ∷ []) zs) (z ∷ firsts_after (before ++ z ∷ []) zs)) ≡ true)
     now q = here (list_any (is_same z) before) refl
@@ -132,21 +128,13 @@ member-first x (z ∷ zs) before e = by (is_same x z) refl e (member-first x zs 
 all-in-from : (bs zs : List Binder) → ((x : Binder) → list_any (is_same x) zs ≡ true → list_any (is_same x) bs ≡ true) → AllIn bs zs
 all-in-from bs [] h = tt
 all-in-from bs (z ∷ zs) h =
-    (h z (ap (λ b. b || list_any (is_same z) zs) (same-self z)), all-in-from bs zs (λ x q. h x (later (is_same x z) (list_any (is_same x) zs) q)))
-  where
-    later : (a b : Bool) → b ≡ true → (a || b) ≡ true
-    later true b e = refl
-    later false b e = e
+    (h z (ap (λ b. b || list_any (is_same z) zs) (same-self z)), all-in-from bs zs (λ x q. h x (or_right (is_same x z) (list_any (is_same x) zs) q)))
 
 any-left : (x : Binder) (xs ys : List Binder) → list_any (is_same x) xs ≡ true → list_any (is_same x) (xs ++ ys) ≡ true
 any-left x xs ys e = any-append (is_same x) xs ys ∙ ap (λ b. b || list_any (is_same x) ys) e
 
 any-right : (x : Binder) (xs ys : List Binder) → list_any (is_same x) ys ≡ true → list_any (is_same x) (xs ++ ys) ≡ true
-any-right x xs ys e = any-append (is_same x) xs ys ∙ ap (λ b. list_any (is_same x) xs || b) e ∙ or-true (list_any (is_same x) xs)
-  where
-    or-true : (b : Bool) → (b || true) ≡ true
-    or-true true = refl
-    or-true false = refl
+any-right x xs ys e = any-append (is_same x) xs ys ∙ or_right (list_any (is_same x) xs) (list_any (is_same x) ys) e
 
 -- a binder of a list of names is one of the names
 key-of : (k : ℕ) (ds : List Defining) (x : Binder) → list_any (is_same x) (keys k ds) ≡ true → (d : Defining) × Has d.0.text d.1 ds × (x ≡ binder k d.0)
@@ -160,10 +148,6 @@ key-of k (d ∷ ds) x e = by (is_same x (binder k d.0)) refl e (key-of k ds x)
     by false q r ih = let i = ih r in (i.0, inr i.1, i.2)
 
 -- ---- the binders of the sites' own scope
-
-keys-append : (k : ℕ) (xs ys : List Defining) → keys k (xs ++ ys) ≡ keys k xs ++ keys k ys
-keys-append k [] ys = refl
-keys-append k (x ∷ xs) ys = ap (λ l. binder k x.0 ∷ l) (keys-append k xs ys)
 
 zero-patterns : (ps : List PatTree) (k at : ℕ) (text : List ℕ) → 1 ≤ k → list_any (is_same (key 0 text)) (in_patterns 0 k ps) ≡ list_any (is_same (key 0 text)) (keys 0 (channels at ps))
 zero-patterns [] k at text h = refl
@@ -256,11 +240,7 @@ numbered-at number [] n b c h = absurd (omega arith)
 numbered-at number (x ∷ xs) n zero c h = record { which = x; there = ap (λ b. b || list_any (is_same x) xs) (same-self x); is = c.0 ∙ omega arith }
 numbered-at number (x ∷ xs) n (suc b) c h =
     let r = numbered-at number xs (n + 1) b c.1 (omega arith) in
-    record { which = r.which; there = later (is_same r.which x) (list_any (is_same r.which) xs) r.there; is = r.is ∙ omega arith }
-  where
-    later : (a b : Bool) → b ≡ true → (a || b) ≡ true
-    later true b e = refl
-    later false b e = e
+    record { which = r.which; there = or_right (is_same r.which x) (list_any (is_same r.which) xs) r.there; is = r.is ∙ omega arith }
 
 has-bound : (number : Binder → ℕ) (k : ℕ) (ds : List Defining) (text : List ℕ) (sort : Sort) → AllBinding ds → Has text sort ds → is_among (bound_at number k ds) (number (record { scope = k; text = text })) ≡ true
 has-bound number k [] text sort a h = absurd h
@@ -279,12 +259,8 @@ among-key : (number : Binder → ℕ) (k : ℕ) (ds : List Defining) (b : ℕ) �
 among-key number k [] b e = absurd cc
 among-key number k (d ∷ ds) b e = by d.1 e (among-key number k ds b)
   where
-    later : (a b : Bool) → b ≡ true → (a || b) ≡ true
-    later true b e = refl
-    later false b e = e
-
     more : Numbered number (keys k ds) b → Numbered number (keys k (d ∷ ds)) b
-    more r = record { which = r.which; there = later (is_same r.which (binder k d.0)) (list_any (is_same r.which) (keys k ds)) r.there; is = r.is }
+    more r = record { which = r.which; there = or_right (is_same r.which (binder k d.0)) (list_any (is_same r.which) (keys k ds)) r.there; is = r.is }
 
     one : is_among (number (binder k d.0) ∷ bound_at number k ds) b ≡ true → (is_among (bound_at number k ds) b ≡ true → Numbered number (keys k ds) b) → Numbered number (keys k (d ∷ ds)) b
     one q ih = elim (among-cons (number (binder k d.0)) (bound_at number k ds) b q) [

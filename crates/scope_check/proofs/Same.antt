@@ -1,5 +1,6 @@
 -- The list of faults has exactly the members of the set.
-use Rattle.std.proofs.Common.{◌≡◌, ◌≢◌, inl, inr, ℕ, zero, suc, ◌≤◌, Bool, true, false, ◌||◌, List, [], ◌∷◌, ◌++◌, length, drop, refl, sym, ap, ◌∙◌, subst, arith, Option, Some, None, eqb, append_assoc}
+use Rattle.std.proofs.Common.{◌≡◌, ◌≢◌, inl, inr, ℕ, zero, suc, ◌≤◌, Bool, true, false, ◌||◌, List, [], ◌∷◌, ◌++◌, length, drop, refl, sym, ap, ◌∙◌, subst, arith, Option, Some, None, eqb, append_assoc, append-nil}
+use Rattle.std.proofs.lemmas.Bool.{or_right}
 use Rattle.std.proofs.lemmas.Bool.Decides.{nat_tests}
 use Rattle.std.specs.Str.{bytes_eq}
 use Rattle.std.specs.Cmp.Lexicographic.{bytes_decides}
@@ -18,7 +19,6 @@ use Rattle.scope_check.specs.Blocks.{Defining, params, block, sites_of, outermos
 use Rattle.scope_check.specs.Uses.{Manner, called, headed, sent, Use, uses_of, Declared, a_block, a_join, declared, all_declared, definition_declared, level_declared, declared_of}
 use Rattle.scope_check.specs.Faults.{Member, stands, WrongAs, WrongBy, WrongAfter, Repeated, ons, WrongDeclared, WrongSite, IsFault, of_use, of_declared, of_site}
 use Rattle.scope_check.specs.FaultList.{fault, unless, used_as, used_by, use_faults, clash, clash_if, clashes, is_spelled_in, repeated_if, repeats, pattern_faults, process_faults, processes_faults, definition_faults, level_faults, declared_faults, many, fault_list}
-use Rattle.scope_check.proofs.Lists.{append-nil}
 use Rattle.scope_check.proofs.Firsts.{In, in-append, in-left, in-right, first-of-set}
 
 -- ---- members of lists
@@ -184,11 +184,7 @@ any-only text (w ∷ ws) e = by (bytes_eq text w.text) refl (any-only text ws) e
 
 any-at : (text : List ℕ) (w : Word) (before after : List Word) → text ≡ w.text → is_spelled_in text (before ++ w ∷ after) ≡ true
 any-at text w [] after e = ap (λ b. b || is_spelled_in text after) ((bytes_decides text w.text).1 e)
-any-at text w (x ∷ before) after e = by (bytes_eq text x.text) (any-at text w before after e)
-  where
-    by : (b : Bool) → is_spelled_in text (before ++ w ∷ after) ≡ true → (b || is_spelled_in text (before ++ w ∷ after)) ≡ true
-    by true r = refl
-    by false r = r
+any-at text w (x ∷ before) after e = or_right (bytes_eq text x.text) (is_spelled_in text (before ++ w ∷ after)) (any-at text w before after e)
 
 any-all : (text : List ℕ) (w : Word) (ws : List Word) → Member w ws → text ≡ w.text → is_spelled_in text ws ≡ true
 any-all text w ws (stands before after e) q = ap (is_spelled_in text) e ∙ any-at text w before after q

@@ -1,5 +1,5 @@
 -- One site after the other.
-use Rattle.std.proofs.Common.{◌≡◌, ℕ, zero, suc, ◌+◌, ◌<◌, List, [], ◌∷◌, ◌++◌, Option, ◌≤◌, length, get_or, drop, refl, sym, ap, ◌∙◌, subst, arith, append_assoc}
+use Rattle.std.proofs.Common.{◌≡◌, ℕ, zero, suc, ◌+◌, ◌<◌, List, [], ◌∷◌, ◌++◌, Option, ◌≤◌, length, get_or, drop, refl, sym, ap, ◌∙◌, subst, arith, append_assoc, append-nil}
 use Rattle.join_parse.specs.declared.tree.PlaceTree.{PlaceTree}
 use Rattle.join_parse.specs.Source as s
 use Rattle.chem_model.specs.Process as t
@@ -7,7 +7,6 @@ use Rattle.scope_check.specs.declared.fault.Fault.{Fault}
 use Rattle.scope_check.specs.Order.{first_of}
 use Rattle.scope_check.specs.Blocks.{place_of, places_of, sites_of, scopes_in, scopes_in_all}
 use Rattle.scope_check.specs.Stands.{together}
-use Rattle.scope_check.proofs.Lists.{append-nil}
 use Rattle.scope_check.specs.Twin.{Table, members_in, all_uses_in}
 use Rattle.scope_check.specs.Naming.{walk_one, walk_level}
 

@@ -1,6 +1,6 @@
 -- A block with no clash gives each spelling one sort, and words without a repetition have different numbers.
-use Rattle.std.proofs.Common.{◌≡◌, ℕ, ◌+◌, ◌≤◌, ◌⊎◌, inl, inr, Bool, true, false, cond, eqb, ◌||◌, List, [], ◌∷◌, ◌++◌, Option, Some, None, refl, sym, ap, ◌∙◌, subst, arith, append_assoc}
-use Rattle.std.proofs.lemmas.Bool.{cases_eq}
+use Rattle.std.proofs.Common.{◌≡◌, ℕ, ◌+◌, ◌≤◌, ◌⊎◌, inl, inr, Bool, true, false, cond, eqb, List, [], ◌∷◌, ◌++◌, Option, Some, None, refl, sym, ap, ◌∙◌, subst, arith, append_assoc, append-nil}
+use Rattle.std.proofs.lemmas.Bool.{cases_eq, or_left, or_right}
 use Rattle.std.proofs.lemmas.Bool.Decides.{nat_tests}
 use Rattle.std.specs.Str.{bytes_eq}
 use Rattle.std.specs.List.{list_any}
@@ -16,7 +16,7 @@ use Rattle.scope_check.specs.Blocks.{Defining, first_in}
 use Rattle.scope_check.specs.FaultList.{fault, unless, clash, clash_if, clashes, is_spelled_in, repeated_if, repeats}
 use Rattle.scope_check.specs.Numbers.{Binder, is_same, in_params, index_of}
 use Rattle.scope_check.specs.Stands.{numbers}
-use Rattle.scope_check.proofs.Lists.{or_sort, first-append, spelled-append, append-nil, none_left, none_right}
+use Rattle.scope_check.proofs.Lists.{or_sort, first-append, spelled-append, none_left, none_right}
 use Rattle.scope_check.proofs.Counted.{index-tells}
 use Rattle.scope_check.proofs.Size.{sum-cons}
 
@@ -102,13 +102,9 @@ settled names none = settled-all [] names (λ text sort h. absurd h) none
 
 -- ---- lists of numbers
 
-or-true : (a b : Bool) → b ≡ true → (a || b) ≡ true
-or-true true b e = refl
-or-true false b e = e
-
-or-left : (a b : Bool) → a ≡ true → (a || b) ≡ true
-or-left true b e = refl
-or-left false b e = absurd cc
+pub repeated-none : (b : Bool) (kind : Kind) (w : Word) → repeated_if b kind w ≡ [] → b ≡ false
+repeated-none true kind w e = absurd cc
+repeated-none false kind w e = refl
 
 pub times-cons : (n : ℕ) (ns : List ℕ) (b : ℕ) → times (n ∷ ns) b ≡ cond (eqb n b) 1 0 + times ns b
 times-cons n ns b = sum-cons (λ c. cond (eqb c b) 1 0) n ns
@@ -137,10 +133,6 @@ module _ (bs : List Binder) where
       → index_of bs (record { scope = k; text = text }) ≡ index_of bs (record { scope = k; text = other }) → text ≡ other
   tells k text other h e = ap (λ (b : Binder). b.text) (index-tells bs (record { scope = k; text = text }) (record { scope = k; text = other }) h e)
 
-  if-none : (b : Bool) (kind : Kind) (w : Word) → repeated_if b kind w ≡ [] → b ≡ false
-  if-none true kind w e = absurd cc
-  if-none false kind w e = refl
-
   abbrev number_at : ℕ → List ℕ → ℕ
   number_at k text = index_of bs (record { scope = k; text = text })
 
@@ -149,11 +141,11 @@ module _ (bs : List Binder) where
       → ((b : ℕ) → times (numbers (index_of bs) k ws) b ≤ 1) × ((text : List ℕ) → is_spelled_in text before ≡ true → times (numbers (index_of bs) k ws) (number_at k text) ≡ 0)
   once-each kind k before [] all none = ((λ b. omega arith), (λ text h. refl))
   once-each kind k before (w ∷ ws) all none =
-      let now : is_spelled_in w.text before ≡ false = if-none (is_spelled_in w.text before) kind w (none_left _ (repeats kind (before ++ w ∷ []) ws) none) in
+      let now : is_spelled_in w.text before ≡ false = repeated-none (is_spelled_in w.text before) kind w (none_left _ (repeats kind (before ++ w ∷ []) ws) none) in
       let ih = once-each kind k (before ++ w ∷ []) ws all.1 (none_right (repeated_if (is_spelled_in w.text before) kind w) (repeats kind (before ++ w ∷ []) ws) none) in
       let n = number_at k w.text in
       let ns = numbers (index_of bs) k ws in
-      let later : times ns n ≡ 0 = ih.1 w.text (spelled-append w.text before w ∙ or-true (is_spelled_in w.text before) (bytes_eq w.text w.text) ((bytes_decides w.text w.text).1 refl)) in
+      let later : times ns n ≡ 0 = ih.1 w.text (spelled-append w.text before w ∙ or_right (is_spelled_in w.text before) (bytes_eq w.text w.text) ((bytes_decides w.text w.text).1 refl)) in
       ((λ b. here n ns b ih.0 later), λ text h. there now ih.1 text h)
     where
       here : (n : ℕ) (ns : List ℕ) (b : ℕ) → ((b : ℕ) → times ns b ≤ 1) → times ns n ≡ 0 → times (n ∷ ns) b ≤ 1
@@ -173,6 +165,6 @@ module _ (bs : List Binder) where
         | inr other ↦ (let e : eqb (number_at k w.text) (number_at k text) ≡ false = grind (arith, nat_tests) in
             let split : times (number_at k w.text ∷ numbers (index_of bs) k ws) (number_at k text) ≡ cond false 1 0 + times (numbers (index_of bs) k ws) (number_at k text) =
             times-cons (number_at k w.text) (numbers (index_of bs) k ws) (number_at k text) ∙ ap (λ t. cond t 1 0 + times (numbers (index_of bs) k ws) (number_at k text)) e in
-            let none : times (numbers (index_of bs) k ws) (number_at k text) ≡ 0 = ih text (spelled-append text before w ∙ or-left (is_spelled_in text before) (bytes_eq text w.text) h) in
+            let none : times (numbers (index_of bs) k ws) (number_at k text) ≡ 0 = ih text (spelled-append text before w ∙ or_left (is_spelled_in text before) (bytes_eq text w.text) h) in
             omega (arith, split, none))
       ]

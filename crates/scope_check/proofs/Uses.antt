@@ -1,5 +1,5 @@
 -- With the tables of the tree's scopes, the second walk notes the faults of the tree's uses.
-use Rattle.std.proofs.Common.{◌≡◌, ℕ, ◌+◌, List, [], ◌∷◌, ◌++◌, Option, Some, None, length, refl, sym, ap, ◌∙◌, append_assoc}
+use Rattle.std.proofs.Common.{◌≡◌, ℕ, ◌+◌, List, [], ◌∷◌, ◌++◌, Option, Some, None, length, refl, sym, ap, ◌∙◌, append_assoc, append-nil}
 use Rattle.join_parse.specs.declared.word.Word.{Word}
 use Rattle.join_parse.specs.Source.{Process, Zero, Msg, Go, Fail, Halt, Group, Def, Processes, none, one_more, Definition, Rule, Place, Definitions, no_definition, and_also}
 use Rattle.scope_check.specs.Blocks.{params, parameters, block, Scope, Resolved, resolve, open_at, scopes_in, scopes_in_def, scopes_in_defs}
@@ -9,7 +9,6 @@ use Rattle.scope_check.specs.Checked.{no_literals}
 use Rattle.scope_check.specs.Numbers.{Binder}
 use Rattle.scope_check.specs.Twin.{Table, called_by, headed_by, sent_by, sent_in, table_at, uses_in, all_uses_in, definition_uses_in, level_uses_in}
 use Rattle.scope_names.specs.Frames.{in_env}
-use Rattle.scope_check.specs.declared.fault.Fault.{Fault}
 use Rattle.scope_check.proofs.Tables.{EnvStandsFor, entered_resolved, env-resolves, Fits, AllFit, DefinitionFits, LevelFits}
 
 pub faults-append : (us vs : List Use) → use_faults (us ++ vs) ≡ use_faults us ++ use_faults vs
@@ -17,10 +16,6 @@ faults-append [] vs = refl
 faults-append (u ∷ us) vs =
     let here = used_by u.manner u.word (resolve u.around u.word.text) in
     ap (λ l. here ++ l) (faults-append us vs) ∙ sym (append_assoc here (use_faults us) (use_faults vs))
-
-append-nil-faults : (xs : List Fault) → xs ≡ xs ++ []
-append-nil-faults [] = refl
-append-nil-faults (x ∷ xs) = ap (λ l. x ∷ l) (append-nil-faults xs)
 
 module _ (number : Binder → ℕ) where
   called-same : (w : Word) (n : ℕ) (r : Option Resolved) → called_by w n (entered_resolved number w.text r) ≡ used_by (called n) w r
@@ -50,8 +45,8 @@ module _ (number : Binder → ℕ) where
       pub uses-are : (p : Process) (a : List Table) (env : List Scope) (k : ℕ) → EnvStandsFor number a env → Fits number tables k p → uses_in tables a k p ≡ use_faults (uses no_literals env k p)
       uses-are Zero a env k h f = refl
       uses-are (Msg on args) a env k h f = λ i. called-is a env on (length args) h i ++ sent-is a env args h i
-      uses-are (Go b c) a env k h f = λ i. headed-is a env b h i ++ (called-is a env c 0 h ∙ append-nil-faults (used_by (called 0) c (resolve env c.text))) i
-      uses-are (Fail b c) a env k h f = λ i. headed-is a env b h i ++ (called-is a env c 0 h ∙ append-nil-faults (used_by (called 0) c (resolve env c.text))) i
+      uses-are (Go b c) a env k h f = λ i. headed-is a env b h i ++ (called-is a env c 0 h ∙ sym (append-nil (used_by (called 0) c (resolve env c.text)))) i
+      uses-are (Fail b c) a env k h f = λ i. headed-is a env b h i ++ (called-is a env c 0 h ∙ sym (append-nil (used_by (called 0) c (resolve env c.text)))) i
       uses-are Halt a env k h f = refl
       uses-are (Group ps) a env k h f = all-uses-are ps a env k h f
       uses-are (Def ds ps) a env k h f =

@@ -1,5 +1,5 @@
 -- The first walk numbers the binders in source order, and its tables stand for the tree's scopes.
-use Rattle.std.proofs.Common.{◌≡◌, ℕ, ◌+◌, ◌<◌, ◌≤◌, inl, inr, ◌||◌, List, [], ◌∷◌, ◌++◌, length, drop, get_or, refl, sym, ap, ◌∙◌, subst, arith, append_assoc, length-append, is_some}
+use Rattle.std.proofs.Common.{◌≡◌, ℕ, ◌+◌, ◌<◌, ◌≤◌, inl, inr, ◌||◌, List, [], ◌∷◌, ◌++◌, length, drop, get_or, refl, sym, ap, ◌∙◌, subst, arith, append_assoc, append-nil, length-append, is_some}
 use Rattle.join_parse.specs.declared.word.Word.{Word}
 use Rattle.join_parse.specs.declared.word.PatTree.{PatTree}
 use Rattle.join_parse.specs.Source.{Process, Zero, Msg, Go, Fail, Halt, Group, Def, Processes, none, one_more, Definition, Rule, Place, Definitions, no_definition, and_also}
@@ -9,9 +9,9 @@ use Rattle.scope_check.specs.Numbers.{Binder, binder, is_same, in_params, in_pat
 use Rattle.scope_check.specs.Twin.{Table}
 use Rattle.scope_check.specs.Naming.{Named, name_one, name_words, Joined, name_patterns, Walked, Level, walk, walk_all, walk_one, walk_level}
 use Rattle.scope_check.proofs.Counting.{Counts}
-use Rattle.scope_check.proofs.Lists.{any-append, or-false, append-nil, parameters-append}
+use Rattle.scope_check.proofs.Lists.{any-append, or-false, parameters-append}
 use Rattle.scope_check.proofs.Steps.{key, Before, before-more, name-step}
-use Rattle.scope_check.proofs.Outside.{Outside, outside-append, outside-cons, patterns-outside, process-outside, processes-outside, definition-outside, definitions-outside}
+use Rattle.scope_check.proofs.Outside.{Outside, outside-append, outside-cons, params-outside, patterns-outside, process-outside, processes-outside, definition-outside, definitions-outside}
 use Rattle.scope_check.proofs.Tables.{StandsFor, Fits, AllFit, DefinitionFits, LevelFits}
 use Rattle.scope_check.proofs.Own.{after, at_drop, own_block}
 
@@ -62,10 +62,6 @@ module _ (number : Binder → ℕ) (whole : List (List ℕ)) where
     pub params_stand : StandsFor number j.params k (inner ++ parameters (params ps))
     pub seen : Before (before ++ in_patterns own k ps) own (names ++ channels at ps)
     pub counts : Counts number whole j.spell (firsts_after (before ++ in_patterns own k ps) rest)
-
-  params-outside : (ws : List Word) (j k : ℕ) → (j ≡ k → ⊥) → Outside j (in_params k ws)
-  params-outside [] j k o = λ text. refl
-  params-outside (w ∷ ws) j k o = outside-cons j k w (in_params k ws) o (params-outside ws j k o)
 
   pats-so : (ps : List PatTree) (at : ℕ) (spell : List (List ℕ)) (ot pt : Table) (before rest : List Binder) (own k : ℕ) (names inner : List Defining) → own < k
       → StandsFor number ot own names → StandsFor number pt k inner → Before before own names → Before before k inner
