@@ -36,7 +36,7 @@ use Rattle.chem_laws.proofs.Reached.{chain_trans, state, reached_same, reached_a
 use Rattle.chem_laws.proofs.OpeningBlocks.{IsBlockAt, of_block, other_block}
 use Rattle.chem_laws.proofs.OpeningNames.{SitesAre, HasLevel, sites_are, rest_found, names_sites, pairs_once}
 use Rattle.chem_laws.proofs.OpeningPlaces.{live_root, roots_alone, root_found, standing-append, born_standing, levels_unmarked, rules_all, bodies_all, sites_placed}
-use Rattle.chem_laws.proofs.OpeningSound.{IsEntryIn, roots_stand, places_stand, start_sound, start_entries, start_names, start_fresh}
+use Rattle.chem_laws.proofs.OpeningSound.{IsEntryIn, roots_stand, places_stand, start_sound, start_entries, start_fresh}
 use Rattle.chem_laws.proofs.OpeningTerms.{all_rules_on, all_bodies_on, body_on, all_processes_on}
 use Rattle.chem_laws.proofs.NamingRange.{pairs_of-append}
 
@@ -221,11 +221,12 @@ module _ (naming_is : NamingIs) (pour_sound : PourSound) (lay_sound : LaySound) 
       let births = level_births 0 m ts in
       let pl = standing (roots 0 ts) in
       let entries = start_entries seen ts are in
+      let sound = start_sound seen ts are in
       let first : IsOpen (length p.seen) m n 0 ts = record {
-        sound = start_sound seen ts are;
+        sound = sound;
         roots = Each-left (IsEntryIn (standing n.places)) (roots 0 ts) births entries;
         births = Each-right (IsEntryIn (standing n.places)) (roots 0 ts) births entries;
-        names = start_names seen ts are;
+        names = sound.named;
         seen = counts_length p.seen;
       } in
       let waits : Waits (length p.seen) m scope 0 ts = record {

@@ -157,6 +157,15 @@ module _ (seen : List ℕ) (ts : List SiteTerm) (are : SitesAre (site_names ts) 
   pub start_roots : (l : Loc) → l.k ≡ 0 → l.site < length ts → standing start.places l ≡ Some at_root
   start_roots l k lt = standing-append (roots 0 ts) (level_births 0 (site_names ts) ts) l ∙ ap (λ o. or_else o (standing (level_births 0 (site_names ts) ts) l)) (root_found ts 0 l k (omega arith) (omega arith))
 
+  -- each name of the sites is a name of the solution
+  start_names : Each (λ (e : Named). IsNameOf start e.name) (site_names ts)
+  start_names =
+      let pl = standing start.places in
+      let stand = roots_stand pl (length ts) start_roots 0 ts (omega arith) in
+      let each : Each (EntryStands pl) (site_names ts) = Each-append (EntryStands pl) (root_names 0 ts) (level_names 0 ts) (root_names_stand pl 0 ts stand) (level_names_stand pl (site_names ts) 0 ts are stand (λ a there. there_either (roots 0 ts) (level_births 0 (site_names ts) ts) a there)) in
+      Each-weaker (λ (e : Named). (0 < bag coded_name (names_in (site_names ts)) e.name) × EntryStands pl e) (λ (e : Named). IsNameOf start e.name) (λ e h. name_stands start e.name h.0 h.1) (site_names ts)
+      (each_both (λ (e : Named). 0 < bag coded_name (names_in (site_names ts)) e.name) (EntryStands pl) (site_names ts) (names_there (site_names ts)) each)
+
   pub start_sound : IsSound start
   start_sound = record {
     roots = λ i lt. (let stand = start_roots (root_of i) refl (subst (λ (n : ℕ). i < n) (length_counts 0 ts) lt) in (ap is_there stand, ap host_of stand));
@@ -168,6 +177,7 @@ module _ (seen : List ℕ) (ts : List SiteTerm) (are : SitesAre (site_names ts) 
         (omega (arith, length_counts 0 ts), subst (λ (j : ℕ). p.1 < slice_index (level_counts 0 ts) j) (sym same) low.3)
         );
     different = λ p. subst (λ (n : ℕ). n ≤ 1) (sym (start_pairs p)) (pairs_once (site_names ts) ts 0 p are).once;
+    named = start_names;
     atoms = tt;
     rules = tt;
     trace = tt;
@@ -176,15 +186,6 @@ module _ (seen : List ℕ) (ts : List SiteTerm) (are : SitesAre (site_names ts) 
   -- each location stands as it was made
   pub start_entries : Each (IsEntryIn (standing start.places)) start.places
   start_entries = entries start.places start_once
-
-  -- each name of the sites is a name of the solution
-  pub start_names : Each (λ (e : Named). IsNameOf start e.name) (site_names ts)
-  start_names =
-      let pl = standing start.places in
-      let stand = roots_stand pl (length ts) start_roots 0 ts (omega arith) in
-      let each : Each (EntryStands pl) (site_names ts) = Each-append (EntryStands pl) (root_names 0 ts) (level_names 0 ts) (root_names_stand pl 0 ts stand) (level_names_stand pl (site_names ts) 0 ts are stand (λ a there. there_either (roots 0 ts) (level_births 0 (site_names ts) ts) a there)) in
-      Each-weaker (λ (e : Named). (0 < bag coded_name (names_in (site_names ts)) e.name) × EntryStands pl e) (λ (e : Named). IsNameOf start e.name) (λ e h. name_stands start e.name h.0 h.1) (site_names ts)
-      (each_both (λ (e : Named). 0 < bag coded_name (names_in (site_names ts)) e.name) (EntryStands pl) (site_names ts) (names_there (site_names ts)) each)
 
   -- the places of the levels are born anew, each once
   pub start_fresh : AreFresh (standing (roots 0 ts)) (level_births 0 (site_names ts) ts)

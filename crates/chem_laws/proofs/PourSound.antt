@@ -121,6 +121,7 @@ module _ (n : Numbered) (sound : IsSound n) (r : Loc) (at_root : IsRoot n r) (a 
           (Each-weaker (HasHost r) (λ (p : Placed). IsHosted new p p.host) (λ p h. subst (IsHosted new p) (sym h) (root_kept r at_root)) a.births made.hosts);
       below = below_kept;
       different = different_kept;
+      named = Each-append (λ (e : Named). IsNameOf new e.name) n.named a.named (Each-weaker (λ (e : Named). IsNameOf n e.name) (λ (e : Named). IsNameOf new e.name) (λ e. name_kept e.name) n.named sound.named) made.named;
       atoms = Each-append (IsAtom new) n.atoms a.atoms (Each-weaker (IsAtom n) (IsAtom new) atom_kept n.atoms sound.atoms) made.atoms;
       rules = Each-append (IsRule new) n.rules a.rules (Each-weaker (IsRule n) (IsRule new) rule_kept n.rules sound.rules) made.rules;
       trace = Each-append (IsOut new) n.trace a.outs (Each-weaker (IsOut n) (IsOut new) out_kept n.trace sound.trace) made.outs;

@@ -57,13 +57,14 @@ pub record IsMade (n : Numbered) (s : ℕ) (r : Loc) (k : ℕ) (a : Made) : Type
   -- each number from k on was drawn once
   pub range : (p : Pair) → pairs_in a.births a.named a.rules a.atoms p ≡ in_range s k a.next p
   pub hosts : Each (HasHost r) a.births
+  pub named : AreNamesOf n a.named
   pub rules : Each (IsRule n) a.rules
   pub atoms : Each (IsAtom n) a.atoms
   pub outs : Each (IsOut n) a.outs
 
 module _ (n : Numbered) (s : ℕ) (r : Loc) where
   pub nothing_is : (k : ℕ) → IsMade n s r k (nothing_made k)
-  nothing_is k = record { up = omega arith; range = λ p. let e = in_range_empty s k p in omega arith; hosts = tt; rules = tt; atoms = tt; outs = tt }
+  nothing_is k = record { up = omega arith; range = λ p. let e = in_range_empty s k p in omega arith; hosts = tt; named = tt; rules = tt; atoms = tt; outs = tt }
 
   pub then_is : (k : ℕ) (a b : Made) → IsMade n s r k a → IsMade n s r a.next b → IsMade n s r k (then_made a b)
   then_is k a b p q =
@@ -72,6 +73,7 @@ module _ (n : Numbered) (s : ℕ) (r : Loc) where
         up = omega arith;
         range = λ x. let split = pairs_in-append a.births b.births a.named b.named a.rules b.rules a.atoms b.atoms x in let first = p.range x in let second = q.range x in let whole = in_range_joins s k a.next b.next x p.up q.up in split ∙ (λ i. first i + second i) ∙ whole;
         hosts = Each-append (HasHost r) a.births b.births p.hosts q.hosts;
+        named = Each-append (λ (e : Named). IsNameOf n e.name) a.named b.named p.named q.named;
         rules = Each-append (IsRule n) a.rules b.rules p.rules q.rules;
         atoms = Each-append (IsAtom n) a.atoms b.atoms p.atoms q.atoms;
         outs = Each-append (IsOut n) a.outs b.outs p.outs q.outs;

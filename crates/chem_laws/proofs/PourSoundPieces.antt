@@ -32,13 +32,13 @@ use Rattle.chem_laws.proofs.PourSoundMade.{IsMade, nothing_is, then_is}
 
 module _ (n : Numbered) (s : ℕ) (r : Loc) where
   pub atom_is : (l : Loc) (k : ℕ) (p : Process) → is_there (standing n.places l) ≡ true → IsSettled n.seen (IsNameOf n) l p → IsMade n s r k (atom_made s l k p)
-  atom_is l k p h g = record { up = omega arith; range = λ x. omega (arith, one_in_range s k x); hosts = tt; rules = tt; atoms = ((h, g), tt); outs = tt }
+  atom_is l k p h g = record { up = omega arith; range = λ x. omega (arith, one_in_range s k x); hosts = tt; named = tt; rules = tt; atoms = ((h, g), tt); outs = tt }
 
   seen_is : (l : Loc) (k i : ℕ) (vs : List Ref) (t : Bool) → is_there (standing n.places l) ≡ true → i < length n.seen → Each (IsKnown (IsNameOf n)) vs → is_count (slice_get n.seen i) (length vs) ≡ t
       → IsMade n s r k (cond t (out_made k i (known vs)) (atom_made s l k (Msg (Known (name.Seen i)) vs)))
   seen_is l k i vs true there h g e =
       let none_made = nothing_is n s r k in
-      record { up = omega arith; range = none_made.range; hosts = tt; rules = tt; atoms = tt; outs = ((h, known_names (IsNameOf n) vs g), tt) }
+      record { up = omega arith; range = none_made.range; hosts = tt; named = tt; rules = tt; atoms = tt; outs = ((h, known_names (IsNameOf n) vs g), tt) }
   seen_is l k i vs false there h g e = atom_is l k (Msg (Known (name.Seen i)) vs) there (h, g, tt, e)
 
   pub message_is : (l : Loc) (k : ℕ) (x : Ref) (vs : List Ref) → is_there (standing n.places l) ≡ true → IsKnown (IsNameOf n) x → Each (IsKnown (IsNameOf n)) vs → IsMade n s r k (message_made n.seen s l k x vs)
@@ -128,10 +128,10 @@ module _ (n : Numbered) (s : ℕ) (r : Loc) (rule_filled : RuleFilledFor (IsName
         → IsMade n s r k (rules_made (lay_rules s m l k ds))
     rules_are no_definition l k h g f once =
         let none_made = nothing_is n s r k in
-        record { up = omega arith; range = none_made.range; hosts = tt; rules = tt; atoms = tt; outs = tt }
+        record { up = omega arith; range = none_made.range; hosts = tt; named = tt; rules = tt; atoms = tt; outs = tt }
     rules_are (and_also (Rule ps p) ds) l k h g f once =
         let rule = rule_is l ps p (record { site = s; k = k }) h.0 g.0 (among_left (channels_of ps) (block ds) bs f) (λ b. let o = once b in omega arith) in
         let first : Made = rules_made (record { next = k + 1; rules = record { id = record { site = s; k = k }; loc = l; pats = fill_pats m ps; body = fill m p } ∷ [] }) in
-        let is_first : IsMade n s r k first = record { up = omega arith; range = λ x. omega (arith, one_in_range s k x); hosts = tt; rules = (rule, tt); atoms = tt; outs = tt } in
+        let is_first : IsMade n s r k first = record { up = omega arith; range = λ x. omega (arith, one_in_range s k x); hosts = tt; named = tt; rules = (rule, tt); atoms = tt; outs = tt } in
         then_is n s r k first (rules_made (lay_rules s m l (k + 1) ds)) is_first (rules_are ds l (k + 1) h.1 g.1 (among_right (channels_of ps) (block ds) bs f) (λ b. let o = once b in omega arith))
     rules_are (and_also (Place x es p) ds) l k h g f once = rules_are ds l k h.1 g.1 (among_right (binder_of x ++ block es) (block ds) bs f) (λ b. let o = once b in omega arith)

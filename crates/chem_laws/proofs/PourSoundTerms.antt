@@ -86,8 +86,8 @@ module _ (n : Numbered) (l : Loc) (births : List Placed) (t : is_there (standing
 -- ---- what is made, by the term
 
 module _ (naming_is : NamingIs) (n : Numbered) (s : ℕ) (r : Loc) (rule_filled : RuleFilledFor (IsNameOf n)) where
-  names_are : (l : Loc) (e : Naming) (ds : Definitions) (k : ℕ) (d : Drawn) → IsNaming s l r e ds k d → IsMade n s r k (names_made d (births_of r e ds))
-  names_are l e ds k d h = record { up = h.up; range = λ p. let whole = h.split p ∙ h.range p in omega arith; hosts = births_hosted r e ds; rules = tt; atoms = tt; outs = tt }
+  names_are : (l : Loc) (e : Naming) (ds : Definitions) (k : ℕ) (d : Drawn) → IsNaming s l r e ds k d → AreNamesOf n d.names → IsMade n s r k (names_made d (births_of r e ds))
+  names_are l e ds k d h g = record { up = h.up; range = λ p. let whole = h.split p ∙ h.range p in omega arith; hosts = births_hosted r e ds; named = g; rules = tt; atoms = tt; outs = tt }
 
   mutual
     pub pour_is : (p : Process) (scope : List ℕ) (m : Naming) (l : Loc) (k : ℕ) → IsTerm (IsNameOf n) scope p → Closes (IsNameOf n) scope m → ((b : ℕ) → is_named m b + bound_in p b ≤ 1)
@@ -113,7 +113,7 @@ module _ (naming_is : NamingIs) (n : Numbered) (s : ℕ) (r : Loc) (rule_filled 
         let laid = rules_are n s r rule_filled (block ds ++ scope) e c_e (block ds) is.different ds l d.next h.2 is.whole (λ i g. g) o_ds in
         let levels = lay_places_are ds (block ds ++ scope) e l a.next h.2 h.1 c_e is.whole (block ds) is.different (λ i g. g) o_ds (fits_right n a q (fits_left n b z rest)) in
         let body = pour_is p (block ds ++ scope) e l b.next h.3 c_e o_p t (fits_right n b z rest) in
-        then_is n s r k (names_made d births) (then_made b z) (names_are l e ds k d is) (then_is n s r d.next b z (then_is n s r d.next a q laid levels) body)
+        then_is n s r k (names_made d births) (then_made b z) (names_are l e ds k d is given) (then_is n s r d.next b z (then_is n s r d.next a q laid levels) body)
     pour_is (Go x y) scope m l k h c o t f = atom_is n s r l k _ t (ref_known (IsNameOf n) scope m c x h.0, ref_known (IsNameOf n) scope m c y h.1)
     pour_is (Fail x y) scope m l k h c o t f = atom_is n s r l k _ t (ref_known (IsNameOf n) scope m c x h.0, ref_known (IsNameOf n) scope m c y h.1)
     pour_is Halt scope m l k h c o t f = atom_is n s r l k Halt t tt

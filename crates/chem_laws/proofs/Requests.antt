@@ -10,6 +10,7 @@ use Rattle.chem_model.specs.Bag.{bag}
 use Rattle.chem_model.specs.Each.{Each}
 use Rattle.chem_model.specs.Solution.{Standing, Places, same_loc, is_there, is_marked, host_of, or_itself, root, live, with_host, with_mark, rehosted, marked}
 use Rattle.chem_model.specs.NewNames.{Pair, coded_pair}
+use Rattle.chem_model.specs.declared.numbered.Named.{Named}
 use Rattle.chem_model.specs.declared.numbered.Placed.{Placed}
 use Rattle.chem_model.specs.declared.numbered.NumberedRule.{NumberedRule}
 use Rattle.chem_model.specs.declared.numbered.NumberedAtom.{NumberedAtom}
@@ -188,6 +189,7 @@ module _ (n : Numbered) (sound : IsSound n) (places : List Placed) (atoms : List
           hosted = hosted;
           below = λ p h. sound.below p (omega (arith, less p));
           different = λ p. omega (arith, less p, sound.different p);
+          named = Each-weaker (λ (e : Named). IsNameOf n e.name) (λ (e : Named). IsNameOf left e.name) (λ e. name_left e.name) n.named sound.named;
           atoms = Each-weaker (IsAtom n) (IsAtom left) atom_left atoms settled;
           rules = Each-weaker (IsRule n) (IsRule left) rule_left n.rules sound.rules;
           trace = Each-weaker (λ (o : Out). (o.on < length n.seen) × Each (IsNameOf n) o.args) (λ (o : Out). (o.on < length n.seen) × Each (IsNameOf left) o.args) (λ o g. (g.0, Each-weaker (IsNameOf n) (IsNameOf left) name_left o.args g.1)) n.trace sound.trace;

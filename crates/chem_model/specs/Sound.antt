@@ -89,6 +89,8 @@ pub record IsSound (n : Numbered) : Type 0 where
   -- each pair of a location, a channel that was made, a rule or an atom is below its site's count, and no two of them have the same
   pub below : (p : Pair) → 0 < pairs n p → (p.0 < length n.counts) × (p.1 < slice_index n.counts p.0)
   pub different : (p : Pair) → pairs n p ≤ 1
+  -- the names that were given are names of the solution
+  pub named : Each (λ (e : Named). IsNameOf n e.name) n.named
   -- messages and requests stand where they belong, with names of the solution, and none is an observable
   pub atoms : Each (IsAtom n) n.atoms
   pub rules : Each (IsRule n) n.rules
