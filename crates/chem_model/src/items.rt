@@ -81,7 +81,8 @@ impl<T: Drop> Items<T> {
     /// as want of memory, and both keep theirs.
     pub fn append(&mut self, other: &mut Items<T>) -> Result<(), Memory>
         ensures ok { OnOk result (self.new ≡ self.old ++ other.old) }
-        ensures err { OnErr result (self.new ≡ self.old) }
+        ensures moved { OnOk result (other.new ≡ []) }
+        ensures err { OnErr result ((self.new ≡ self.old) × (other.new ≡ other.old)) }
     {
         if other.len() > u32::MAX as usize - self.len() {
             return Err(Memory);
@@ -107,6 +108,18 @@ impl<T: Drop> Items<T> {
 }
 
 impl<T: Copy> Items<T> {
+    /// Appends members, all or none. Where the list would have 2^32 members or more, that is answered as want of memory.
+    pub fn extend_from_slice(&mut self, members: &[T]) -> Result<(), Memory>
+        ensures ok { OnOk result (self.new ≡ self.old ++ members.now) }
+        ensures err { OnErr result (self.new ≡ self.old) }
+    {
+        if members.len() > u32::MAX as usize - self.len() {
+            return Err(Memory);
+        }
+        self.items.extend_from_slice(members)?;
+        Ok(())
+    }
+
     /// Puts another member in place of the one at this index, where there is one.
     pub fn set(&mut self, index: usize, member: T)
         ensures { self.new ≡ slice_set self.old index member }

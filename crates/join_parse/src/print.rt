@@ -18,24 +18,15 @@ use chem_model::{Memory, Text};
 use join_lex::{Key, Sign};
 use std::alloc::Global;
 
-fn append(out: &mut Text, bytes: &[u8]) -> Result<(), Memory>
-    ensures { OnOk result (out.new ≡ out.old ++ bytes.now) }
-{
-    for byte in bytes {
-        out.push(*byte)?;
-    }
-    Ok(())
-}
-
 // Appends a word, behind a space where it isn't the first.
 fn put(out: &mut Text, word: &[u8]) -> Result<(), Memory>
     ensures { OnOk result (out.new ≡ out.old ++ gap out.old ++ word.now) }
 {
     if out.is_empty() {
-        return append(out, word);
+        return out.extend_from_slice(word);
     }
     out.push(b' ')?;
-    append(out, word)
+    out.extend_from_slice(word)
 }
 
 fn key_text(key: Key) -> &'static [u8]

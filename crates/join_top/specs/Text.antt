@@ -1,5 +1,5 @@
 -- What a text is: a program, or a refusal of a kind at a place.
-use Rattle.std.specs.Prelude.{◌≡◌, ℕ, ◌++◌, List, codes, decimal}
+use Rattle.std.specs.Prelude.{◌≡◌, ℕ, ◌++◌, ◌⊎◌, List, codes, decimal}
 use Rattle.join_base.specs.declared.fault.Kind.{Kind}
 use Rattle.join_base.specs.declared.fault.Kind.TheVariants.{Lex1, Lex2, Lex3, Grammar1, Grammar2, Scope1, Scope2, Scope3, Scope4, Scope5, Scope6, Arity1, Arity2, Arity3, Arity4}
 use Rattle.join_base.specs.declared.fault.Front.{Front}
@@ -39,10 +39,12 @@ abbrev pub NamesRefusal : List ℕ → Front → Type 0
 NamesRefusal text (front.Refused kind place) = IsRefusal text kind place
 NamesRefusal text front.Memory = Unit {0}
 
--- a text has at most one program, and none where it is refused
-pub record HasOneProgram (text : List ℕ) : Type 0 where
+-- a text has one program or one refusal, and never both
+pub record HasOneOutcome (text : List ℕ) : Type 0 where
+  pub some : ((p : ProgramTerms) × IsProgramOfText text p) ⊎ ((kind : Kind) × (place : ℕ) × IsRefusal text kind place)
   pub one_program : (p q : ProgramTerms) → IsProgramOfText text p → IsProgramOfText text q → p ≡ q
   pub never_both : (p : ProgramTerms) (kind : Kind) (place : ℕ) → IsProgramOfText text p → IsRefusal text kind place → ⊥
+  pub one_refusal : (kind kind' : Kind) (place place' : ℕ) → IsRefusal text kind place → IsRefusal text kind' place' → (kind ≡ kind') × (place ≡ place')
 
 -- ---- the line of a refusal
 

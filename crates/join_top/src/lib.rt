@@ -12,5 +12,5 @@ pub use gate::{Gate, OpenGate, Phase};
 pub use ring_source::ring_text;
 pub use run::Kept;
 pub use site_runner::How;
-pub use text::one_program;
+pub use text::one_outcome;
 pub use top::{Ended, run_join};

@@ -1,8 +1,8 @@
 // What the words ask for that can be done, and the text that is run.
-ghost use Rattle.std.specs.Prelude.{◌≡◌, map, string_bytes, length, ◌≤◌, None, IfOk, IfSome, OnOk};
+ghost use Rattle.std.specs.Prelude.{◌≡◌, map, string_bytes, length, ◌≤◌, None, Some, IfOk, IfSome, OnOk};
 ghost use Rattle.join_base.specs.Bytes.{TakesCount, TakesAtMost};
 ghost use Rattle.join_base.specs.Counts.{Rose};
-ghost use Rattle.join_words.specs.Asks.{IsWithin, IsSizeIfAny};
+ghost use Rattle.join_words.specs.Asks.{asked, IsWithin, IsSizeIfAny};
 ghost use Rattle.join_top.specs.Task.{task, text_run, WhereRead, WhereRing};
 ghost use Rattle.join_top.specs.RunJoin.{OnTold, IsReadToEnd};
 
@@ -19,6 +19,7 @@ const MOST_BYTES: u32 = 1_048_576;
 pub fn task(alloc: Global, words: &[String]) -> Result<Option<Asked>, Memory>
     ensures task { IfOk result (λ asked. asked ≡ task (map string_bytes words.now)) }
     ensures within { IfOk result (λ asked. IfSome asked IsWithin) }
+    ensures asked { IfOk result (λ task. IfSome task (λ a. asked (map string_bytes words.now) ≡ Some a)) }
 {
     match read_words(alloc, words) {
         Ok(asked) => match asked.by {

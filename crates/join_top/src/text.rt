@@ -1,6 +1,6 @@
 //! The program of a text, or its refusal.
 ghost use Rattle.std.specs.Prelude.{◌≡◌, ◌++◌, ℕ, List, IfOk, IfErr};
-ghost use Rattle.join_top.specs.Text.{IsProgramOfText, NamesRefusal, HasOneProgram, kind_text, refusal_line};
+ghost use Rattle.join_top.specs.Text.{IsProgramOfText, NamesRefusal, HasOneOutcome, kind_text, refusal_line};
 
 use chem_model::{Items, Memory, Program, Text};
 use join_base::{Front, Kind};
@@ -20,9 +20,9 @@ pub fn program_of(alloc: Global, text: &[u8]) -> Result<Program, Front>
     check(alloc, &tree)
 }
 
-/// A text has at most one program, and none where it is refused. It does nothing.
-pub fn one_program()
-    ensures { (text : List ℕ) → HasOneProgram text }
+/// A text has one program or one refusal, and never both. It does nothing.
+pub fn one_outcome()
+    ensures { (text : List ℕ) → HasOneOutcome text }
 {
     join_lex::one_outcome();
     join_parse::one_outcome();

@@ -3,6 +3,7 @@ ghost use Rattle.std.specs.Prelude.{◌≡◌, ◌⊎◌, ◌≤◌, map, string
 ghost use Rattle.join_base.specs.Bytes.{TakesAtMost, GainsPrefix};
 ghost use Rattle.std.specs.Io.KnownBytes.{Appends};
 ghost use Rattle.join_base.specs.Counts.{Rose};
+ghost use Rattle.join_words.specs.Asks.{asked};
 ghost use Rattle.site_runner.specs.declared.one_thread.How.TheVariants.{Alone};
 ghost use Rattle.join_base.specs.declared.fault.Kind.TheVariants as kind;
 ghost use Rattle.join_top.specs.Task.{task, ring_of, text_run, WhereRead, WhereRing};
@@ -62,7 +63,7 @@ pub fn run_join<S: Source, K: Sink, E: Sink, G: Gate>(
 
     ensures usage { ComesExactly result.status 2 (task (map string_bytes words.now) ≡ None) }
     ensures unread { result.status ≡ 2 → source.new ≡ source.old }
-    ensures unread_with_gen { WhereRing (ring_of (task (map string_bytes words.now))) (source.new ≡ source.old) }
+    ensures unread_with_gen { WhereRing (ring_of (asked (map string_bytes words.now))) (source.new ≡ source.old) }
 
     ensures read_fault { result.status ≡ 3 → Rose (S.faults source.old) (S.faults source.new) }
     ensures reads_all { has_run result.status ≡ true → WhereRead (ring_of (task (map string_bytes words.now))) (IsReadToEnd (S.left source.old) (S.left source.new)) }

@@ -1,5 +1,5 @@
 -- What the check answers: the walks' tables, terms and faults are those of the tree.
-use Rattle.std.proofs.Common.{◌≡◌, ℕ, ◌+◌, ◌≤◌, List, [], ◌∷◌, ◌++◌, Option, Some, None, inl, inr, length, drop, get_or, refl, sym, ap, ◌∙◌, subst, arith, append-nil}
+use Rattle.std.proofs.Common.{◌≡◌, ℕ, ◌+◌, ◌≤◌, ◌⊎◌, List, [], ◌∷◌, ◌++◌, Option, Some, None, inl, inr, length, drop, get_or, refl, sym, ap, ◌∙◌, subst, arith, append-nil}
 use Rattle.join_parse.specs.declared.tree.PlaceTree.{PlaceTree}
 use Rattle.join_parse.specs.Source as s
 use Rattle.join_parse.specs.Grammar.{TreeOfText}
@@ -139,8 +139,13 @@ same-fault f g (inr a) (inr b) =
     let k : rank f.kind ≡ rank g.kind = omega (arith, a.1, b.1) in
     λ i. record { kind = same-kind f.kind g.kind k i; place = a.0 i }
 
+some_outcome : (t : TreeOfText) (o : Option Fault) → IsFirst (IsFault most_sites no_literals t) o → ((p : ProgramTerms) × IsProgramOf t p) ⊎ ((f : Fault) × IsFirst (IsFault most_sites no_literals t) (Some f))
+some_outcome t None first = inl (program no_literals t, record { is = refl; none = first })
+some_outcome t (Some f) first = inr (f, first)
+
 pub one_outcome : (t : TreeOfText) → OneOutcome t
 one_outcome t = record {
+  some = some_outcome t (first_of None (fault_list most_sites no_literals t)) (first-fault most_sites no_literals t);
   one_program = λ p q a b. a.is ∙ sym b.is;
   one_fault = λ f g a b. same-fault f g (a.1 g b.0) (b.1 f a.0);
   never_both = λ p f a b. a.none f b.0;

@@ -1,5 +1,5 @@
 -- What the check of a tree answers.
-use Rattle.std.specs.Prelude.{◌≡◌, ℕ, Option, Some, None}
+use Rattle.std.specs.Prelude.{◌≡◌, ℕ, ◌⊎◌, Option, Some, None}
 use Rattle.join_base.specs.declared.fault.Front.{Front}
 use Rattle.join_base.specs.declared.fault.Front.TheVariants.{Refused, Memory}
 use Rattle.join_parse.specs.declared.word.Word.{Word}
@@ -31,6 +31,7 @@ IsRefusedAs t Memory = Unit {0}
 
 -- A tree has one program or one first fault, and never both.
 pub record OneOutcome (t : TreeOfText) : Type 0 where
+  pub some : ((p : ProgramTerms) × IsProgramOf t p) ⊎ ((f : Fault) × IsFirst (IsFault most_sites no_literals t) (Some f))
   pub one_program : (p q : ProgramTerms) → IsProgramOf t p → IsProgramOf t q → p ≡ q
   pub one_fault : (f g : Fault) → IsFirst (IsFault most_sites no_literals t) (Some f) → IsFirst (IsFault most_sites no_literals t) (Some g) → f ≡ g
   pub never_both : (p : ProgramTerms) (f : Fault) → IsProgramOf t p → IsFirst (IsFault most_sites no_literals t) (Some f) → ⊥

@@ -161,7 +161,6 @@ pub fn check(alloc: Global, tree: &Tree) -> Result<Program, Front>
 
 /// A tree has one program or one first fault, and never both. So `check` answers exactly by the definitions, save for want of
 /// memory.
-#[tactic(auto, using(crate::proofs::Answer::one_outcome))]
 pub fn one_outcome()
     ensures { (t : TreeOfText) → OneOutcome t }
 {}

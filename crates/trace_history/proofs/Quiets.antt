@@ -7,7 +7,7 @@ use Rattle.chem_model.specs.Apply.{apply, apply_if}
 use Rattle.chem_model.specs.Reduction.{Quiet}
 use Rattle.chem_model.specs.Numbered.{erase}
 use Rattle.chem_model.specs.Sound.{IsSound}
-use Rattle.chem_model.specs.Laws.{StuckIsQuiet}
+use Rattle.chem_model.specs.Laws.{EventIsAReduction, IsReduction, StuckIsQuiet}
 use Rattle.trace_history.specs.declared.book.Found.{Found}
 use Rattle.trace_history.specs.Kept.{Kept, solution, is_enabled}
 use Rattle.trace_history.specs.Book.{OnSolution, IsStuck, IsQuiet}
@@ -17,6 +17,17 @@ use Rattle.trace_history.proofs.Replays.{same_some, replay_sites}
 none_of : (o : Option Numbered) → is_some o ≡ false → o ≡ None
 none_of None e = refl
 none_of (Some m) e = cc
+
+-- the solutions of a book before and after an event that was made are one reduction apart
+pub one_reduction : EventIsAReduction → (o q : Option Numbered) (before after : Numbered) (e : Event) → o ≡ Some before → q ≡ Some after → apply before e ≡ Some after → IsSound before
+    → (n : Numbered) → o ≡ Some n → IsSound n × ((m : Numbered) → q ≡ Some m → IsReduction e n m)
+one_reduction law o q before after e leads leads_on made sound n is =
+    let from : before ≡ n = same_some before n (sym leads ∙ is) in (
+      subst IsSound from sound,
+      λ m is'.
+          let to : after ≡ m = same_some after m (sym leads_on ∙ is') in
+          subst (IsReduction e n) to (subst (λ (x : Numbered). IsReduction e x after) from (law before after e sound made)),
+    )
 
 module _ (b : Kept) (n : Numbered) (leads : solution b ≡ Some n) where
   enabled_is : (e : Event) → is_enabled b e ≡ is_some (apply n e)

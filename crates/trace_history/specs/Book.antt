@@ -6,6 +6,9 @@ use Rattle.chem_model.specs.declared.numbered.Numbered.{Numbered}
 use Rattle.chem_model.specs.ProgramFacts.{ProgramTerms, IsProgram}
 use Rattle.chem_model.specs.Reduction.{Quiet}
 use Rattle.chem_model.specs.Numbered.{erase}
+use Rattle.chem_model.specs.Runs.{IsOpened}
+use Rattle.chem_model.specs.Sound.{IsSound}
+use Rattle.chem_model.specs.Laws.{IsReduction}
 use Rattle.trace_history.specs.declared.book.Commit.{Commit}
 use Rattle.trace_history.specs.declared.book.Commit.TheVariants.{Place, NotEnabled}
 use Rattle.trace_history.specs.declared.book.Found.{Found}
@@ -20,6 +23,15 @@ Commits old e NotEnabled new = (is_enabled old e ≡ false) × (new ≡ old)
 -- what holds of the solution to which the journal leads
 abbrev pub OnSolution : Kept → (Numbered → Type 0) → Type 0
 OnSolution b P = (n : Numbered) → solution b ≡ Some n → P n
+
+-- the book stands for a start of its program: its solution is sound, and is reached from a start by heating, Comm and Out alone
+abbrev pub IsAStart : Kept → Type 0
+IsAStart b = OnSolution b (λ n. IsSound n × IsOpened b.program (erase n))
+
+-- where the event was made, the book went from a sound solution to one that is a reduction away, as the event names it
+abbrev pub IsAReduction : Kept → Event → Commit → Kept → Type 0
+IsAReduction old e (Place k) new = OnSolution old (λ n. IsSound n × OnSolution new (λ m. IsReduction e n m))
+IsAReduction old e NotEnabled new = Unit {0}
 
 -- no event is possible
 abbrev pub IsStuck : Kept → Type 0

@@ -1,16 +1,16 @@
 // A book: what contracts see of it is a program and a journal alone.
-ghost use Rattle.std.specs.Prelude.{◌≡◌, [], ◌<◌, ◌-◌, ◌^◌, length, IfOk, IfSome, OnErr, IsTrue, ◌↔◌};
+ghost use Rattle.std.specs.Prelude.{◌≡◌, [], ◌<◌, ◌-◌, ◌^◌, length, Ok, IfOk, IfSome, OnErr, IsTrue, ◌↔◌};
 ghost use Rattle.chem_model.specs.Numbered.{binder_in};
 ghost use Rattle.chem_model.specs.Sound.{IsSound};
 ghost use Rattle.chem_model.specs.Runs.{IsRun};
 ghost use Rattle.chem_model.specs.Laws.{erase_all};
 ghost use Rattle.chem_model.specs.Apply.{states};
 ghost use Rattle.trace_history.specs.Kept.{is_enabled};
-ghost use Rattle.trace_history.specs.Book.{Commits, OnSolution, IsStuck, IsQuiet, Finds, Replays};
+ghost use Rattle.trace_history.specs.Book.{Commits, IsAStart, IsAReduction, OnSolution, IsStuck, IsQuiet, Finds, Replays};
 
 use crate::search::{first_event, is_stuck};
 use chem_commit::make_event;
-use chem_laws::{replay_is_a_run, stuck_is_quiet};
+use chem_laws::{event_is_a_reduction, opening_is_a_start, replay_is_a_run, stuck_is_quiet};
 use chem_model::{Event, Items, Journal, Memory, Name, Naming, Numbered, Outs, Program};
 use std::alloc::Global;
 use std::marker::Model;
@@ -24,11 +24,33 @@ pub enum Commit {
     NotEnabled,
 }
 
+impl Commit {
+    /// A value that is equal to this one. It takes no memory.
+    pub fn copy(&self, _alloc: Global) -> Result<Commit, Memory>
+        ensures { result ≡ Ok self.now }
+    {
+        Ok(*self)
+    }
+}
+
 /// An event that is possible, and the site within whose root it is.
 #[derive(Drop)]
 pub struct Found {
     pub site: u32,
     pub event: Event,
+}
+
+impl Found {
+    /// A value that is equal to this one.
+    pub fn copy(&self, alloc: Global) -> Result<Found, Memory>
+        ensures { IfOk result (λ copy. copy ≡ self.now) }
+    {
+        let event = self.event.copy(alloc)?;
+        Ok(Found {
+            site: self.site,
+            event,
+        })
+    }
 }
 
 /// A program, the events since its opening, and the numbered solution to which they lead.
@@ -54,10 +76,13 @@ impl Model for Book {
 }
 
 impl Book {
-    /// The book of a program's opening.
+    /// The book of a program's opening, which stands for a start of the program.
     pub fn start(alloc: Global, program: &Program) -> Result<Book, Memory>
-        ensures { IfOk result (λ book. book ≡ record { program = program.now; journal = [] }) }
+        ensures opening { IfOk result (λ book. book ≡ record { program = program.now; journal = [] }) }
+        ensures start { IfOk result IsAStart }
     {
+        opening_is_a_start();
+        let _ = &program.tops;
         let program = program.copy(alloc)?;
         let solution = Numbered::opening(alloc, &program)?;
         Ok(Book {
@@ -67,13 +92,16 @@ impl Book {
         })
     }
 
-    /// Makes an event where it is possible, and appends it to the journal. Where it isn't possible, and on want of
-    /// memory, nothing changes.
+    /// Makes an event where it is possible, and appends it to the journal: what the book stands for then is one reduction
+    /// away, as the event names it. Where it isn't possible, and on want of memory, nothing changes.
     pub fn commit(&mut self, alloc: Global, event: &Event) -> Result<Commit, Memory>
         requires { length self.old.journal < 2 ^ 32 - 1 }
         ensures done { IfOk result (λ c. Commits self.old event.now c self.new) }
+        ensures reduction { IfOk result (λ c. IsAReduction self.old event.now c self.new) }
         ensures err { OnErr result (self.new ≡ self.old) }
     {
+        self.is_sound();
+        event_is_a_reduction();
         let place = self.journal.len();
         let copy = event.copy(alloc)?;
         self.journal.push(copy)?;

@@ -1,4 +1,4 @@
-ghost use Rattle.std.specs.Prelude.{◌≡◌, ◌+◌, ◌++◌, codes, decimal, IfOk, OnOk};
+ghost use Rattle.std.specs.Prelude.{◌≡◌, ◌+◌, ◌++◌, codes, decimal, IfOk, OnOk, OnErr};
 ghost use Rattle.trace_text.specs.TraceText.{place_in, name_text, made_text, names_text, out_text, outs_text, ending_text, trace_text};
 ghost use Rattle.trace_text.specs.Later.{later_text};
 ghost use Rattle.trace_text.specs.Printed.{IsTraceOf};
@@ -37,9 +37,10 @@ fn run_text(
     Ok(text)
 }
 
-/// Appends the line of an ending.
+/// Appends the line of an ending: all of it, or nothing.
 pub fn push_ending(text: &mut Text, ending: Ending) -> Result<(), Memory>
-    ensures { OnOk result (text.new ≡ text.old ++ ending_text ending) }
+    ensures ok { OnOk result (text.new ≡ text.old ++ ending_text ending) }
+    ensures err { OnErr result (text.new ≡ text.old) }
 {
     match ending {
         Ending::Quiescent => push_all(text, b"quiescent\n"),

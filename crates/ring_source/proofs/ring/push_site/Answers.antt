@@ -18,8 +18,8 @@ returns c =
     let filled = colon ++ messages in
     let one = two start (codes "site s") number c.in_ok-push_numbered.ensures in
     let two = two_more start named (codes " [ w") number one c.in_ok-push_numbered-2.ensures in
-    let three = more start waiting (codes "() => 0") two c.in_ok-push_all.ensures in
+    let three = more start waiting (codes "() => 0") two c.in_ok-push_all.ensures.ok in
     let four = more start ruled agent three c.in_ok-push_agent_at.ensures in
-    let five = more start hosting (codes " : ") four c.in_ok-push_all-2.ensures in
+    let five = more start hosting (codes " : ") four c.in_ok-push_all-2.ensures.ok in
     let six = more start colon messages five c.in_ok-push_messages.ensures in
-    last c.push_all-3.result start filled (codes " ]\n") c.push_messages.new.text c.push_all-3.new.text six c.push_all-3.ensures
+    last c.push_all-3.result start filled (codes " ]\n") c.push_messages.new.text c.push_all-3.new.text six c.push_all-3.ensures.ok
