@@ -57,6 +57,17 @@ const LINES: &[Case] = &[
         events: Some(1),
         ..QUIET
     },
+    // The sites have their turns one after another.
+    Case {
+        words: &["alone", "--budget", "10", "--log"],
+        text: &[(
+            1,
+            "site s [ x() => 0 : x() | x() ] site t [ y() => 0 : y() | y() ]",
+        )],
+        out: "joinlog 1\nsource 63\nsite s [ x() => 0 : x() | x() ] site t [ y() => 0 : y() | y() ]\nbudget 10\nevents 4\nreact 0.2 0.3\nreact 1.2 1.3\nreact 0.2 0.4\nreact 1.2 1.4\ntrace 10\nquiescent\n",
+        events: Some(4),
+        ..QUIET
+    },
     // A ring of 64 sites: the source is not read.
     Case {
         words: &["gen", "64", "--budget", "1000", "--by", "alone"],

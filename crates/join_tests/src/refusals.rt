@@ -140,6 +140,18 @@ const REFUSALS: &[Case] = &[
         err: "arity 4 at 23\n",
         ..REFUSED
     },
+    // A 256th parameter: the comma behind the 255th.
+    Case {
+        text: &[(1, "site s [ x("), (255, "u,"), (1, "u) => 0 : 0 ]")],
+        err: "grammar 1 at 520\n",
+        ..REFUSED
+    },
+    // A 256th argument.
+    Case {
+        text: &[(1, "site s [ none : x("), (255, "s,"), (1, "s) ]")],
+        err: "grammar 1 at 527\n",
+        ..REFUSED
+    },
 ];
 
 /// Texts that are refused, with the kind and the place of their refusal.
