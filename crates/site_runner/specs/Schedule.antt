@@ -24,6 +24,6 @@ pub data IsSchedule : ℕ → Numbered → ℕ → List Event → Type 0 where
 abbrev pub ScheduleOf : ProgramTerms → ℕ → List Event → Type 0
 ScheduleOf p budget journal = IsSchedule budget (opening p) 0 journal
 
--- each program has at most one schedule for each budget
+-- each program has a schedule for each budget, and no other
 abbrev pub HasOneSchedule : Type 0
-HasOneSchedule = (p : ProgramTerms) → IsProgram p → (budget : ℕ) (one other : List Event) → ScheduleOf p budget one → ScheduleOf p budget other → one ≡ other
+HasOneSchedule = (p : ProgramTerms) → IsProgram p → (budget : ℕ) → (journal : List Event) × ScheduleOf p budget journal × ((other : List Event) → ScheduleOf p budget other → other ≡ journal)

@@ -4,5 +4,6 @@ pub mod Least
 pub mod Founds
 pub mod Answered
 pub mod OneFirst
+pub mod SomeFirst
 pub mod Replays
 pub mod Quiets
