@@ -25,14 +25,15 @@ record Begins (budget : ℕ) (n : Numbered) (from : ℕ) (e : Event) (journal : 
   pub leads : apply n e ≡ Some next
   pub rest : IsSchedule left next (after (length n.counts) site) journal
 
-abbrev Seen : ℕ → Numbered → ℕ → List Event → Type 0
-Seen budget n from [] = (budget ≡ 0) ⊎ ((e : Event) → apply n e ≡ None)
-Seen budget n from (e ∷ journal) = Begins budget n from e journal
+-- what a schedule's journal says of it
+abbrev Says : ℕ → Numbered → ℕ → List Event → Type 0
+Says budget n from [] = (budget ≡ 0) ⊎ ((e : Event) → apply n e ≡ None)
+Says budget n from (e ∷ journal) = Begins budget n from e journal
 
-seen : {budget : ℕ} {n : Numbered} {from : ℕ} {journal : List Event} → IsSchedule budget n from journal → Seen budget n from journal
-seen spent = inl refl
-seen (stuck h) = inr h
-seen (first {budget = left} {m = next} {site = site} f a s) = record { left = left; leaves = refl; next = next; site = site; is_first = f; leads = a; rest = s }
+says : {budget : ℕ} {n : Numbered} {from : ℕ} {journal : List Event} → IsSchedule budget n from journal → Says budget n from journal
+says spent = inl refl
+says (stuck h) = inr h
+says (first {budget = left} {m = next} {site = site} f a s) = record { left = left; leaves = refl; next = next; site = site; is_first = f; leads = a; rest = s }
 
 -- where a schedule has an event, it doesn't end
 goes_on : (budget : ℕ) (n : Numbered) (from : ℕ) (e : Event) (journal : List Event) → Begins budget n from e journal → (budget ≡ 0) ⊎ ((e : Event) → apply n e ≡ None) → ⊥
@@ -40,22 +41,21 @@ goes_on budget n from e journal b (inl h) = let more = b.leaves in omega arith
 goes_on budget n from e journal b (inr h) = let not = h e in let is = b.leads in cc
 
 module _ (start : OpeningIsAStart) (law : EventIsAReduction) where
+  -- two schedules from one solution have the same events
   same_journal : (budget : ℕ) (n : Numbered) (from : ℕ) → IsSound n → (one other : List Event) → IsSchedule budget n from one → IsSchedule budget n from other → one ≡ other
   same_journal budget n from sound [] [] s t = refl
-  same_journal budget n from sound [] (f ∷ other) s t = absurd (goes_on budget n from f other (seen t) (seen s))
-  same_journal budget n from sound (e ∷ one) [] s t = absurd (goes_on budget n from e one (seen s) (seen t))
+  same_journal budget n from sound [] (f ∷ other) s t = absurd (goes_on budget n from f other (says t) (says s))
+  same_journal budget n from sound (e ∷ one) [] s t = absurd (goes_on budget n from e one (says s) (says t))
   same_journal budget n from sound (e ∷ one) (f ∷ other) s t =
-      let a : Begins budget n from e one = seen s in
-      let b : Begins budget n from f other = seen t in
+      let a : Begins budget n from e one = says s in
+      let b : Begins budget n from f other = says t in
       let same = one_first n sound from a.site b.site e f a.is_first b.is_first in
       let next : b.next ≡ a.next = same_some b.next a.next (sym b.leads ∙ ap (apply n) (sym same.1) ∙ a.leads) in
-      let less = a.leaves in
-      let fewer = b.leaves in
+      let one_left = a.leaves in
+      let other_left = b.leaves in
       let left : b.left ≡ a.left = omega arith in
-      let at_next : IsSchedule b.left a.next (after (length n.counts) b.site) other = subst (λ (x : Numbered). IsSchedule b.left x (after (length n.counts) b.site) other) next b.rest in
-      let at_left : IsSchedule a.left a.next (after (length n.counts) b.site) other = subst (λ (k : ℕ). IsSchedule k a.next (after (length n.counts) b.site) other) left at_next in
-      let at_site : IsSchedule a.left a.next (after (length n.counts) a.site) other = subst (λ (k : ℕ). IsSchedule a.left a.next (after (length n.counts) k) other) (sym same.0) at_left in
-      ap (λ x. x ∷ one) same.1 ∙ ap (λ xs. f ∷ xs) (same_journal a.left a.next (after (length n.counts) a.site) (law n a.next e sound a.leads).sound one other a.rest at_site)
+      let rest : IsSchedule a.left a.next (after (length n.counts) a.site) other = rw (sym next, sym left, same.0) b.rest in
+      ap (λ x. x ∷ one) same.1 ∙ ap (λ xs. f ∷ xs) (same_journal a.left a.next (after (length n.counts) a.site) (law n a.next e sound a.leads).sound one other a.rest rest)
 
   -- what was found goes on with what comes after it
   found_next : (budget : ℕ) (n : Numbered) (from : ℕ) → IsSound n → ((m : Numbered) (site : ℕ) → IsSound m → (journal : List Event) × IsSchedule budget m site journal)
