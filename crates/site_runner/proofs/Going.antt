@@ -46,7 +46,7 @@ append_one : {X : Type 0} (xs : List X) (x : X) (ys : List X) → (xs ++ x ∷ [
 append_one [] x ys = refl
 append_one (y ∷ xs) x ys = ap (λ zs. y ∷ zs) (append_one xs x ys)
 
-some_of : (o : Option Numbered) → is_some o ≡ true → (m : Numbered) × (o ≡ Some m)
+pub some_of : (o : Option Numbered) → is_some o ≡ true → (m : Numbered) × (o ≡ Some m)
 some_of None e = cc
 some_of (Some m) e = (m, refl)
 
@@ -106,7 +106,7 @@ module _ (old : Kept) (budget : ℕ) (now : Kept) (from : ℕ) (g : Goes old bud
 
 -- ---- at the end
 
-none_of : (o : Option Numbered) → is_some o ≡ false → o ≡ None
+pub none_of : (o : Option Numbered) → is_some o ≡ false → o ≡ None
 none_of None e = refl
 none_of (Some m) e = cc
 

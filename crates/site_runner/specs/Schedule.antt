@@ -2,7 +2,7 @@
 use Rattle.std.specs.Prelude.{◌≡◌, ℕ, ◌+◌, ◌≤◌, List, [], ◌∷◌, ◌==◌, cond, length, Option, Some, None, false, is_some}
 use Rattle.chem_model.specs.declared.event.Event.{Event}
 use Rattle.chem_model.specs.declared.numbered.Numbered.{Numbered}
-use Rattle.chem_model.specs.ProgramFacts.{ProgramTerms}
+use Rattle.chem_model.specs.ProgramFacts.{ProgramTerms, IsProgram}
 use Rattle.chem_model.specs.Opening.{opening}
 use Rattle.chem_model.specs.Apply.{apply}
 use Rattle.trace_history.specs.First.{IsFirst}
@@ -23,3 +23,7 @@ pub data IsSchedule : ℕ → Numbered → ℕ → List Event → Type 0 where
 -- the schedule of a program's run on one thread
 abbrev pub ScheduleOf : ProgramTerms → ℕ → List Event → Type 0
 ScheduleOf p budget journal = IsSchedule budget (opening p) 0 journal
+
+-- each program has a schedule for each budget, and no other
+abbrev pub HasOneSchedule : Type 0
+HasOneSchedule = (p : ProgramTerms) → IsProgram p → (budget : ℕ) → (journal : List Event) × ScheduleOf p budget journal × ((other : List Event) → ScheduleOf p budget other → other ≡ journal)

@@ -3,4 +3,4 @@
 
 mod one_thread;
 
-pub use one_thread::{Done, How, alone};
+pub use one_thread::{Done, How, alone, one_schedule};

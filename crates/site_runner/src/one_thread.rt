@@ -1,9 +1,10 @@
 // The run on one thread.
 ghost use Rattle.std.specs.Prelude.{◌≡◌, [], ◌<◌, ◌≤◌, ◌^◌, length, IfOk, OnErr};
 ghost use Rattle.trace_history.specs.Book.{IsStuck};
-ghost use Rattle.site_runner.specs.Schedule.{after, ScheduleOf};
+ghost use Rattle.site_runner.specs.Schedule.{after, ScheduleOf, HasOneSchedule};
 ghost use Rattle.site_runner.specs.Run.{RunsOn};
 
+use chem_laws::{event_is_a_reduction, opening_is_a_start};
 use chem_model::Memory;
 use std::alloc::Global;
 use trace_history::Book;
@@ -69,4 +70,12 @@ pub fn alone(alloc: Global, book: Book, budget: u32) -> Result<Done, Memory>
         book: run,
         how: How::Alone,
     })
+}
+
+/// Each program has one schedule for each budget: the journal of its run on one thread. It does nothing.
+pub fn one_schedule()
+    ensures { HasOneSchedule }
+{
+    opening_is_a_start();
+    event_is_a_reduction();
 }

@@ -128,30 +128,30 @@ detecting n j (Some a) e h =
     record { atom = a; found = e; has = has; acts = or_third (is_some (move_atom n a.id a.loc a.term)) (is_some (halt_atom n a.id a.loc a.term)) (is_some (detect_atom n a.id a.loc a.term)) (ap (λ i. is_some (detect_atom n i a.loc a.term)) has ∙ h) }
 
 -- an event that is no reaction is the one of its request
-requesting : (n : Numbered) (f : Event) (j : AtomId) → request_of f ≡ Some j → is_some (apply n f) ≡ true → Requesting n j
+pub requesting : (n : Numbered) (f : Event) (j : AtomId) → request_of f ≡ Some j → is_some (apply n f) ≡ true → Requesting n j
 requesting n (event.React i took) j e h = cc
 requesting n (event.Move i) j e h = let same : i ≡ j = cc in moving n j (atom_at n.atoms j) refl (ap (λ x. is_some (apply n (event.Move x))) (sym same) ∙ h)
 requesting n (event.Halt i) j e h = let same : i ≡ j = cc in halting n j (atom_at n.atoms j) refl (ap (λ x. is_some (apply n (event.Halt x))) (sym same) ∙ h)
 requesting n (event.Detect i) j e h = let same : i ≡ j = cc in detecting n j (atom_at n.atoms j) refl (ap (λ x. is_some (apply n (event.Detect x))) (sym same) ∙ h)
 
-site_of_request : (n : Numbered) (f : Event) (j : AtomId) → request_of f ≡ Some j → site_of n f ≡ site_of_atom n (atom_at n.atoms j)
+pub site_of_request : (n : Numbered) (f : Event) (j : AtomId) → request_of f ≡ Some j → site_of n f ≡ site_of_atom n (atom_at n.atoms j)
 site_of_request n (event.React i took) j e = cc
 site_of_request n (event.Move i) j e = let same : i ≡ j = cc in ap (λ x. site_of_atom n (atom_at n.atoms x)) same
 site_of_request n (event.Halt i) j e = let same : i ≡ j = cc in ap (λ x. site_of_atom n (atom_at n.atoms x)) same
 site_of_request n (event.Detect i) j e = let same : i ≡ j = cc in ap (λ x. site_of_atom n (atom_at n.atoms x)) same
 
-less_by_request : (f e : Event) (j i : AtomId) → request_of f ≡ Some j → request_of e ≡ Some i → event_less f e ≡ atom_less j i
+pub less_by_request : (f e : Event) (j i : AtomId) → request_of f ≡ Some j → request_of e ≡ Some i → event_less f e ≡ atom_less j i
 less_by_request (event.React x took) e j i g h = cc
 less_by_request (event.Move x) e j i g h = ap (λ o. requests_less o (request_of e)) g ∙ ap (requests_less (Some j)) h
 less_by_request (event.Halt x) e j i g h = ap (λ o. requests_less o (request_of e)) g ∙ ap (requests_less (Some j)) h
 less_by_request (event.Detect x) e j i g h = ap (λ o. requests_less o (request_of e)) g ∙ ap (requests_less (Some j)) h
 
 -- an event is a reaction, or it is the one of a request
-data Kind : Event → Type 0 where
+pub data Kind : Event → Type 0 where
   reaction : (i : RuleId) (took : List AtomId) → Kind (event.React i took)
   request : {f : Event} (j : AtomId) → request_of f ≡ Some j → Kind f
 
-kind : (f : Event) → Kind f
+pub kind : (f : Event) → Kind f
 kind (event.React i took) = reaction i took
 kind (event.Move j) = request j refl
 kind (event.Halt j) = request j refl
@@ -198,7 +198,7 @@ has_event n i l (Msg x vs) e = refl
 has_event n i l (Par ps) e = refl
 has_event n i l (Def ds p) e = refl
 
-rule_ids : (i j : RuleId) → (i.site ≡ j.site) × (i.k ≡ j.k) → i ≡ j
+pub rule_ids : (i j : RuleId) → (i.site ≡ j.site) × (i.k ≡ j.k) → i ≡ j
 rule_ids i j h = λ t. record { site = h.0 t; k = h.1 t }
 
 module _ (n : Numbered) (sound : IsSound n) (from : ℕ) where
@@ -248,10 +248,10 @@ module _ (n : Numbered) (sound : IsSound n) (from : ℕ) where
       let low = h a refl in omega arith
 
   -- the site of an event that is possible
-  rule_site : (i : RuleId) (took : List AtomId) (a : Reacting n i took) (s : ℕ) → site_of n (event.React i took) ≡ Some s → (root (standing n.places) a.rule.loc).site ≡ s
+  pub rule_site : (i : RuleId) (took : List AtomId) (a : Reacting n i took) (s : ℕ) → site_of n (event.React i took) ≡ Some s → (root (standing n.places) a.rule.loc).site ≡ s
   rule_site i took a s at = same_some (root (standing n.places) a.rule.loc).site s (ap (site_of_rule n) (sym a.found) ∙ at)
 
-  request_site : (f : Event) (j : AtomId) (q : Requesting n j) (s : ℕ) → request_of f ≡ Some j → site_of n f ≡ Some s → (root (standing n.places) q.atom.loc).site ≡ s
+  pub request_site : (f : Event) (j : AtomId) (q : Requesting n j) (s : ℕ) → request_of f ≡ Some j → site_of n f ≡ Some s → (root (standing n.places) q.atom.loc).site ≡ s
   request_site f j q s e at = same_some (root (standing n.places) q.atom.loc).site s (ap (site_of_atom n) (sym q.found) ∙ sym (site_of_request n f j e) ∙ at)
 
   abbrev turn_at : ℕ → ℕ

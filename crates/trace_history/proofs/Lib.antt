@@ -3,5 +3,7 @@ pub mod FirstOf
 pub mod Least
 pub mod Founds
 pub mod Answered
+pub mod OneFirst
+pub mod SomeFirst
 pub mod Replays
 pub mod Quiets
