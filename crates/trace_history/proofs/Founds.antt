@@ -134,7 +134,7 @@ requesting n (event.Move i) j e h = let same : i ≡ j = cc in moving n j (atom_
 requesting n (event.Halt i) j e h = let same : i ≡ j = cc in halting n j (atom_at n.atoms j) refl (ap (λ x. is_some (apply n (event.Halt x))) (sym same) ∙ h)
 requesting n (event.Detect i) j e h = let same : i ≡ j = cc in detecting n j (atom_at n.atoms j) refl (ap (λ x. is_some (apply n (event.Detect x))) (sym same) ∙ h)
 
-pub site_of_request : (n : Numbered) (f : Event) (j : AtomId) → request_of f ≡ Some j → site_of n f ≡ site_of_atom n (atom_at n.atoms j)
+site_of_request : (n : Numbered) (f : Event) (j : AtomId) → request_of f ≡ Some j → site_of n f ≡ site_of_atom n (atom_at n.atoms j)
 site_of_request n (event.React i took) j e = cc
 site_of_request n (event.Move i) j e = let same : i ≡ j = cc in ap (λ x. site_of_atom n (atom_at n.atoms x)) same
 site_of_request n (event.Halt i) j e = let same : i ≡ j = cc in ap (λ x. site_of_atom n (atom_at n.atoms x)) same
