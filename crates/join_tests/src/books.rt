@@ -27,13 +27,18 @@ fn commit(alloc: Global, book: &mut Book, event: &Event) -> Result<Option<Commit
     Ok(Some(book.commit(alloc, event)?))
 }
 
-/// The event that comes first from the first site on, and its site.
+/// The event that comes first from the first site on, and its site, by a copy of what was found.
 fn first(alloc: Global, book: &Book) -> Result<Option<(u32, Event)>, Memory> {
     if book.program().sites.is_empty() {
         return Ok(None);
     }
-    let found = book.first_enabled(alloc, 0)?;
-    Ok(found.map(|found| (found.site, found.event)))
+    match book.first_enabled(alloc, 0)? {
+        Some(found) => {
+            let copy = found.copy(alloc)?;
+            Ok(Some((copy.site, copy.event)))
+        }
+        None => Ok(None),
+    }
 }
 
 fn move_of(k: u64) -> Event {

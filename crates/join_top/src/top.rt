@@ -70,7 +70,7 @@ pub fn run_join<S: Source, K: Sink, E: Sink, G: Gate>(
     ensures reads_refused { result.status ≡ 1 → WhereRead (ring_of (task (map string_bytes words.now))) (IsReadOrTooLong (S.left source.old) (S.left source.new)) }
     ensures reads_partly { (result.status ≡ 3) ⊎ (result.status ≡ 6) → WhereRead (ring_of (task (map string_bytes words.now))) (TakesAtMost (S.left source.old) (S.left source.new) 1048576) }
 
-    ensures refused { result.status ≡ 1 → IsRefusedWith (text_run (ring_of (task (map string_bytes words.now))) (S.left source.old)) (E.held err.old) (E.held err.new) (E.faults err.old) (E.faults err.new) }
+    ensures refusal { result.status ≡ 1 → IsRefusedWith (text_run (ring_of (task (map string_bytes words.now))) (S.left source.old)) (E.held err.old) (E.held err.new) (E.faults err.old) (E.faults err.new) }
     ensures accepted { IfSome result.kept (λ kept. OnTold (text_run (ring_of (task (map string_bytes words.now))) (S.left source.old)) (λ text. IsProgramOfText text kept.program)) }
 
     ensures kept { is_some result.kept ≡ has_run result.status }

@@ -1,4 +1,4 @@
-// The names of a run: the binders for which they were made, and their ranks.
+// The names of a trace: their spellings and their ranks.
 ghost use Rattle.std.specs.Prelude.{◌≡◌, ◌<◌, ◌^◌, IfOk, OnOk};
 ghost use Rattle.trace_text.specs.TraceText.{seen_spelling, binder_spelling, is_ranked, is_in, ranked_after, ranked, place_in};
 
