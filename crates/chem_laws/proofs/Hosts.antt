@@ -6,7 +6,7 @@ use Rattle.chem_model.specs.Each.{Each}
 use Rattle.chem_model.specs.Solution.{Solution, Standing, Places, same_loc, is_there, host_of, or_itself, root, live, born, with_host, with_mark, rehosted, marked}
 use Rattle.chem_model.specs.Heating.{Heats, par, def, place}
 use Rattle.chem_model.specs.Reduction.{Acts, react, go, halt, detect, IsReached, stays, heats, communicates, observes}
-use Rattle.chem_model.specs.Runs.{only_roots, IsStart, AreSteps, IsRun}
+use Rattle.chem_model.specs.Runs.{only_roots, IsStart, AreSteps}
 use Rattle.chem_model.specs.Opening.{counts_of}
 use Rattle.chem_laws.specs.Hosts.{IsRootOf, HostsAreRoots, RunsKeepRoots}
 use Rattle.chem_laws.proofs.Places.{live_parts}
