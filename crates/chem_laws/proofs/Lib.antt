@@ -4,6 +4,7 @@ pub mod Terms
 pub mod Parts
 pub mod Within
 pub mod Places
+pub mod Hosts
 pub mod Births
 pub mod LevelLeft
 pub mod PourSoundMade

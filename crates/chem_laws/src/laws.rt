@@ -1,9 +1,15 @@
 ghost use Rattle.chem_model.specs.Laws.{OpeningIsAStart, EventIsAReduction, StuckIsQuiet, ReplayIsARun};
 ghost use Rattle.chem_laws.specs.Within.{DeadIsWithin};
+ghost use Rattle.chem_laws.specs.Hosts.{RunsKeepRoots};
 
 /// A location is dead exactly where it is within a marked location. It does nothing.
 pub fn dead_is_within()
     ensures { DeadIsWithin }
+{}
+
+/// In each solution of a run every host is a root: a location of the solution that has no host. It does nothing.
+pub fn hosts_are_roots()
+    ensures { RunsKeepRoots }
 {}
 
 /// The opening of each program is sound, and what it stands for is reached from a start of the program by heating, Comm and Out
