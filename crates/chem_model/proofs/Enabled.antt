@@ -1,5 +1,5 @@
 -- Whether messages are received past the last pattern.
-use Rattle.std.proofs.Common.{◌≡◌, ◌≤◌, ℕ, zero, suc, List, [], ◌∷◌, length, drop, refl, ap, ◌∙◌, sym, arith, Bool, true, false, ◌==◌}
+use Rattle.std.proofs.Common.{◌≡◌, ◌≤◌, ℕ, zero, suc, List, [], ◌∷◌, length, drop, refl, ◌∙◌, arith, false, ◌==◌}
 use Rattle.std.specs.Prelude.{is_some}
 use Rattle.std.proofs.lemmas.Bool.Decides.{nat_tests}
 use Rattle.chem_model.specs.declared.name.Loc.{Loc}

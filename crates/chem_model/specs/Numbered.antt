@@ -1,6 +1,6 @@
 -- The numbered solution, in which every location, channel, rule, message and request is known by a pair of a site and a number.
 -- It is this project's own, as is every number in a run.
-use Rattle.std.specs.Prelude.{ℕ, List, [], ◌∷◌, ◌++◌, ◌==◌, Bool, true, false, ◌&&◌, Option, Some, None, cond}
+use Rattle.std.specs.Prelude.{ℕ, List, [], ◌∷◌, ◌++◌, ◌==◌, Bool, false, ◌&&◌, Option, Some, None, cond}
 use Rattle.chem_model.specs.declared.name.Loc.{Loc}
 use Rattle.chem_model.specs.declared.name.Name.{Name}
 use Rattle.chem_model.specs.declared.name.Name.TheVariants as name
@@ -11,8 +11,8 @@ pub use Rattle.chem_model.specs.declared.numbered.Numbered.{Numbered}
 pub use Rattle.chem_model.specs.declared.numbered.Made.{Made}
 use Rattle.chem_model.specs.Process.{Process, Definition, Rule}
 use Rattle.chem_model.specs.Bag.{Bag, bag, ◌⊕◌}
-use Rattle.chem_model.specs.Fill.{Named, Naming}
-use Rattle.chem_model.specs.Solution.{Solution, Standing, Places, same_loc, coded_located_process, coded_located_definition}
+use Rattle.chem_model.specs.Fill.{Naming}
+use Rattle.chem_model.specs.Solution.{Solution, Places, same_loc, coded_located_process, coded_located_definition}
 use Rattle.chem_model.specs.NewNames.{Pair, coded_pair}
 
 -- ---- the solution that a numbered one stands for

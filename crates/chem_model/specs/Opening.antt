@@ -1,12 +1,12 @@
 -- The opening of a program: three walks over its sites, in order.
-use Rattle.std.specs.Prelude.{ℕ, ◌+◌, List, [], ◌∷◌, ◌++◌, None, false, map}
+use Rattle.std.specs.Prelude.{ℕ, ◌+◌, List, [], ◌∷◌, ◌++◌, None, false}
 use Rattle.chem_model.specs.declared.name.Loc.{Loc}
 use Rattle.chem_model.specs.declared.name.Name.TheVariants as name
 use Rattle.chem_model.specs.declared.program.SeenDecl.{SeenDecl}
 use Rattle.chem_model.specs.declared.program.SiteTerm.{SiteTerm}
 use Rattle.chem_model.specs.Process.{definitions}
 use Rattle.chem_model.specs.ProgramFacts.{ProgramTerms}
-use Rattle.chem_model.specs.Fill.{Named, Naming}
+use Rattle.chem_model.specs.Fill.{Naming}
 use Rattle.chem_model.specs.Numbered.{Placed, Numbered}
 use Rattle.chem_model.specs.Pour.{naming, births_of, pour_at, lay_at}
 

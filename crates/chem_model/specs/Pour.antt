@@ -8,11 +8,10 @@ use Rattle.chem_model.specs.declared.name.Name.TheVariants as name
 use Rattle.chem_model.specs.declared.name.Ref.{Ref}
 use Rattle.chem_model.specs.declared.name.Ref.TheVariants.{Binder, Known}
 use Rattle.chem_model.specs.declared.name.Pat.{Pat}
-use Rattle.chem_model.specs.declared.event.Out.{Out}
 use Rattle.chem_model.specs.Process.{Process, Msg, Par, Def, Go, Fail, Halt, Processes, none, one_more, Definition, Rule, Place, Definitions, no_definition, and_also}
-use Rattle.chem_model.specs.Fill.{Named, Naming, name_at, fill_ref, fill_refs, fill_pats, fill}
+use Rattle.chem_model.specs.Fill.{Naming, name_at, fill_ref, fill_refs, fill_pats, fill}
 use Rattle.chem_model.specs.Solution.{root}
-use Rattle.chem_model.specs.Numbered.{Placed, NumberedRule, NumberedAtom, Numbered, Made, standing}
+use Rattle.chem_model.specs.Numbered.{Placed, NumberedRule, Numbered, Made, standing}
 
 -- ---- what is made
 

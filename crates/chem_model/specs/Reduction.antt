@@ -1,16 +1,14 @@
 -- Reduction: what a solution does. Each case needs its acting location live, so nothing within a dead location reacts, sends or moves.
-use Rattle.std.specs.Prelude.{◌≡◌, ℕ, ◌<◌, List, [], ◌∷◌, ◌++◌, Some, None, true, false, length, map, slice_get}
+use Rattle.std.specs.Prelude.{◌≡◌, ℕ, ◌<◌, List, [], ◌∷◌, ◌++◌, Some, None, true, false, length, slice_get}
 use Rattle.chem_model.specs.declared.name.Loc.{Loc}
 use Rattle.chem_model.specs.declared.name.Name.{Name}
 use Rattle.chem_model.specs.declared.name.Name.TheVariants as name
 use Rattle.chem_model.specs.declared.name.Ref.{Ref}
 use Rattle.chem_model.specs.declared.name.Ref.TheVariants.{Known}
 use Rattle.chem_model.specs.declared.name.Pat.{Pat}
-use Rattle.chem_model.specs.declared.event.Out.{Out}
 use Rattle.chem_model.specs.Process.{Process, Msg, Go, Fail, Halt, Rule}
-use Rattle.chem_model.specs.Process as t
 use Rattle.chem_model.specs.Bag.{one, bag, ◌⊕◌}
-use Rattle.chem_model.specs.Fill.{Named, Naming, fill}
+use Rattle.chem_model.specs.Fill.{Naming, fill}
 use Rattle.chem_model.specs.Solution.{Solution, Procs, coded_located_process, same_loc, is_there, host_of, dead, live, rehosted, marked, at}
 use Rattle.chem_model.specs.Heating.{Heats}
 

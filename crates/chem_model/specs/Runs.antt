@@ -1,7 +1,6 @@
 -- Starts and runs of the chemical machine.
-use Rattle.std.specs.Prelude.{◌≡◌, ℕ, ◌+◌, ◌≤◌, List, [], ◌∷◌, ◌++◌, ◌==◌, ◌&&◌, cond, Option, Some, None, false, length, nat_lt}
+use Rattle.std.specs.Prelude.{◌≡◌, ℕ, ◌+◌, ◌≤◌, List, [], ◌∷◌, ◌++◌, ◌==◌, ◌&&◌, cond, Some, None, false, length, nat_lt}
 use Rattle.chem_model.specs.declared.name.Loc.{Loc}
-use Rattle.chem_model.specs.declared.name.Name.{Name}
 use Rattle.chem_model.specs.declared.name.Name.TheVariants as name
 use Rattle.chem_model.specs.declared.program.SiteTerm.{SiteTerm}
 use Rattle.chem_model.specs.Process.{Process, Definition, clauses, definitions}
@@ -9,7 +8,7 @@ use Rattle.chem_model.specs.Binders.{block}
 use Rattle.chem_model.specs.ProgramFacts.{ProgramTerms, places}
 use Rattle.chem_model.specs.Bag.{bag}
 use Rattle.chem_model.specs.Fill.{Naming, name_at, fill, fill_definitions}
-use Rattle.chem_model.specs.Solution.{Solution, Standing, Places, coded_located_process, coded_located_definition, at}
+use Rattle.chem_model.specs.Solution.{Solution, Places, coded_located_process, coded_located_definition, at}
 use Rattle.chem_model.specs.NewNames.{Pair, coded_pair, pairs_of, NamesBlock, HasDomain}
 use Rattle.chem_model.specs.Reduction.{Acts, IsReached}
 use Rattle.chem_model.specs.Opening.{counts_of, root_of}

@@ -1,6 +1,6 @@
 -- The state of the chemical machine: located solutions, and a trace.
-use Rattle.std.specs.Prelude.{ℕ, List, [], ◌∷◌, ◌==◌, Bool, true, false, ◌&&◌, ◌||◌, Option, Some, None, cond, not}
-use Rattle.std.specs.Coded.{Coded, coded×, coded_ℕ}
+use Rattle.std.specs.Prelude.{List, [], ◌∷◌, ◌==◌, Bool, true, false, ◌&&◌, ◌||◌, Option, Some, None, cond, not}
+use Rattle.std.specs.Coded.{Coded, coded×}
 use Rattle.chem_model.specs.declared.name.Loc.{Loc}
 use Rattle.chem_model.specs.declared.name.Name.{Name}
 use Rattle.chem_model.specs.declared.event.Out.{Out}

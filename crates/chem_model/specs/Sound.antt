@@ -1,5 +1,5 @@
 -- What every numbered solution of a run keeps.
-use Rattle.std.specs.Prelude.{◌≡◌, ℕ, ◌<◌, ◌≤◌, List, [], ◌∷◌, Some, None, Option, true, false, length, slice_get, slice_index, ◌↔◌}
+use Rattle.std.specs.Prelude.{◌≡◌, ℕ, ◌<◌, ◌≤◌, List, [], ◌∷◌, Some, None, Option, true, false, length, slice_get, slice_index}
 use Rattle.chem_model.specs.declared.name.Loc.{Loc}
 use Rattle.chem_model.specs.declared.name.Name.{Name}
 use Rattle.chem_model.specs.declared.name.Name.TheVariants as name
@@ -9,11 +9,11 @@ use Rattle.chem_model.specs.declared.name.Pat.{Pat}
 use Rattle.chem_model.specs.declared.event.Out.{Out}
 use Rattle.chem_model.specs.Process.{Process, Msg, Par, Def, Go, Fail, Halt, Rule}
 use Rattle.chem_model.specs.Binders.{bound_in_definition}
-use Rattle.chem_model.specs.Scope.{IsInScope, IsDefinition}
+use Rattle.chem_model.specs.Scope.{IsDefinition}
 use Rattle.chem_model.specs.Bag.{bag}
 use Rattle.chem_model.specs.Each.{Each}
 use Rattle.chem_model.specs.Fill.{Named, Naming}
-use Rattle.chem_model.specs.Solution.{Standing, coded_name, is_there, host_of}
+use Rattle.chem_model.specs.Solution.{coded_name, is_there, host_of}
 use Rattle.chem_model.specs.NewNames.{Pair}
 use Rattle.chem_model.specs.Numbered.{Placed, NumberedRule, NumberedAtom, Numbered, standing, pairs}
 use Rattle.chem_model.specs.Pour.{is_count}

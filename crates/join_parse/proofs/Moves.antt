@@ -14,11 +14,11 @@ use Rattle.join_lex.specs.declared.token.Kind2.{Kind2}
 use Rattle.join_lex.specs.declared.token.Kind2.TheVariants as kind
 use Rattle.join_lex.specs.declared.token.Token.{Token}
 use Rattle.join_parse.specs.declared.bounds.Bounds.{Bounds}
-use Rattle.join_parse.specs.Terminals.{a_sign, key_terminal}
+use Rattle.join_parse.specs.Terminals.{a_sign}
 use Rattle.join_parse.specs.Begins.{Symbol, AName, ACount, ASign}
 use Rattle.join_parse.specs.Automaton.{is_key, is_sign, Push, Pass, No, step, may_pass, level, Stop, outcome}
-use Rattle.join_parse.specs.Parsed.{terms, next_is_sign, next_is_key, place_of, key_symbol, AtMost, Reads, Halts, Fails}
-use Rattle.join_parse.proofs.Steps.{sign-is, key-is}
+use Rattle.join_parse.specs.Parsed.{next_is_sign, next_is_key, place_of, key_symbol, AtMost, Reads, Halts, Fails}
+use Rattle.join_parse.proofs.Steps.{sign-is}
 
 -- the kind of a token that a test has found
 pub sign-kind : (s : Sign) (k : Kind2) → is_sign s k ≡ true → k ≡ kind.Sign s

@@ -1,17 +1,15 @@
 -- Texts to which the parts of a sentence are appended.
-use Rattle.std.proofs.Common.{◌≡◌, ℕ, suc, ◌+◌, ◌≤◌, ◌<◌, Bool, true, false, List, [], ◌∷◌, ◌++◌, length, drop, get_or, refl, sym, ap, ◌∙◌, arith, add-one, drop-cons, append_assoc, length-drop}
-use Rattle.join_lex.specs.declared.token.Key.{Key}
+use Rattle.std.proofs.Common.{◌≡◌, ℕ, suc, ◌+◌, ◌<◌, Bool, true, false, List, [], ◌∷◌, ◌++◌, length, drop, get_or, refl, sym, ap, ◌∙◌, add-one, drop-cons, append_assoc}
 use Rattle.join_lex.specs.declared.token.Key.TheVariants as key
 use Rattle.join_lex.specs.declared.token.Sign.TheVariants as sign
-use Rattle.join_lex.specs.Spelling.{key_bytes}
 use Rattle.join_parse.specs.declared.word.Word.{Word}
 use Rattle.join_parse.specs.declared.word.PatTree.{PatTree}
 use Rattle.join_parse.specs.declared.word.SeenTree.{SeenTree}
 use Rattle.join_parse.specs.declared.tree.PlaceTree.{PlaceTree}
-use Rattle.join_parse.specs.Terminals.{Terminal, a_site, a_key, a_sign, named, key_terminal}
-use Rattle.join_parse.specs.Source.{Process, Definition, processes, definitions}
-use Rattle.join_parse.specs.Grammar.{TreeOfText, IsSome, IsGrammatical, sentence, applied, of_process, of_definition, of_definitions, more_definitions, of_declarations, of_sites}
-use Rattle.join_parse.specs.Printed.{spelling, printed, printed_behind, gap, spaced, Prints, between, one_declaration, left_names, left_patterns, left_processes, left_definitions}
+use Rattle.join_parse.specs.Terminals.{Terminal, a_site, a_key, a_sign, named}
+use Rattle.join_parse.specs.Source.{Definition, definitions}
+use Rattle.join_parse.specs.Grammar.{TreeOfText, IsSome, IsGrammatical, sentence, applied, of_definitions, of_declarations, of_sites}
+use Rattle.join_parse.specs.Printed.{spelling, printed, printed_behind, spaced, Prints, between, left_names, left_patterns, left_definitions}
 
 -- one member further
 module _ {A : Type 0} (left : Bool → List A → List Terminal → List Terminal) (one : A → List Terminal → List Terminal) (t : Terminal)

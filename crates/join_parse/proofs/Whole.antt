@@ -1,5 +1,5 @@
 -- From the parts of the parser to its answer.
-use Rattle.std.proofs.Common.{subst, ◌≡◌, ℕ, ◌≤◌, ◌<◌, false, List, [], ◌∷◌, length, drop, refl, sym, ap, ◌∙◌, arith, length-drop, Result, Err}
+use Rattle.std.proofs.Common.{subst, ◌≡◌, ℕ, ◌≤◌, ◌<◌, false, List, [], ◌∷◌, length, drop, refl, sym, ap, ◌∙◌, arith, length-drop, Result}
 use Rattle.std.specs.Result.{IsErrAnd, IfErr}
 use Rattle.std.specs.List.{All}
 use Rattle.std.proofs.lemmas.List.{length-map}
@@ -13,16 +13,14 @@ use Rattle.join_lex.specs.declared.token.Token.{Token}
 use Rattle.join_lex.specs.Tokens.{TokensOfText, AreTokens}
 use Rattle.join_lex.specs.Spelling.{first_version, IsOfVersion}
 use Rattle.join_parse.specs.declared.bounds.Bounds.{Bounds}
-use Rattle.join_parse.specs.declared.word.SeenTree.{SeenTree}
-use Rattle.join_parse.specs.declared.tree.PlaceTree.{PlaceTree}
 use Rattle.join_parse.specs.Terminals.{terminal_of, terminals}
-use Rattle.join_parse.specs.Grammar.{TreeOfText, IsSome, AreDeclarations, AreSites, IsSentence, sentence, of_declarations, of_sites}
+use Rattle.join_parse.specs.Grammar.{TreeOfText, IsSentence, sentence}
 use Rattle.join_parse.specs.Levels.{levels}
 use Rattle.join_parse.specs.Begins.{Symbol, AName, ASite, Body, Sites, Program}
 use Rattle.join_parse.specs.Automaton.{level, Stop, Whole, outcome}
 use Rattle.join_parse.specs.Faults.{IsTreeOf, IsRefusedAs}
 use Rattle.join_parse.specs.TreeFacts.{AreOfVersion, IsTree, most_levels}
-use Rattle.join_parse.specs.Parsed.{terms, next_is_key, place_of, Runs, Halts, IsStop}
+use Rattle.join_parse.specs.Parsed.{next_is_key, place_of, Runs, Halts, IsStop}
 use Rattle.join_parse.proofs.Accepted.{run, run-sentence}
 use Rattle.join_parse.proofs.Firsts.{kind-of-terminal, stop-fault, whole-low}
 use Rattle.join_parse.proofs.Expansions.{program-site}

@@ -1,22 +1,21 @@
 -- What a run on one thread leaves.
-use Rattle.std.proofs.Common.{◌≡◌, ℕ, ◌+◌, ◌-◌, ◌≤◌, List, [], ◌∷◌, ◌++◌, Bool, true, false, Option, Some, refl, sym, ap, ◌∙◌, subst, arith, length, IsTrue, ◌⊎◌, inl, inr, ◌↔◌}
+use Rattle.std.proofs.Common.{◌≡◌, ℕ, ◌≤◌, List, [], Bool, true, false, Some, refl, sym, subst, arith, length, IsTrue, ◌⊎◌, inl, inr, ◌↔◌}
 use Rattle.chem_model.specs.declared.event.Event.{Event}
 use Rattle.chem_model.specs.declared.numbered.Numbered.{Numbered}
 use Rattle.chem_model.specs.ProgramFacts.{ProgramTerms}
 use Rattle.chem_model.specs.Reduction.{Quiet}
 use Rattle.chem_model.specs.Numbered.{erase}
 use Rattle.chem_model.specs.Runs.{IsRun}
-use Rattle.chem_model.specs.Apply.{replay, states}
+use Rattle.chem_model.specs.Apply.{states}
 use Rattle.chem_model.specs.Laws.{erase_all}
 use Rattle.trace_history.specs.Kept.{Kept, solution}
 use Rattle.trace_history.specs.Book.{OnSolution, IsStuck, IsQuiet, Replays}
 use Rattle.site_runner.specs.Run.{RunsOn}
 use Rattle.site_runner.specs.Schedule.{IsSchedule, spent, stuck, first, ScheduleOf}
 use Rattle.trace_text.specs.declared.text.Ending.{Ending}
-use Rattle.trace_text.specs.declared.text.Ending.TheVariants.{Quiescent, Stopped}
 use Rattle.join_words.specs.declared.answer.Asked.{Asked}
 use Rattle.join_top.specs.Printed.{IsWhole}
-use Rattle.join_top.specs.RunJoin.{IsRunOf, ending_of, EndsAs, IsEnded}
+use Rattle.join_top.specs.RunJoin.{ending_of, EndsAs, IsEnded}
 
 pub schedule_within : (budget : ℕ) (n : Numbered) (from : ℕ) (journal : List Event) → IsSchedule budget n from journal → length journal ≤ budget
 schedule_within budget n from journal spent = omega arith

@@ -1,11 +1,9 @@
 -- A text of which one byte more than the limit was taken is refused as too long.
-use Rattle.std.proofs.Common.{◌≡◌, ℕ, ◌+◌, ◌<◌, List, ◌++◌, Option, Some, None, refl, sym, ap, subst, arith, length, length-append}
+use Rattle.std.proofs.Common.{◌≡◌, ℕ, List, Option, Some, None, refl, sym, ap, subst, arith, length, length-append}
 use Rattle.std.specs.Prelude.{codes}
 use Rattle.std.specs.Fmt.{digits}
-use Rattle.std.specs.Io.KnownBytes.{Consumes}
 use Rattle.join_base.specs.declared.fault.Kind.TheVariants.{Lex1}
 use Rattle.join_base.specs.Bytes.{TakesCount}
-use Rattle.join_base.specs.Counts.{Rose}
 use Rattle.join_lex.specs.Lexical.{too_long}
 use Rattle.join_top.specs.Task.{text_run}
 use Rattle.join_top.specs.Text.{IsRefusal, lexical, refusal_line}

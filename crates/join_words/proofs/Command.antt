@@ -6,7 +6,7 @@ use Rattle.clap.specs.declared.builder.value_parser.Reading.TheVariants.{AsWritt
 use Rattle.clap.specs.declared.error.kind.ErrorKind.TheVariants as kind
 use Rattle.clap.specs.Walk.{Row, Rule, Text, arg_by_long, has_row, used, with_default}
 use Rattle.clap.specs.Simple.{Shape, built, filled, is_simple, with_index}
-use Rattle.clap.specs.Faults.{check_fault, default_fault, defaults_fault, is_simple_and_free, use_fault}
+use Rattle.clap.specs.Faults.{default_fault, defaults_fault, is_simple_and_free, use_fault}
 use Rattle.clap.specs.Kinds.{Kinds, or_else}
 use Rattle.join_words.specs.Line.{Field, Kind, budget, by, flag, kind_of, unknown, valued, workers}
 use Rattle.join_words.specs.Command.{flagged, line_app, optional, positional}

@@ -1,5 +1,5 @@
 -- A run on its way: what it appended so far is the beginning of a schedule.
-use Rattle.std.proofs.Common.{◌≡◌, ℕ, ◌+◌, ◌-◌, ◌<◌, ◌≤◌, List, [], ◌∷◌, ◌++◌, Option, Some, None, Bool, true, false, cond, refl, ap, sym, ◌∙◌, subst, arith, length, length-append, append_assoc, append-nil, ◌⊎◌, inl, inr, is_some}
+use Rattle.std.proofs.Common.{◌≡◌, ℕ, ◌+◌, ◌-◌, ◌<◌, List, [], ◌∷◌, ◌++◌, Option, Some, None, true, false, refl, ap, sym, ◌∙◌, subst, arith, length, length-append, append_assoc, append-nil, inl, inr, is_some}
 use Rattle.std.specs.Prelude.{Result, Ok, Err, OnErr}
 use Rattle.chem_model.specs.declared.event.Event.{Event}
 use Rattle.chem_model.specs.declared.numbered.Numbered.{Numbered}
@@ -11,7 +11,7 @@ use Rattle.trace_history.specs.declared.book.Commit.TheVariants.{Place, NotEnabl
 use Rattle.trace_history.specs.declared.book.Found.{Found}
 use Rattle.trace_history.specs.Kept.{Kept, solution, is_enabled}
 use Rattle.trace_history.specs.First.{IsFirst}
-use Rattle.trace_history.specs.Book.{Commits, OnSolution, IsStuck, Finds}
+use Rattle.trace_history.specs.Book.{Commits, IsStuck}
 use Rattle.trace_history.proofs.Replays.{replay_more, replay_sites}
 use Rattle.site_runner.specs.Schedule.{after, IsSchedule, spent, stuck, first, ScheduleOf}
 use Rattle.site_runner.specs.Run.{RunsOn}

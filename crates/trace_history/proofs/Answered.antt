@@ -1,8 +1,7 @@
 -- What the search answers is the event that comes first, and its site is one of the solution.
-use Rattle.std.proofs.Common.{◌≡◌, ℕ, ◌<◌, ◌≤◌, List, Option, Some, None, Bool, true, false, refl, ap, sym, ◌∙◌, subst, arith, ◌&&◌, is_some, length}
+use Rattle.std.proofs.Common.{◌≡◌, ℕ, ◌<◌, ◌≤◌, Option, Some, None, true, false, refl, sym, subst, is_some, length}
 use Rattle.std.specs.List.{list_all}
 use Rattle.std.specs.Prelude.{Result, Ok, Err, OnErr}
-use Rattle.chem_model.specs.declared.event.AtomId.{AtomId}
 use Rattle.chem_model.specs.declared.event.Event.{Event}
 use Rattle.chem_model.specs.declared.event.Event.TheVariants as event
 use Rattle.chem_model.specs.declared.numbered.NumberedRule.{NumberedRule}
@@ -15,7 +14,7 @@ use Rattle.chem_laws.proofs.Places.{live_parts, root_is}
 use Rattle.chem_laws.proofs.Taking.{atom_found}
 use Rattle.trace_history.specs.declared.book.Found.{Found}
 use Rattle.trace_history.specs.First.{IsFirst}
-use Rattle.trace_history.specs.Search.{IsFirstOf, is_met, is_ready, turn, rule_before, can_act, request_before, event_of, IsReaction, IsMeeting, IsFound}
+use Rattle.trace_history.specs.Search.{IsFirstOf, is_met, is_ready, turn, rule_before, can_act, request_before, IsReaction, IsMeeting, IsFound}
 use Rattle.trace_history.proofs.Least.{both, member_found}
 use Rattle.chem_model.specs.Apply.{apply}
 use Rattle.trace_history.proofs.Founds.{has_event, atoms_differ, react_first, request_first, rule_possible, request_possible}

@@ -1,7 +1,6 @@
 -- The first ready rule and the first request that can be met give the event that comes first.
-use Rattle.std.proofs.Common.{◌≡◌, ℕ, ◌+◌, ◌<◌, ◌≤◌, List, [], ◌∷◌, ◌++◌, Option, Some, None, Bool, true, false, cond, refl, ap, sym, ◌∙◌, subst, arith, ◌&&◌, ◌||◌, ◌==◌, ◌⊎◌, inl, inr, is_some, length}
-use Rattle.std.specs.Prelude.{nat_lt}
-use Rattle.std.specs.List.{list_any, list_all}
+use Rattle.std.proofs.Common.{◌≡◌, ℕ, ◌+◌, ◌<◌, ◌≤◌, List, [], ◌∷◌, Option, Some, None, Bool, true, false, cond, refl, ap, sym, ◌∙◌, subst, arith, ◌&&◌, ◌||◌, inl, inr, is_some, length}
+use Rattle.std.specs.List.{list_all}
 use Rattle.chem_model.specs.declared.name.Loc.{Loc}
 use Rattle.chem_model.specs.declared.name.Pat.{Pat}
 use Rattle.chem_model.specs.declared.event.AtomId.{AtomId}
@@ -12,18 +11,16 @@ use Rattle.chem_model.specs.declared.numbered.NumberedRule.{NumberedRule}
 use Rattle.chem_model.specs.declared.numbered.NumberedAtom.{NumberedAtom}
 use Rattle.chem_model.specs.declared.numbered.Numbered.{Numbered}
 use Rattle.chem_model.specs.Process.{Process, Msg, Par, Def, Go, Fail, Halt}
-use Rattle.chem_model.specs.Each.{Each}
-use Rattle.chem_model.specs.Bag.{bag}
 use Rattle.chem_model.specs.Fill.{Naming}
 use Rattle.chem_model.specs.Solution.{live, root}
 use Rattle.chem_model.specs.Numbered.{standing}
 use Rattle.chem_model.specs.Apply.{atom_at, rule_at, received_at, received_all, react_received, react_rule, with_atom, move_atom, halt_atom, detect_atom, apply}
 use Rattle.chem_model.specs.Sound.{IsSound}
 use Rattle.chem_laws.proofs.Taking.{atom_found, rule_found}
-use Rattle.trace_history.specs.First.{turns, less, atom_less, rule_less, atoms_less, request_of, requests_less, event_less, site_of, site_of_rule, site_of_atom, IsFirst}
+use Rattle.trace_history.specs.First.{turns, atom_less, rule_less, atoms_less, request_of, requests_less, event_less, site_of, site_of_rule, site_of_atom, IsFirst}
 use Rattle.trace_history.specs.Search.{IsIn, IsFirstOf, AreLeast, receives, atom_before, is_met, is_ready, turn, rule_before, can_act, request_before, event_of}
 use Rattle.trace_history.proofs.Replays.{same_some}
-use Rattle.trace_history.proofs.Order.{sooner, sooner_not, not_sooner, sooner_is, less_asym, less_trans, less_same}
+use Rattle.trace_history.proofs.Order.{sooner_not, not_sooner, sooner_is, less_asym, less_trans, less_same}
 use Rattle.trace_history.proofs.FirstOf.{IsOrder}
 use Rattle.trace_history.proofs.Least.{both, AtomsDiffer, RulesDiffer, atom_has, rule_has, member_found, rule_member_found, some_both, least_received, least_of_all, all_met}
 

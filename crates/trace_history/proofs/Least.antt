@@ -1,5 +1,5 @@
 -- The least messages for the patterns of a rule are received, and none that are received come before them.
-use Rattle.std.proofs.Common.{◌≡◌, ℕ, zero, suc, ◌+◌, ◌<◌, ◌≤◌, length, take, get_or, add-one, List, [], ◌∷◌, ◌++◌, Option, Some, None, Bool, true, false, cond, refl, ap, sym, ◌∙◌, subst, arith, ◌&&◌, ◌||◌, ◌⊎◌, inl, inr, is_some}
+use Rattle.std.proofs.Common.{◌≡◌, ℕ, zero, suc, ◌+◌, ◌<◌, ◌≤◌, length, take, get_or, add-one, List, [], ◌∷◌, ◌++◌, Option, Some, None, Bool, true, false, cond, refl, ap, sym, ◌∙◌, subst, arith, ◌&&◌, ◌||◌, inl, inr, is_some}
 use Rattle.std.specs.List.{list_any, list_all}
 use Rattle.std.proofs.Math.Seq.{take-suc}
 use Rattle.chem_model.specs.declared.name.Loc.{Loc}
@@ -15,7 +15,7 @@ use Rattle.chem_model.specs.Fill.{Naming}
 use Rattle.chem_model.specs.Numbered.{atom_pairs, rule_pairs}
 use Rattle.chem_model.specs.Apply.{same_atom, same_rule, atom_at, rule_at, received_at, both_received, received_all}
 use Rattle.chem_laws.proofs.Bags.{one_self}
-use Rattle.chem_laws.proofs.Taking.{same_atom_is, same_atom_refl, same_rule_is, same_rule_refl, atom_found, rule_found, atom_pair_found, rule_pair_found}
+use Rattle.chem_laws.proofs.Taking.{same_atom_is, same_atom_refl, same_rule_is, same_rule_refl, atom_found, atom_pair_found, rule_pair_found}
 use Rattle.trace_history.specs.First.{atom_less, atoms_less}
 use Rattle.trace_history.specs.Search.{IsIn, IsFirstOf, receives, atom_before, is_met, IsLeast, AreLeast}
 

@@ -1,5 +1,5 @@
 -- What is said of a book's solution is said of the book.
-use Rattle.std.proofs.Common.{◌≡◌, ℕ, ◌<◌, length, Option, Some, None, Bool, true, false, refl, ap, sym, ◌∙◌, subst, IsTrue, ◌↔◌, is_some}
+use Rattle.std.proofs.Common.{◌≡◌, ℕ, ◌<◌, length, Option, Some, None, Bool, false, refl, ap, sym, ◌∙◌, subst, IsTrue, ◌↔◌, is_some}
 use Rattle.std.specs.Prelude.{IfSome}
 use Rattle.chem_model.specs.declared.event.Event.{Event}
 use Rattle.chem_model.specs.declared.numbered.Numbered.{Numbered}
@@ -10,7 +10,7 @@ use Rattle.chem_model.specs.Sound.{IsSound}
 use Rattle.chem_model.specs.Laws.{EventIsAReduction, IsReduction, StuckIsQuiet}
 use Rattle.trace_history.specs.declared.book.Found.{Found}
 use Rattle.trace_history.specs.Kept.{Kept, solution, is_enabled}
-use Rattle.trace_history.specs.Book.{OnSolution, IsStuck, IsQuiet}
+use Rattle.trace_history.specs.Book.{IsStuck, IsQuiet}
 use Rattle.trace_history.specs.Search.{IsFound}
 use Rattle.trace_history.proofs.Replays.{same_some, replay_sites}
 

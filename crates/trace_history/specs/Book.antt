@@ -1,9 +1,7 @@
 -- What the calls of a book promise.
-use Rattle.std.specs.Prelude.{◌≡◌, ℕ, List, [], ◌∷◌, ◌++◌, length, Option, Some, None, true, false, ◌↔◌}
+use Rattle.std.specs.Prelude.{◌≡◌, ℕ, [], ◌∷◌, ◌++◌, length, Option, Some, None, true, false}
 use Rattle.chem_model.specs.declared.event.Event.{Event}
-use Rattle.chem_model.specs.declared.event.Out.{Out}
 use Rattle.chem_model.specs.declared.numbered.Numbered.{Numbered}
-use Rattle.chem_model.specs.ProgramFacts.{ProgramTerms, IsProgram}
 use Rattle.chem_model.specs.Reduction.{Quiet}
 use Rattle.chem_model.specs.Numbered.{erase}
 use Rattle.chem_model.specs.Runs.{IsOpened}

@@ -1,5 +1,5 @@
 -- What contracts see of a book: a program, and the events since its opening.
-use Rattle.std.specs.Prelude.{◌≡◌, List, refl, Option, Some, is_some, Bool}
+use Rattle.std.specs.Prelude.{List, refl, Option, is_some, Bool}
 use Rattle.std.specs.Coded.{Coded, code_by, coded×, coded_list}
 use Rattle.chem_model.specs.declared.event.Event.{Event}
 use Rattle.chem_model.specs.contracts.event.Event as event

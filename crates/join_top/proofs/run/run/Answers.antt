@@ -1,9 +1,8 @@
 -- What the run leaves, in the words of its book.
-use Rattle.std.proofs.Common.{◌≡◌, ℕ, ◌≤◌, List, [], sym, ap, subst, length}
+use Rattle.std.proofs.Common.{◌≡◌, List, [], sym, ap, subst}
 use Rattle.chem_model.specs.declared.event.Event.{Event}
 use Rattle.chem_model.specs.ProgramFacts.{ProgramTerms}
 use Rattle.trace_history.specs.Kept.{Kept}
-use Rattle.site_runner.specs.Schedule.{ScheduleOf}
 use Rattle.join_top.specs.RunJoin.{IsEnded}
 use Rattle.join_top.proofs.Leaving.{ended, schedule_within}
 use Rattle.join_top.proofs.run.run.Goals as goal

@@ -1,10 +1,9 @@
 -- A fault of the parser or of the checker is the refusal of the text.
-use Rattle.std.proofs.Common.{rules, ◌≡◌}
+use Rattle.std.proofs.Common.{rules}
 use Rattle.std.proofs.lemmas.Result.{IfErr-weaker}
-use Rattle.join_parse.specs.TreeFacts.{most_levels}
 use Rattle.scope_check.specs.Checked as scope
 use Rattle.join_top.specs.Text.{NamesRefusal}
-use Rattle.join_top.proofs.Refusals.{by_bytes, by_tokens, by_tree}
+use Rattle.join_top.proofs.Refusals.{by_tokens, by_tree}
 use Rattle.join_top.proofs.text.program_of.Goals as goal
 
 pub returns-in_err-tree-clause-refusal : goal.returns-in_err-tree-clause-refusal

@@ -1,9 +1,8 @@
 -- At the start nothing is appended; each turn appends the first event; and the run ends where none is possible or the budget is spent.
-use Rattle.std.proofs.Common.{◌≡◌, ℕ, ◌+◌, ◌<◌, ◌≤◌, length, sym, ap, ◌∙◌, subst, arith, Some}
+use Rattle.std.proofs.Common.{◌≡◌, ℕ, ◌+◌, ◌<◌, length, sym, ap, ◌∙◌, subst, arith}
 use Rattle.chem_model.specs.ProgramFacts.{ProgramTerms}
 use Rattle.trace_history.specs.Book.{IsStuck}
 use Rattle.trace_history.specs.First.{IsFirst}
-use Rattle.site_runner.specs.Run.{RunsOn}
 use Rattle.site_runner.proofs.Going.{Goes, begins, first_not_stuck, still_stuck, possible_on_err, after_event, stops, is_spent, whole, some_site}
 use Rattle.site_runner.proofs.one_thread.alone.Goals as goal
 

@@ -1,5 +1,5 @@
 -- Each pattern is met, so it has a least message.
-use Rattle.std.proofs.Common.{◌≡◌, ◌∙◌}
+use Rattle.std.proofs.Common.{◌∙◌}
 use Rattle.trace_history.proofs.Least.{one_more_least, none_least}
 use Rattle.trace_history.proofs.search.least_messages.Goals as goal
 use Rattle.trace_history.proofs.search.least_messages.Goals.{in-Some+in_ok-push-in-Some, in-None}

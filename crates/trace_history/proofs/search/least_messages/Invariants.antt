@@ -1,4 +1,4 @@
-use Rattle.std.proofs.Common.{◌≡◌, take}
+use Rattle.std.proofs.Common.{take}
 use Rattle.trace_history.specs.Search.{AreLeast}
 use Rattle.trace_history.proofs.search.least_messages.Given as goal
 

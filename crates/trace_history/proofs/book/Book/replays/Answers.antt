@@ -1,5 +1,4 @@
 -- The solution that the book holds.
-use Rattle.std.proofs.Common.{◌≡◌}
 use Rattle.trace_history.proofs.book.Book.replays.Goals as goal
 
 pub returns : goal.returns
