@@ -50,6 +50,17 @@ fn fail_at_write(rt: &impl Abort, alloc: Global, write: u32, written: &str) -> R
     Ok(())
 }
 
+/// The first write is offered the whole text: a sink that takes it isn't asked again.
+#[test]
+fn one_write_is_enough(rt: HostRuntime) -> Result<(), Fail> {
+    let alloc = rt.alloc();
+    let fails = Items::from_slice(alloc, &[2])?;
+    let out = MemSink::new(alloc, 64, 64, fails)?;
+    let run = call(alloc, &WORDS, source_of(alloc, FIRST)?, out)?;
+    run.expect(&rt, 0, "out(s)\nquiescent\n", "");
+    Ok(())
+}
+
 /// One byte more than the limit is refused, and no byte after it is taken.
 #[test]
 fn a_text_past_the_limit(rt: HostRuntime) -> Result<(), Fail> {
