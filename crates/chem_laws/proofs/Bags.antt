@@ -1,7 +1,8 @@
 -- Laws of multisets.
 use Rattle.std.proofs.Common.{◌≡◌, ◌+◌, ◌<◌, true, ◌&&◌, cond, List, [], ◌∷◌, ◌++◌, refl, ap, ◌∙◌, arith, eqb-true, eq-eqb}
+use Rattle.std.proofs.lemmas.Bool.{and_parts}
 use Rattle.std.specs.Coded.{Coded}
-use Rattle.chem_laws.proofs.Lists.{both_true, cond_above}
+use Rattle.chem_laws.proofs.Lists.{cond_above}
 use base.Stored.{Gv, gnil, gnum, gcons}
 use Rattle.chem_model.specs.Bag.{one, bag, same_code}
 
@@ -13,7 +14,7 @@ same_code_refl (gcons a b) = ap (λ t. t && same_code b b) (same_code_refl a) �
 pub same_code_is : (a b : Gv) → same_code a b ≡ true → a ≡ b
 same_code_is gnil gnil e = refl
 same_code_is (gnum m) (gnum n) e = ap gnum (eqb-true m n e)
-same_code_is (gcons a b) (gcons c d) e = let h = both_true (same_code a c) (same_code b d) e in λ i. gcons (same_code_is a c h.0 i) (same_code_is b d h.1 i)
+same_code_is (gcons a b) (gcons c d) e = let h = and_parts (same_code a c) (same_code b d) e in λ i. gcons (same_code_is a c h.0 i) (same_code_is b d h.1 i)
 same_code_is _ _ e = cc
 
 pub one_self : {X : Type 0} (c : Coded X) (x : X) → one c x x ≡ 1

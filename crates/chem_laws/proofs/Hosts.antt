@@ -3,7 +3,7 @@ use Rattle.std.proofs.Common.{◌≡◌, ℕ, List, [], ◌∷◌, Option, Some,
 use Rattle.chem_model.specs.declared.name.Loc.{Loc}
 use Rattle.chem_model.specs.ProgramFacts.{ProgramTerms}
 use Rattle.chem_model.specs.Each.{Each}
-use Rattle.chem_model.specs.Solution.{Solution, Standing, Places, same_loc, is_there, host_of, or_itself, root, live, born, with_host, with_mark, rehosted, marked}
+use Rattle.chem_model.specs.Solution.{Solution, Standing, Places, same_loc, is_there, host_of, or_itself, root, live, born, with_host, rehosted, marked}
 use Rattle.chem_model.specs.Heating.{Heats, par, def, place}
 use Rattle.chem_model.specs.Reduction.{Acts, react, go, halt, detect, IsReached, stays, heats, communicates, observes}
 use Rattle.chem_model.specs.Runs.{only_roots, IsStart, AreSteps}
@@ -11,6 +11,7 @@ use Rattle.chem_model.specs.Opening.{counts_of}
 use Rattle.chem_laws.specs.Hosts.{IsRootOf, HostsAreRoots, RunsKeepRoots}
 use Rattle.chem_laws.proofs.Places.{live_parts}
 use Rattle.chem_laws.proofs.Within.{same_loc_is}
+use Rattle.chem_laws.proofs.Requests.{mark_there, mark_host}
 
 root_kept : (pl ql : Places) (h : Loc) → ql h ≡ pl h → IsRootOf pl h → IsRootOf ql h
 root_kept pl ql h same is = (ap is_there same ∙ is.0, ap host_of same ∙ is.1)
@@ -65,16 +66,10 @@ rehosted_roots pl a b g hosted is hosts l h e =
 
 -- ---- a mark
 
-mark_keeps : (t : Bool) (o : Option Standing) → (is_there (cond t (with_mark o) o) ≡ is_there o) × (host_of (cond t (with_mark o) o) ≡ host_of o)
-mark_keeps true None = (refl, refl)
-mark_keeps true (Some s) = (refl, refl)
-mark_keeps false o = (refl, refl)
-
 marked_roots : (pl : Places) (a : Loc) → HostsAreRoots pl → HostsAreRoots (marked pl a)
 marked_roots pl a hosts l h e =
-    let host = hosts l h (sym (mark_keeps (same_loc a l) (pl l)).1 ∙ e) in
-    let same = mark_keeps (same_loc a h) (pl h) in
-    (same.0 ∙ host.0, same.1 ∙ host.1)
+    let host = hosts l h (sym (mark_host (pl l) (same_loc a l)) ∙ e) in
+    (mark_there (pl h) (same_loc a h) ∙ host.0, mark_host (pl h) (same_loc a h) ∙ host.1)
 
 -- ---- starts, steps and runs
 

@@ -4,7 +4,6 @@ pub mod Terms
 pub mod Parts
 pub mod Within
 pub mod Places
-pub mod Hosts
 pub mod Births
 pub mod LevelLeft
 pub mod PourSoundMade
@@ -13,6 +12,7 @@ pub mod PourSoundTerms
 pub mod PourSound
 pub mod Taking
 pub mod Requests
+pub mod Hosts
 pub mod Step
 pub mod Quiet
 pub mod Replay

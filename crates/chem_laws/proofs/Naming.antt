@@ -1,5 +1,6 @@
 -- Naming a level gives each binder of its block a new name, of the right sort and with the right home.
 use Rattle.std.proofs.Common.{◌≡◌, ℕ, ◌+◌, ◌≤◌, List, [], ◌∷◌, ◌++◌, Option, Some, None, Bool, true, false, cond, refl, sym, ap, ◌∙◌, subst, arith, ◌==◌, ◌||◌, inl, inr, eq-eqb, eqb-true}
+use Rattle.std.proofs.lemmas.Bool.{or_right}
 use Rattle.std.specs.Prelude.{is_some}
 use Rattle.chem_model.specs.declared.name.Loc.{Loc}
 use Rattle.chem_model.specs.declared.name.Name.{Name}
@@ -19,7 +20,7 @@ use Rattle.chem_model.specs.Solution.{is_there, same_loc}
 use Rattle.chem_model.specs.NewNames.{Pair, coded_pair, pair_of, pairs_of, HasDomain, NamesBlock, OnBinder, IsChannelAt, IsLocation}
 use Rattle.chem_model.specs.Numbered.{standing, place_pairs, channel_pairs}
 use Rattle.chem_model.specs.Pour.{Drawn, name_channel, name_ref, name_pats, name_channels, name_place, name_places, naming, births_of, loc_or}
-use Rattle.chem_laws.proofs.Lists.{or_assoc, or_comm, or_right, Each-append, Each-weaker, has_some, has_none}
+use Rattle.chem_laws.proofs.Lists.{or_assoc, or_comm, Each-append, Each-weaker, has_some, has_none}
 use Rattle.chem_laws.proofs.Terms.{or_name, name_at-append, some_or, among-append, among_left, among_right, among_first}
 use Rattle.chem_laws.proofs.Within.{same_loc_refl}
 use Rattle.chem_laws.proofs.Parts.{in_range, Agree, IsGivenAt, NamingIs}

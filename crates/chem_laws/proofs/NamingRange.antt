@@ -1,5 +1,6 @@
 -- Numbers drawn one after another, as a range of pairs that is counted; and names whose pairs all differ.
 use Rattle.std.proofs.Common.{◌≡◌, ℕ, ◌+◌, ◌<◌, ◌≤◌, [], ◌∷◌, ◌++◌, Some, Bool, true, false, cond, refl, sym, ap, ◌∙◌, arith, ◌==◌, ◌&&◌, eqb-true, leb-true, ltb-true}
+use Rattle.std.proofs.lemmas.Bool.{and_parts}
 use Rattle.std.specs.Prelude.{nat_lt, nat_le}
 use Rattle.chem_model.specs.Bag.{one, bag}
 use Rattle.chem_model.specs.Each.{Each}
@@ -9,7 +10,7 @@ use Rattle.chem_model.specs.declared.numbered.Named.{Named}
 use Rattle.chem_model.specs.Fill.{Naming, name_at}
 use Rattle.chem_model.specs.NewNames.{Pair, coded_pair, pair_of, pairs_of}
 use Rattle.chem_model.specs.Numbered.{channel_pair, channel_pairs}
-use Rattle.chem_laws.proofs.Lists.{both_true, cond_above, cond_most}
+use Rattle.chem_laws.proofs.Lists.{cond_above, cond_most}
 use Rattle.chem_laws.proofs.Bags.{one_self, bag-append}
 use Rattle.chem_laws.proofs.Parts.{in_range}
 
@@ -44,8 +45,8 @@ InRange s k n p = (p.0 ≡ s) × (k ≤ p.1) × (p.1 < n)
 
 pub in_range_is : (s k n : ℕ) (p : Pair) → 0 < in_range s k n p → InRange s k n p
 in_range_is s k n p h =
-    let whole = both_true (p.0 == s) (nat_le k p.1 && nat_lt p.1 n) (cond_above ((p.0 == s) && (nat_le k p.1 && nat_lt p.1 n)) h) in
-    let numbers = both_true (nat_le k p.1) (nat_lt p.1 n) whole.1 in
+    let whole = and_parts (p.0 == s) (nat_le k p.1 && nat_lt p.1 n) (cond_above ((p.0 == s) && (nat_le k p.1 && nat_lt p.1 n)) h) in
+    let numbers = and_parts (nat_le k p.1) (nat_lt p.1 n) whole.1 in
     (eqb-true p.0 s whole.0, leb-true k p.1 numbers.0, ltb-true p.1 n numbers.1)
 
 -- ---- the pairs of more names

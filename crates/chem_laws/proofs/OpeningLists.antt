@@ -1,9 +1,10 @@
 -- Lists by recursion: what is kept of each member and of each two, and how often a number stands in a list.
 use Rattle.std.proofs.Common.{◌≡◌, ℕ, zero, suc, ◌+◌, ◌<◌, ◌≤◌, List, [], ◌∷◌, ◌++◌, Bool, true, false, cond, sym, ◌∙◌, subst, arith, map, ◌||◌, ◌==◌, ◌⊎◌}
+use Rattle.std.proofs.lemmas.Bool.{or_parts}
 use Rattle.std.specs.List.{AllPairs}
 use Rattle.chem_model.specs.Each.{Each}
 use Rattle.chem_model.specs.Binders.{is_among, times}
-use Rattle.chem_laws.proofs.Lists.{either_true, each_all, EachPair, Each-left, Each-right, neither}
+use Rattle.chem_laws.proofs.Lists.{either_true, each_all, EachPair, Each-left, Each-right}
 use Rattle.chem_laws.proofs.Terms.{among-append, times-cons, times-append}
 
 -- ---- each member, and each two members
@@ -57,7 +58,7 @@ pub among_either : (xs ys : List ℕ) (b : ℕ) → is_among (xs ++ ys) b ≡ tr
 among_either xs ys b h = either_true (is_among xs b) (is_among ys b) (sym (among-append xs ys b) ∙ h)
 
 pub not_among : (xs ys : List ℕ) (b : ℕ) → is_among (xs ++ ys) b ≡ false → (is_among xs b ≡ false) × (is_among ys b ≡ false)
-not_among xs ys b h = neither (is_among xs b) (is_among ys b) (sym (among-append xs ys b) ∙ h)
+not_among xs ys b h = or_parts (is_among xs b) (is_among ys b) (sym (among-append xs ys b) ∙ h)
 
 -- in two lists together that have each number once, a number of the one isn't in the other
 pub once_apart : (xs ys : List ℕ) (b : ℕ) → times (xs ++ ys) b ≤ 1 → is_among xs b ≡ true → is_among ys b ≡ true → ⊥

@@ -1,5 +1,6 @@
 -- The names of what the sites define: each site's are its own, and their pairs are all different.
 use Rattle.std.proofs.Common.{◌≡◌, ℕ, suc, ◌+◌, ◌<◌, ◌≤◌, List, [], ◌∷◌, ◌++◌, Option, Some, None, Bool, true, false, cond, refl, sym, ap, ◌∙◌, subst, arith, length, ◌||◌, ◌==◌, inl, inr, eqb-true, eq-eqb}
+use Rattle.std.proofs.lemmas.Bool.{or_parts}
 use Rattle.std.specs.Prelude.{is_some, slice_index}
 use Rattle.chem_model.specs.declared.name.Name.{Name}
 use Rattle.chem_model.specs.declared.name.Name.TheVariants as name
@@ -16,7 +17,7 @@ use Rattle.chem_model.specs.NewNames.{Pair, coded_pair, pairs_of, HasDomain}
 use Rattle.chem_model.specs.Pour.{Drawn, naming}
 use Rattle.chem_model.specs.Opening.{root_of, root_names, level_names, level_counts}
 use Rattle.chem_model.specs.Runs.{NamesSites}
-use Rattle.chem_laws.proofs.Lists.{above, is_false, has_none, cond_most, neither, zero_or_above}
+use Rattle.chem_laws.proofs.Lists.{above, is_false, has_none, cond_most, zero_or_above}
 use Rattle.chem_laws.proofs.Bags.{one_is}
 use Rattle.chem_laws.proofs.Terms.{or_name, name_at-append, some_or, among-append, domain-append, among_first, among_left, among_right}
 use Rattle.chem_laws.proofs.Parts.{Agree, in_range, IsNaming, NamingIs}
@@ -126,14 +127,14 @@ module _ (naming_is : NamingIs) where
     here b e =
         let apart = sites_apart t.name (definitions t.defs) t.body (places ts) h b (among_right (t.name ∷ []) level b e) in
         let other : (t.name == b) ≡ false = is_false (t.name == b) (λ q. let f : is_among level b ≡ false = ap (is_among level) (sym (eqb-true t.name b q)) ∙ name_apart t.name (definitions t.defs) t.body (places ts) h in cc) in
-        let no_root : is_some (name_at roots b) ≡ false = root_found (i + 1) ts b ∙ (neither (is_among (site_binders ts) b) (is_among (level_binders ts) b) (sym (block_is ts b) ∙ apart)).0 in
+        let no_root : is_some (name_at roots b) ≡ false = root_found (i + 1) ts b ∙ (or_parts (is_among (site_binders ts) b) (is_among (level_binders ts) b) (sym (block_is ts b) ∙ apart)).0 in
         parts b other ∙ ap (λ o. or_name o (or_name (name_at own b) (name_at levels b))) (has_none (name_at roots b) no_root) ∙ first_name (name_at own b) (name_at levels b) (own_domain i t one_block g b ∙ e)
 
     later : Agree (block (places ts)) (rest_names i (t ∷ ts)) (rest_names (i + 1) ts)
     later b e =
         let apart : is_among (t.name ∷ level) b ≡ false = is_false (is_among (t.name ∷ level) b) (λ q. let f = sites_apart t.name (definitions t.defs) t.body (places ts) h b q in cc) in
         let both = not_among (t.name ∷ []) level b apart in
-        let other : (t.name == b) ≡ false = (neither (t.name == b) false both.0).0 in
+        let other : (t.name == b) ≡ false = (or_parts (t.name == b) false both.0).0 in
         let no_own : is_some (name_at own b) ≡ false = own_domain i t one_block g b ∙ both.1 in
         parts b other ∙ ap (λ o. or_name (name_at roots b) (or_name o (name_at levels b))) (has_none (name_at own b) no_own) ∙ sym (name_at-append roots levels b)
 

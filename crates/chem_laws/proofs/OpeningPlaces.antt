@@ -1,5 +1,6 @@
 -- The locations of an opening: one root a site, and then the places of each site's level.
 use Rattle.std.proofs.Common.{◌≡◌, ℕ, ◌+◌, ◌<◌, ◌≤◌, List, [], ◌∷◌, ◌++◌, Option, Some, None, Bool, true, false, cond, refl, sym, ap, ◌∙◌, arith, length, ◌||◌, ◌&&◌, ◌==◌, eqb-true, eq-eqb, ltb-true, lt-ltb, ◌⊎◌, inl, inr, eq-or-lt_of_le}
+use Rattle.std.proofs.lemmas.Bool.{and_parts}
 use Rattle.std.specs.Prelude.{not, nat_lt}
 use Rattle.chem_model.specs.declared.name.Loc.{Loc}
 use Rattle.chem_model.specs.declared.event.Out.{Out}
@@ -16,7 +17,7 @@ use Rattle.chem_model.specs.Numbered.{standing, place_pairs}
 use Rattle.chem_model.specs.Pour.{births_of}
 use Rattle.chem_model.specs.Opening.{root_of, roots, level_births}
 use Rattle.chem_model.specs.Runs.{only_roots, definitions_at}
-use Rattle.chem_laws.proofs.Lists.{both_true, true_both, Each-append}
+use Rattle.chem_laws.proofs.Lists.{true_both, Each-append}
 use Rattle.chem_laws.proofs.Bags.{one_self, bag-append}
 use Rattle.chem_laws.proofs.Within.{same_loc_is, same_loc_refl}
 use Rattle.chem_laws.proofs.Places.{root_loc}
@@ -69,7 +70,7 @@ pub roots_alone : (ts : List SiteTerm) (l : Loc) → only_roots (length ts) l �
 roots_alone ts l = go ((l.k == 0) && nat_lt l.site (length ts)) refl
   where
     go : (s : Bool) → (l.k == 0) && nat_lt l.site (length ts) ≡ s → cond s (Some at_root) None ≡ standing (roots 0 ts) l
-    go true e = let both = both_true (l.k == 0) (nat_lt l.site (length ts)) e in let lt = ltb-true l.site (length ts) both.1 in sym (root_found ts 0 l (eqb-true l.k 0 both.0) (omega arith) (omega arith))
+    go true e = let both = and_parts (l.k == 0) (nat_lt l.site (length ts)) e in let lt = ltb-true l.site (length ts) both.1 in sym (root_found ts 0 l (eqb-true l.k 0 both.0) (omega arith) (omega arith))
     go false e = sym (root_not ts 0 l (λ a b c. (let both = true_both (l.k == 0) (nat_lt l.site (length ts)) (eq-eqb l.k 0 a) (lt-ltb l.site (length ts) (omega arith)) in cc)))
 
 pub live_root : (pl : Places) (l : Loc) → pl l ≡ Some at_root → (live pl l ≡ true) × (root pl l ≡ l)

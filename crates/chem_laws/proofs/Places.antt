@@ -1,5 +1,6 @@
 -- Locations and names of a numbered solution, and facts on names in terms.
 use Rattle.std.proofs.Common.{◌≡◌, ℕ, ◌+◌, List, [], ◌∷◌, ◌++◌, Option, Some, None, Bool, true, false, cond, refl, sym, ap, ◌∙◌, subst, arith, ◌&&◌, ◌||◌, ◌<◌, inl, inr, ◌==◌}
+use Rattle.std.proofs.lemmas.Bool.{and_parts, or_left, or_right}
 use Rattle.std.specs.Prelude.{not, slice_index_or, is_some}
 use Rattle.std.specs.List.{All}
 use Rattle.chem_model.specs.declared.name.Loc.{Loc}
@@ -24,7 +25,7 @@ use Rattle.chem_model.specs.Numbered.{standing, place_pairs, channel_pair, chann
 use Rattle.chem_model.specs.Pour.{add_made}
 use Rattle.chem_model.specs.Opening.{root_of}
 use Rattle.chem_model.specs.Sound.{IsSound, IsNameOf, IsKnown, IsSettled, IsRoot, IsHosted, names_in}
-use Rattle.chem_laws.proofs.Lists.{both_true, Each-weaker, Each-append, above, either_true, or_left, or_right}
+use Rattle.chem_laws.proofs.Lists.{Each-weaker, Each-append, above, either_true}
 use Rattle.chem_laws.proofs.Bags.{bag-append, one_self, one_is}
 use Rattle.chem_laws.proofs.Terms.{among-append, named_either}
 use Rattle.chem_laws.proofs.Within.{same_loc_is}
@@ -78,7 +79,7 @@ place_pair_found (x ∷ xs) l e = go (same_loc x.loc l) refl (place_pair_found x
 
 pub live_parts : (pl : Places) (l : Loc) → live pl l ≡ true → (is_there (pl l) ≡ true) × (dead pl l ≡ false)
 live_parts pl l h =
-    let both = both_true (is_there (pl l)) (not (dead pl l)) h in
+    let both = and_parts (is_there (pl l)) (not (dead pl l)) h in
     (both.0, go (dead pl l) both.1)
   where
     go : (t : Bool) → not t ≡ true → t ≡ false

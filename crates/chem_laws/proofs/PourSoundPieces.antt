@@ -1,5 +1,6 @@
 -- Messages, requests and rules as they are made.
 use Rattle.std.proofs.Common.{◌≡◌, ◌≢◌, ℕ, ◌+◌, ◌<◌, ◌≤◌, List, [], ◌∷◌, ◌++◌, Option, Some, None, Bool, true, false, cond, refl, ap, ◌∙◌, arith, length, ◌==◌, eq-eqb}
+use Rattle.std.proofs.lemmas.Bool.{or_left, or_right}
 use Rattle.std.specs.Prelude.{is_some, slice_get}
 use Rattle.chem_model.specs.declared.name.Loc.{Loc}
 use Rattle.chem_model.specs.declared.name.Name.{Name}
@@ -21,7 +22,7 @@ use Rattle.chem_model.specs.NewNames.{IsChannelAt, OnBinder, NamesBlock}
 use Rattle.chem_model.specs.Numbered.{standing}
 use Rattle.chem_model.specs.Pour.{atom_made, out_made, message_made, known, is_count, lay_rules, rules_made}
 use Rattle.chem_model.specs.Sound.{IsNameOf, IsKnown, IsHomedAt, IsSettled, IsRule}
-use Rattle.chem_laws.proofs.Lists.{EachPair, pairs_each, or_left, or_right}
+use Rattle.chem_laws.proofs.Lists.{EachPair, pairs_each}
 use Rattle.chem_laws.proofs.Terms.{among-append, known_names}
 use Rattle.chem_laws.proofs.Parts.{Closes, is_named, AreDifferent}
 use Rattle.chem_laws.proofs.Places.{found_known}

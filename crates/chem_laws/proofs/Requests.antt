@@ -1,5 +1,6 @@
 -- What requests change: the host of a location, its mark, and the atoms that are left.
 use Rattle.std.proofs.Common.{◌≡◌, ℕ, ◌<◌, ◌≤◌, List, [], ◌∷◌, Option, Some, None, Bool, true, false, cond, refl, sym, ap, ◌∙◌, arith, length, ◌||◌, not}
+use Rattle.std.proofs.lemmas.Bool.{or_parts}
 use Rattle.chem_model.specs.declared.name.Loc.{Loc}
 use Rattle.chem_model.specs.declared.name.Name.{Name}
 use Rattle.chem_model.specs.declared.name.Name.TheVariants as name
@@ -19,7 +20,7 @@ use Rattle.chem_model.specs.Numbered.{standing, place_pairs, atom_pairs, pairs}
 use Rattle.chem_model.specs.Opening.{root_of}
 use Rattle.chem_model.specs.Apply.{with_hosts, with_marks}
 use Rattle.chem_model.specs.Sound.{IsSound, IsNameOf, IsKnown, IsHomedAt, IsAtom, IsRule, IsRoot, IsHosted}
-use Rattle.chem_laws.proofs.Lists.{Each-weaker, true_both, neither}
+use Rattle.chem_laws.proofs.Lists.{Each-weaker, true_both}
 use Rattle.chem_laws.proofs.Within.{same_loc_is, same_loc_refl}
 use Rattle.chem_laws.proofs.Places.{definition_scope_weaker, live_parts, known_weaker, settled_weaker}
 
@@ -111,8 +112,8 @@ pub moved_live : (pl : Places) (l b : Loc) → live pl l ≡ true → live pl b 
 moved_live pl l b h g =
     let parts = live_parts pl l h in
     let other = live_parts pl b g in
-    let mark = neither (is_marked (pl l)) _ parts.1 in
-    let mark_b = neither (is_marked (pl b)) _ other.1 in
+    let mark = or_parts (is_marked (pl l)) _ parts.1 in
+    let mark_b = or_parts (is_marked (pl b)) _ other.1 in
     let root_b : root (rehosted pl l b) l ≡ b = ap (λ o. or_itself o l) (new_host (pl l) b (same_loc l l) (same_loc_refl l) parts.0) in
     let there : is_there (rehosted pl l b l) ≡ true = host_there (pl l) b (same_loc l l) ∙ parts.0 in
     let unmarked : is_marked (rehosted pl l b l) ≡ false = host_marked (pl l) b (same_loc l l) ∙ mark.0 in

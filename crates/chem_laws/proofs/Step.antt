@@ -1,5 +1,6 @@
 -- An event is one reduction, the one that it names, followed by heating, Comm and Out alone.
 use Rattle.std.proofs.Common.{◌≡◌, ℕ, ◌+◌, ◌<◌, ◌≤◌, List, [], ◌++◌, Option, Some, None, Bool, true, false, cond, refl, sym, ap, ◌∙◌, subst, arith, length, ◌&&◌, is_some, not}
+use Rattle.std.proofs.lemmas.Bool.{and_parts}
 use Rattle.chem_model.specs.declared.name.Loc.{Loc}
 use Rattle.chem_model.specs.declared.name.Name.{Name}
 use Rattle.chem_model.specs.declared.name.Name.TheVariants as name
@@ -27,7 +28,7 @@ use Rattle.chem_model.specs.Opening.{root_of}
 use Rattle.chem_model.specs.Apply.{rule_at, atom_at, without, without_all, received_all, react_received, react_rule, with_hosts, with_marks, can_go, can_detect, at_location, move_to, move_atom, halt_atom, detect_of, detect_atom, with_atom, apply}
 use Rattle.chem_model.specs.Sound.{IsSound, IsNameOf, IsKnown, IsSettled, IsAtom, IsRule, IsRoot}
 use Rattle.chem_model.specs.Laws.{IsReduction, EventIsAReduction}
-use Rattle.chem_laws.proofs.Lists.{Each-weaker, both_true, append_nil, has_some}
+use Rattle.chem_laws.proofs.Lists.{Each-weaker, append_nil, has_some}
 use Rattle.chem_laws.proofs.Within.{same_loc_is}
 use Rattle.chem_laws.proofs.Parts.{is_named, IsPourable, PourSound, PourReached, beside}
 use Rattle.chem_laws.proofs.Places.{live_parts, root_is, known_weaker, place_pair_found}
@@ -163,9 +164,9 @@ module _ (pour_sound : PourSound) (pour_reached : PourReached) where
     moved i a b k c term can =
         let l = a.loc in
         let new : Numbered = record n { places = with_hosts l b n.places; atoms = without i n.atoms } in
-        let sides = both_true (live pl l && is_some (host_of (pl l))) (live pl b && not (is_some (host_of (pl b)))) can in
-        let from = both_true (live pl l) (is_some (host_of (pl l))) sides.0 in
-        let to = both_true (live pl b) (not (is_some (host_of (pl b)))) sides.1 in
+        let sides = and_parts (live pl l && is_some (host_of (pl l))) (live pl b && not (is_some (host_of (pl b)))) can in
+        let from = and_parts (live pl l) (is_some (host_of (pl l))) sides.0 in
+        let to = and_parts (live pl b) (not (is_some (host_of (pl b)))) sides.1 in
         let host = has_some (host_of (pl l)) from.1 in
         let no_host = none_is (host_of (pl b)) to.1 in
         let settled = request_settled i a (Go (Known (name.Place b)) k) c term in
@@ -259,8 +260,8 @@ module _ (pour_sound : PourSound) (pour_reached : PourReached) where
     detected i a b k c term can =
         let l = a.loc in
         let new : Numbered = record n { atoms = without i n.atoms } in
-        let sides = both_true (live pl l) (is_there (pl b) && dead pl b) can in
-        let target = both_true (is_there (pl b)) (dead pl b) sides.1 in
+        let sides = and_parts (live pl l) (is_there (pl b) && dead pl b) can in
+        let target = and_parts (is_there (pl b)) (dead pl b) sides.1 in
         let settled = request_settled i a (Fail (Known (name.Place b)) k) c term in
         let new_sound : IsSound new = fewer_sound (without i n.atoms) (Each-without (IsAtom n) i n.atoms sound.atoms) (pairs-without i n.atoms) in
         let pourable = continues new l k sides.0 settled.1 in (

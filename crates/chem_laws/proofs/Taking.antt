@@ -1,5 +1,6 @@
 -- What a rule takes: each taken atom is a message on its pattern's channel, and no two taken atoms are the same.
 use Rattle.std.proofs.Common.{◌≡◌, ◌≢◌, ℕ, suc, ◌+◌, ◌<◌, ◌≤◌, List, [], ◌∷◌, ◌++◌, Option, Some, None, Bool, true, false, cond, refl, sym, ap, ◌∙◌, subst, arith, length, ◌==◌, ◌&&◌, ◌||◌, eqb-true, eq-eqb, AllPairs, is_some, slice_index_or}
+use Rattle.std.proofs.lemmas.Bool.{and_parts}
 use Rattle.chem_model.specs.declared.name.Loc.{Loc}
 use Rattle.chem_model.specs.declared.name.Name.{Name}
 use Rattle.chem_model.specs.declared.name.Name.TheVariants as name
@@ -23,7 +24,7 @@ use Rattle.chem_model.specs.Numbered.{defs_of, procs_of, atom_pairs, rule_pairs,
 use Rattle.chem_model.specs.Pour.{known}
 use Rattle.chem_model.specs.Apply.{same_atom, same_rule, rule_at, atom_at, without, without_all, same_ref, received, received_at, both_received, received_all}
 use Rattle.chem_model.specs.Sound.{IsKnown, IsSettled}
-use Rattle.chem_laws.proofs.Lists.{both_true, true_both, Each-append}
+use Rattle.chem_laws.proofs.Lists.{true_both, Each-append}
 use Rattle.chem_laws.proofs.Bags.{one_self}
 use Rattle.chem_laws.proofs.Terms.{domain-append, times-cons, known_again, known_names}
 use Rattle.chem_laws.proofs.Within.{same_loc_is, same_loc_refl}
@@ -34,8 +35,8 @@ pub same_name_is : (a b : Name) → same_name a b ≡ true → a ≡ b
 same_name_is (name.Seen i) (name.Seen j) e = ap name.Seen (eqb-true i j e)
 same_name_is (name.Place a) (name.Place b) e = ap name.Place (same_loc_is a b e)
 same_name_is (name.Chan s k h) (name.Chan t j g) e =
-    let p = both_true (s == t) _ e in
-    let q = both_true (k == j) _ p.1 in
+    let p = and_parts (s == t) _ e in
+    let q = and_parts (k == j) _ p.1 in
     λ i. name.Chan (eqb-true s t p.0 i) (eqb-true k j q.0 i) (same_loc_is h g q.1 i)
 same_name_is _ _ e = cc
 
@@ -50,7 +51,7 @@ same_ref_is _ _ e = cc
 
 pub same_atom_is : (i j : AtomId) → same_atom i j ≡ true → i ≡ j
 same_atom_is i j e =
-    let h = both_true (i.site == j.site) (i.k == j.k) e in
+    let h = and_parts (i.site == j.site) (i.k == j.k) e in
     λ t. record { site = eqb-true i.site j.site h.0 t; k = eqb-true i.k j.k h.1 t }
 
 pub same_atom_refl : (i : AtomId) → same_atom i i ≡ true
@@ -58,7 +59,7 @@ same_atom_refl i = true_both (i.site == i.site) (i.k == i.k) (eq-eqb i.site i.si
 
 pub same_rule_is : (i j : RuleId) → same_rule i j ≡ true → i ≡ j
 same_rule_is i j e =
-    let h = both_true (i.site == j.site) (i.k == j.k) e in
+    let h = and_parts (i.site == j.site) (i.k == j.k) e in
     λ t. record { site = eqb-true i.site j.site h.0 t; k = eqb-true i.k j.k h.1 t }
 
 pub same_rule_refl : (i : RuleId) → same_rule i i ≡ true
@@ -234,7 +235,7 @@ module _ (Q : Name → Type 0) where
     where
       go : (t : Bool) → same_ref p.on x && (length p.params == length vs) ≡ t → cond t (Some (given p.params (known vs))) None ≡ Some m → (g : Meets p (Msg x vs) m) × Each Q g.args
       go true c e' =
-          let both = both_true (same_ref p.on x) (length p.params == length vs) c in
+          let both = and_parts (same_ref p.on x) (length p.params == length vs) c in
           let count : length p.params ≡ length (known vs) = eqb-true _ _ both.1 ∙ sym (length_known Q vs h.1) in
           let is : given p.params (known vs) ≡ m = cc in
           (record { args = known vs; is = λ t. Msg (sym (same_ref_is p.on x both.0) t) (known_again Q vs h.1 t); count = count; names = sym is }, known_names Q vs h.1)

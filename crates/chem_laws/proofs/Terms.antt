@@ -1,5 +1,6 @@
 -- Names in terms: a weaker fact, filling, and which binders have a name.
 use Rattle.std.proofs.Common.{◌≡◌, ℕ, List, [], ◌∷◌, ◌++◌, Option, Some, None, Bool, true, false, cond, refl, sym, ap, ◌∙◌, ◌==◌, ◌||◌, ◌+◌, eq-eqb, ◌≤◌, arith, length, subst}
+use Rattle.std.proofs.lemmas.Bool.{or_left, or_right}
 use Rattle.std.specs.Prelude.{is_some}
 use Rattle.std.proofs.lemmas.List.Sums.{sum_by-cons, sum_by-append}
 use Rattle.chem_model.specs.declared.name.Name.{Name}
@@ -18,7 +19,7 @@ use Rattle.chem_model.specs.Reduction.{all_known}
 use Rattle.chem_model.specs.NewNames.{HasDomain}
 use Rattle.chem_model.specs.Pour.{known}
 use Rattle.chem_model.specs.Sound.{IsKnown}
-use Rattle.chem_laws.proofs.Lists.{or_assoc, or_left, or_right, cond_either, Each-left, Each-right, all_each}
+use Rattle.chem_laws.proofs.Lists.{or_assoc, cond_either, Each-left, Each-right, all_each}
 use Rattle.chem_laws.proofs.Parts.{is_named, NamesNone, Agree}
 
 -- ---- a weaker fact

@@ -1,13 +1,14 @@
 -- A dead location is within a marked one.
 use Rattle.std.proofs.Common.{◌≡◌, true, refl, ap, ◌∙◌, inl, inr, ◌==◌, eqb-true, eq-eqb}
+use Rattle.std.proofs.lemmas.Bool.{and_parts, or_left, or_right}
 use Rattle.chem_model.specs.declared.name.Loc.{Loc}
 use Rattle.chem_model.specs.Solution.{is_marked, root, same_loc}
 use Rattle.chem_laws.specs.Within.{DeadIsWithin}
-use Rattle.chem_laws.proofs.Lists.{both_true, true_both, or_left, or_right, either_true}
+use Rattle.chem_laws.proofs.Lists.{true_both, either_true}
 
 pub same_loc_is : (a b : Loc) → same_loc a b ≡ true → a ≡ b
 same_loc_is a b e =
-    let h = both_true (a.site == b.site) (a.k == b.k) e in
+    let h = and_parts (a.site == b.site) (a.k == b.k) e in
     λ i. record { site = eqb-true a.site b.site h.0 i; k = eqb-true a.k b.k h.1 i }
 
 pub same_loc_refl : (l : Loc) → same_loc l l ≡ true

@@ -1,5 +1,6 @@
 -- What the search answers is the event that comes first, and its site is one of the solution.
 use Rattle.std.proofs.Common.{◌≡◌, ℕ, ◌<◌, ◌≤◌, Option, Some, None, true, false, refl, sym, subst, is_some, length}
+use Rattle.std.proofs.lemmas.Bool.{and_parts}
 use Rattle.std.specs.List.{list_all}
 use Rattle.std.specs.Prelude.{Result, Ok, Err, OnErr}
 use Rattle.chem_model.specs.declared.event.Event.{Event}
@@ -15,7 +16,7 @@ use Rattle.chem_laws.proofs.Taking.{atom_found}
 use Rattle.trace_history.specs.declared.book.Found.{Found}
 use Rattle.trace_history.specs.First.{IsFirst}
 use Rattle.trace_history.specs.Search.{IsFirstOf, is_met, is_ready, turn, rule_before, can_act, request_before, IsReaction, IsMeeting, IsFound}
-use Rattle.trace_history.proofs.Least.{both, member_found}
+use Rattle.trace_history.proofs.Least.{member_found}
 use Rattle.chem_model.specs.Apply.{apply}
 use Rattle.trace_history.proofs.Founds.{has_event, atoms_differ, react_first, request_first, rule_possible, request_possible}
 
@@ -25,7 +26,7 @@ module _ (n : Numbered) (sound : IsSound n) (from : ℕ) where
   reaction_found r q g h before f is =
       let site = (root (standing n.places) r.loc).site in
       let first : IsFirst n from site (event.React r.id is.0) = react_first n sound from r is.0 q g h is.3 before in
-      let lives = (both (live (standing n.places) r.loc) (list_all (is_met n.atoms r.loc) r.pats) g.1).0 in
+      let lives = (and_parts (live (standing n.places) r.loc) (list_all (is_met n.atoms r.loc) r.pats) g.1).0 in
       let low : site < length n.counts = (root_is n sound r.loc (live_parts (standing n.places) r.loc lives).0).0.1 in (
         subst (λ (s : ℕ). IsFirst n from s f.event) (sym is.2) (subst (λ (e : Event). IsFirst n from site e) (sym is.1) first),
         subst (λ (s : ℕ). s < length n.counts) (sym is.2) low,

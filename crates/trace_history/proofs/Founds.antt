@@ -1,5 +1,6 @@
 -- The first ready rule and the first request that can be met give the event that comes first.
 use Rattle.std.proofs.Common.{◌≡◌, ℕ, ◌+◌, ◌<◌, ◌≤◌, List, [], ◌∷◌, Option, Some, None, Bool, true, false, cond, refl, ap, sym, ◌∙◌, subst, arith, ◌&&◌, ◌||◌, inl, inr, is_some, length}
+use Rattle.std.proofs.lemmas.Bool.{and_parts}
 use Rattle.std.specs.List.{list_all}
 use Rattle.chem_model.specs.declared.name.Loc.{Loc}
 use Rattle.chem_model.specs.declared.name.Pat.{Pat}
@@ -22,7 +23,7 @@ use Rattle.trace_history.specs.Search.{IsIn, IsFirstOf, AreLeast, receives, atom
 use Rattle.trace_history.proofs.Replays.{same_some}
 use Rattle.trace_history.proofs.Order.{sooner_not, not_sooner, sooner_is, less_asym, less_trans, less_same}
 use Rattle.trace_history.proofs.FirstOf.{IsOrder}
-use Rattle.trace_history.proofs.Least.{both, AtomsDiffer, RulesDiffer, atom_has, rule_has, member_found, rule_member_found, some_both, least_received, least_of_all, all_met}
+use Rattle.trace_history.proofs.Least.{AtomsDiffer, RulesDiffer, atom_has, rule_has, member_found, rule_member_found, some_both, least_received, least_of_all, all_met}
 
 -- ---- the orders are orders
 
@@ -305,7 +306,7 @@ module _ (n : Numbered) (sound : IsSound n) (from : ℕ) where
         no_less (event.Detect i) j e = refl
 
     pub react_first : IsFirst n from (root (standing n.places) r.loc).site (event.React r.id took)
-    react_first = let stands = both (live (standing n.places) r.loc) (list_all (is_met n.atoms r.loc) r.pats) g.1 in record {
+    react_first = let stands = and_parts (live (standing n.places) r.loc) (list_all (is_met n.atoms r.loc) r.pats) g.1 in record {
       possible = is_reacting n r.id took r rule_there stands.0 (least_received n.atoms atoms_differ r.loc r.pats took least);
       at_site = ap (site_of_rule n) rule_there;
       no_earlier_site = λ f s p at. no_earlier (turn n from r.loc) (Some r) q g h (λ x e. let same : r ≡ x = same_some r x e in subst (λ (y : NumberedRule). turn n from r.loc ≤ turn n from y.loc) same (omega arith)) before f s (kind f) p at;
@@ -355,7 +356,7 @@ met_by_one l p (a ∷ atoms) h = go (receives l p a) refl h (met_by_one l p atom
 taken : (atoms : List NumberedAtom) → AtomsDiffer atoms → (l : Loc) (ps : List Pat) → list_all (is_met atoms l) ps ≡ true → (took : List AtomId) × (is_some (received_all atoms l ps took) ≡ true)
 taken atoms d l [] h = ([], refl)
 taken atoms d l (p ∷ ps) h =
-    let f = both (is_met atoms l p) (list_all (is_met atoms l) ps) h in
+    let f = and_parts (is_met atoms l p) (list_all (is_met atoms l) ps) h in
     let a = met_by_one l p atoms f.0 in
     let rest = taken atoms d l ps f.1 in
     let found = member_found atoms d a.0 a.1 in (
@@ -368,7 +369,7 @@ taken atoms d l (p ∷ ps) h =
 module _ (n : Numbered) (sound : IsSound n) (from : ℕ) where
   pub rule_possible : (r : NumberedRule) → IsFirstOf (is_ready n) (rule_before n from) n.rules (Some r) → (e : Event) × (is_some (apply n e) ≡ true)
   rule_possible r g =
-      let stands = both (live (standing n.places) r.loc) (list_all (is_met n.atoms r.loc) r.pats) g.1 in
+      let stands = and_parts (live (standing n.places) r.loc) (list_all (is_met n.atoms r.loc) r.pats) g.1 in
       let took = taken n.atoms (atoms_differ n sound from) r.loc r.pats stands.1 in (
         event.React r.id took.0,
         is_reacting n r.id took.0 r (rule_member_found n.rules (rules_differ n sound from) r g.0) stands.0 took.1,

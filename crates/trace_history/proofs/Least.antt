@@ -1,5 +1,6 @@
 -- The least messages for the patterns of a rule are received, and none that are received come before them.
 use Rattle.std.proofs.Common.{◌≡◌, ℕ, zero, suc, ◌+◌, ◌<◌, ◌≤◌, length, take, get_or, add-one, List, [], ◌∷◌, ◌++◌, Option, Some, None, Bool, true, false, cond, refl, ap, sym, ◌∙◌, subst, arith, ◌&&◌, ◌||◌, inl, inr, is_some}
+use Rattle.std.proofs.lemmas.Bool.{and_parts}
 use Rattle.std.specs.List.{list_any, list_all}
 use Rattle.std.proofs.Math.Seq.{take-suc}
 use Rattle.chem_model.specs.declared.name.Loc.{Loc}
@@ -78,10 +79,6 @@ some_both None q = refl
 some_both (Some m) None = refl
 some_both (Some m) (Some ms) = refl
 
-pub both : (a b : Bool) → a && b ≡ true → (a ≡ true) × (b ≡ true)
-both true b e = (refl, e)
-both false b e = cc
-
 -- what was received from an atom by its number was received from one that is there
 pub record Received (atoms : List NumberedAtom) (l : Loc) (p : Pat) (i : AtomId) : Type 0 where
   pub atom : NumberedAtom
@@ -94,7 +91,7 @@ received_from atoms l p i (Some a) e h = record { atom = a; found = e; passes = 
 
 pub received_first : (atoms : List NumberedAtom) (l : Loc) (p : Pat) (ps : List Pat) (i : AtomId) (took : List AtomId) → is_some (received_all atoms l (p ∷ ps) (i ∷ took)) ≡ true → Received atoms l p i × (is_some (received_all atoms l ps took) ≡ true)
 received_first atoms l p ps i took h =
-    let f = both (is_some (received_at l p (atom_at atoms i))) (is_some (received_all atoms l ps took)) (sym (some_both (received_at l p (atom_at atoms i)) (received_all atoms l ps took)) ∙ h) in
+    let f = and_parts (is_some (received_at l p (atom_at atoms i))) (is_some (received_all atoms l ps took)) (sym (some_both (received_at l p (atom_at atoms i)) (received_all atoms l ps took)) ∙ h) in
     (received_from atoms l p i (atom_at atoms i) refl f.0, f.1)
 
 -- the least messages are received
@@ -176,8 +173,8 @@ one_more_least atoms l ps i p a took more lt is h f e =
 
 all_at : (test : Pat → Bool) (ps : List Pat) (i : ℕ) (p : Pat) → i < length ps → p ≡ get_or ps i p → list_all test ps ≡ true → test p ≡ true
 all_at test [] i p lt is h = absurd (omega arith)
-all_at test (q ∷ ps) zero p lt is h = ap test is ∙ (both (test q) (list_all test ps) h).0
-all_at test (q ∷ ps) (suc i) p lt is h = all_at test ps i p (omega arith) is (both (test q) (list_all test ps) h).1
+all_at test (q ∷ ps) zero p lt is h = ap test is ∙ (and_parts (test q) (list_all test ps) h).0
+all_at test (q ∷ ps) (suc i) p lt is h = all_at test ps i p (omega arith) is (and_parts (test q) (list_all test ps) h).1
 
 pub none_least : (atoms : List NumberedAtom) (l : Loc) (ps : List Pat) (i : ℕ) (p : Pat) → i < length ps → p ≡ get_or ps i p → list_all (is_met atoms l) ps ≡ true → IsFirstOf (receives l p) atom_before atoms None → ⊥
 none_least atoms l ps i p lt is h f =

@@ -1,5 +1,6 @@
 -- In a sound solution the event that comes first is one.
 use Rattle.std.proofs.Common.{◌≡◌, ℕ, ◌<◌, List, [], ◌∷◌, Option, Some, None, Bool, true, false, cond, refl, ap, sym, ◌∙◌, subst, arith, ◌||◌, is_some, length}
+use Rattle.std.proofs.lemmas.Bool.{or_parts}
 use Rattle.std.proofs.lemmas.Bool.Decides.{nat_tests}
 use Rattle.chem_model.specs.declared.name.Loc.{Loc}
 use Rattle.chem_model.specs.declared.event.AtomId.{AtomId}
@@ -30,19 +31,15 @@ turns_same sites from s t low lower e = grind (arith, nat_tests)
 atom_ids : (i j : AtomId) → atom_less i j ≡ false → atom_less j i ≡ false → i ≡ j
 atom_ids i j f g = let same = less_same i.site i.k j.site j.k f g in λ t. record { site = same.0 t; k = same.1 t }
 
-neither : (a b : Bool) → a || b ≡ false → (a ≡ false) × (b ≡ false)
-neither true b h = cc
-neither false b h = (refl, h)
-
 -- where the first members come not before one another, the others decide
 module _ (a b c d : Bool) (f : a || (cond b false c) ≡ false) (g : b || (cond a false d) ≡ false) where
   firsts : (a ≡ false) × (b ≡ false)
-  firsts = ((neither a (cond b false c) f).0, (neither b (cond a false d) g).0)
+  firsts = ((or_parts a (cond b false c) f).0, (or_parts b (cond a false d) g).0)
 
   others : (c ≡ false) × (d ≡ false)
   others = (
-    ap (λ t. cond t false c) (sym firsts.1) ∙ (neither a (cond b false c) f).1,
-    ap (λ t. cond t false d) (sym firsts.0) ∙ (neither b (cond a false d) g).1,
+    ap (λ t. cond t false c) (sym firsts.1) ∙ (or_parts a (cond b false c) f).1,
+    ap (λ t. cond t false d) (sym firsts.0) ∙ (or_parts b (cond a false d) g).1,
   )
 
 atoms_same : (took taken : List AtomId) → atoms_less took taken ≡ false → atoms_less taken took ≡ false → took ≡ taken

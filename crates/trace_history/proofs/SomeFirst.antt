@@ -1,7 +1,7 @@
 -- In a sound solution an event comes first, or none is possible.
 use Rattle.std.proofs.Common.{◌≡◌, ℕ, ◌<◌, ◌≤◌, List, [], ◌∷◌, Option, Some, None, true, refl, ◌⊎◌, inl, inr}
 use Rattle.std.specs.List.{list_all}
-use Rattle.std.proofs.lemmas.Bool.{cases_lt}
+use Rattle.std.proofs.lemmas.Bool.{cases_lt, and_parts}
 use Rattle.chem_model.specs.declared.name.Loc.{Loc}
 use Rattle.chem_model.specs.declared.name.Pat.{Pat}
 use Rattle.chem_model.specs.declared.event.AtomId.{AtomId}
@@ -16,7 +16,7 @@ use Rattle.chem_model.specs.Sound.{IsSound}
 use Rattle.trace_history.specs.declared.book.Found.{Found}
 use Rattle.trace_history.specs.Search.{IsFirstOf, IsLeast, AreLeast, receives, atom_before, is_met, is_ready, turn, rule_before, can_act, request_before, event_of, IsFound}
 use Rattle.trace_history.proofs.FirstOf.{first_of, finds_first}
-use Rattle.trace_history.proofs.Least.{both, not_met}
+use Rattle.trace_history.proofs.Least.{not_met}
 use Rattle.trace_history.proofs.Founds.{messages_order, rules_order, requests_order, has_event, none_possible}
 use Rattle.trace_history.proofs.Answered.{reaction_found, meeting_found, none_is, turn_rule, turn_atom}
 
@@ -29,7 +29,7 @@ least_of atoms l p met (Some a) f = (a.id, (a, refl, f))
 least_of_each : (atoms : List NumberedAtom) (l : Loc) (ps : List Pat) → list_all (is_met atoms l) ps ≡ true → (took : List AtomId) × AreLeast atoms l ps took
 least_of_each atoms l [] h = ([], tt)
 least_of_each atoms l (p ∷ ps) h =
-    let met = both (is_met atoms l p) (list_all (is_met atoms l) ps) h in
+    let met = and_parts (is_met atoms l p) (list_all (is_met atoms l) ps) h in
     let found = first_of (receives l p) atom_before None atoms in
     let least = least_of atoms l p met.0 found (finds_first (receives l p) atom_before messages_order atoms found refl) in
     let rest = least_of_each atoms l ps met.1 in
@@ -46,7 +46,7 @@ module _ (n : Numbered) (sound : IsSound n) (from : ℕ) where
 
   by_rule : (r : NumberedRule) (q : Option NumberedAtom) → FirstRule (Some r) → FirstRequest q → ((a : NumberedAtom) → q ≡ Some a → turn n from r.loc ≤ turn n from a.loc) → (o : Option Found) × IsFound n from o
   by_rule r q g h before =
-      let stands = both (live (standing n.places) r.loc) (list_all (is_met n.atoms r.loc) r.pats) g.1 in
+      let stands = and_parts (live (standing n.places) r.loc) (list_all (is_met n.atoms r.loc) r.pats) g.1 in
       let took = least_of_each n.atoms r.loc r.pats stands.1 in
       let found : Found = record { site = (root (standing n.places) r.loc).site; event = event.React r.id took.0 } in
       (Some found, reaction_found n sound from r q g h before found (took.0, refl, refl, took.1))
