@@ -4,3 +4,4 @@ pub mod Alive
 pub mod Follows
 pub mod Newest
 pub mod Keeps
+pub mod Sound

@@ -4,11 +4,12 @@ use Rattle.chem_model.specs.declared.name.Loc.{Loc}
 use Rattle.chem_model.specs.declared.numbered.Placed.{Placed}
 use Rattle.chem_model.specs.declared.numbered.Numbered.{Numbered}
 use Rattle.chem_model.specs.declared.program.SiteTerm.{SiteTerm}
-use Rattle.chem_model.specs.Solution.{is_there, root, live}
+use Rattle.chem_model.specs.Solution.{is_there, or_itself, root, live}
+use Rattle.chem_model.specs.Sound.{IsSound}
 use Rattle.chem_model.specs.Numbered.{standing}
 use Rattle.chem_model.specs.Opening.{root_of, roots}
 use Rattle.chem_model.specs.Apply.{can_go, can_detect, with_hosts, with_marks}
-use Rattle.loc_tree.specs.Tree.{Tree, spot, number_in, is_alive, is_dead, can_move, unmarked_roots, with_birth, with_number, with_mark}
+use Rattle.loc_tree.specs.Tree.{Tree, Entries, spot, number_in, is_alive, is_dead, can_move, unmarked_roots, with_birth, with_number, with_mark}
 use Rattle.loc_tree.specs.Places.{IsTreeOf}
 
 -- a location that was born under the root of this site
@@ -47,3 +48,21 @@ MoveFollows = (t : Tree) (placed : List Placed) → IsTreeOf t placed → (l tar
 
 abbrev pub MarkFollows : Type 0
 MarkFollows = (t : Tree) (placed : List Placed) → IsTreeOf t placed → (l : Loc) → IsTreeOf (with_mark t l) (with_marks l placed)
+
+-- ---- the tree of a sound solution
+
+-- the entry of a location: the number is that of its host's site, or of its own at a root
+abbrev pub entries_of : List Placed → Entries
+entries_of [] = []
+entries_of (p ∷ placed) = ((p.loc.site, p.loc.k), record { number = (or_itself p.host p.loc).site; marked = p.marked }) ∷ entries_of placed
+
+abbrev pub tree_of : Numbered → ℕ → Tree
+tree_of n spare = record { roots = length n.counts; entries = entries_of n.places; spare = spare }
+
+-- each sound solution has its tree
+abbrev pub SoundHasTree : Type 0
+SoundHasTree = (n : Numbered) (spare : ℕ) → IsSound n → IsTreeOf (tree_of n spare) n.places
+
+-- and every tree of it has one root a site
+abbrev pub RootsAreSites : Type 0
+RootsAreSites = (t : Tree) (n : Numbered) → IsSound n → IsTreeOf t n.places → t.roots ≡ length n.counts

@@ -1,6 +1,7 @@
 ghost use Rattle.loc_tree.specs.Places.{IsTree};
 ghost use Rattle.loc_tree.specs.Laws.{HoldsWhatIsThere, AliveIsLive, NumberIsOfRoot, MovesAsGoNeeds, DiesAsDetectNeeds};
 ghost use Rattle.loc_tree.specs.Laws.{RootsAreOpened, BirthFollows, MoveFollows, MarkFollows};
+ghost use Rattle.loc_tree.specs.Laws.{SoundHasTree, RootsAreSites};
 
 /// A tree has the locations that are there. It does nothing.
 pub fn holds_what_is_there()
@@ -47,4 +48,14 @@ pub fn move_follows()
 /// A mark follows the solution in which the location is marked. It does nothing.
 pub fn mark_follows()
     ensures { MarkFollows }
+{}
+
+/// Each sound numbered solution has a tree: that of its locations, with their hosts' sites and their marks. It does nothing.
+pub fn sound_has_tree()
+    ensures { SoundHasTree }
+{}
+
+/// A tree has as many roots as the sound solution has sites. It does nothing.
+pub fn roots_are_sites()
+    ensures { RootsAreSites }
 {}
