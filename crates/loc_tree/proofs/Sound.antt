@@ -14,13 +14,9 @@ use Rattle.chem_model.specs.Sound.{IsSound, IsRoot, IsHosted}
 use Rattle.loc_tree.specs.declared.tree.Spot.{Spot}
 use Rattle.loc_tree.specs.Tree.{Tree, Entries, spot, number_in, is_pair_of, is_root}
 use Rattle.loc_tree.specs.Places.{host_in, standing_in, places_in, IsTree, IsTreeOf}
-use Rattle.loc_tree.specs.Laws.{entries_of, tree_of, SoundHasTree, RootsAreSites}
+use Rattle.loc_tree.specs.Laws.{spot_of, entries_of, tree_of, SoundHasTree, RootsAreSites}
 use Rattle.loc_tree.proofs.Spots.{same_loc_is, same_loc_sym, root_is}
 use Rattle.loc_tree.proofs.Alive.{root_parts}
-
--- the spot of a location in the list
-abbrev pub spot_of : Placed → Spot
-spot_of p = record { number = (or_itself p.host p.loc).site; marked = p.marked }
 
 -- what is found of a location: the same entry of the list and of the map
 data IsFound (n : Numbered) (l : Loc) : Option Spot → Option Standing → Type 0 where

@@ -20,7 +20,8 @@ standing_in root (Some s) = Some (record { host = host_in root s.number; marked 
 abbrev pub places_in : Tree → Places
 places_in t l = standing_in (is_root t l) (spot t l)
 
--- what every tree keeps: each root is there, with the number of its own site, and each number is that of a root
+-- what every tree keeps: each root is there, with the number of its own site, and each number is
+-- that of a root
 pub record IsTree (t : Tree) : Type 0 where
   pub rooted : (i : ℕ) → i < t.roots → number_in (spot t (root_of i)) ≡ Some i
   pub below : (l : Loc) (i : ℕ) → number_in (spot t l) ≡ Some i → i < t.roots

@@ -1,5 +1,6 @@
 -- What a tree keeps of its fields. No public contract cites it.
-use Rattle.std.specs.Prelude.{◌≡◌, ℕ, ◌<◌, ◌≤◌, Bool, true, not, ◌||◌, nat_eq, nat_lt, is_some, None, List, length, slice_index}
+use Rattle.std.specs.Prelude.{◌≡◌, ℕ, ◌<◌, ◌≤◌, Bool, true, not, ◌||◌, nat_eq, nat_lt, is_some}
+use Rattle.std.specs.Prelude.{None, List, length, slice_index}
 use Rattle.chem_model.specs.declared.name.Loc.{Loc}
 use Rattle.chem_model.specs.NewNames.{Pair}
 use Rattle.loc_tree.specs.Tree.{Tree, spot}

@@ -1,5 +1,7 @@
--- What contracts see of a tree of locations: a finite map from locations to the number of a site and a mark.
-use Rattle.std.specs.Prelude.{ℕ, zero, suc, ◌+◌, ◌-◌, ◌≡◌, ◌≤◌, max, Bool, true, false, not, ◌&&◌, ◌||◌, ◌==◌, nat_eq, nat_lt, cond, List, [], ◌∷◌, ◌++◌, Option, Some, None}
+-- What contracts see of a tree of locations: a finite map from locations to a number and a mark.
+use Rattle.std.specs.Prelude.{ℕ, zero, suc, ◌+◌, ◌-◌, ◌≡◌, ◌≤◌, ◌==◌, max, nat_eq, nat_lt}
+use Rattle.std.specs.Prelude.{Bool, true, false, not, ◌&&◌, ◌||◌, cond, List, [], ◌∷◌, ◌++◌}
+use Rattle.std.specs.Prelude.{Option, Some, None}
 use Rattle.std.specs.Map.{lookup}
 use Rattle.chem_model.specs.declared.name.Loc.{Loc}
 use Rattle.chem_model.specs.NewNames.{Pair}
@@ -91,12 +93,14 @@ with_room t more = record t { spare = max t.spare more }
 
 -- the tree with one location more, unmarked, for which one place is taken
 abbrev pub with_birth : Tree → Loc → ℕ → Tree
-with_birth t l number = record t { entries = t.entries ++ unmarked l number ∷ []; spare = t.spare - 1 }
+with_birth t l number =
+    record t { entries = t.entries ++ unmarked l number ∷ []; spare = t.spare - 1 }
 
 -- the entries with another spot of one location
 abbrev pub change_spot : Loc → (Spot → Spot) → Entries → Entries
 change_spot l change [] = []
-change_spot l change (e ∷ es) = cond (is_pair_of l e.0) ((e.0, change e.1) ∷ es) (e ∷ change_spot l change es)
+change_spot l change (e ∷ es) =
+    cond (is_pair_of l e.0) ((e.0, change e.1) ∷ es) (e ∷ change_spot l change es)
 
 abbrev pub renumbered : ℕ → Spot → Spot
 renumbered number s = record s { number = number }

@@ -1,5 +1,6 @@
 ghost use Rattle.loc_tree.specs.Places.{IsTree};
-ghost use Rattle.loc_tree.specs.Laws.{HoldsWhatIsThere, AliveIsLive, NumberIsOfRoot, MovesAsGoNeeds, DiesAsDetectNeeds};
+ghost use Rattle.loc_tree.specs.Laws.{HoldsWhatIsThere, AliveIsLive, NumberIsOfRoot};
+ghost use Rattle.loc_tree.specs.Laws.{MovesAsGoNeeds, DiesAsDetectNeeds};
 ghost use Rattle.loc_tree.specs.Laws.{RootsAreOpened, BirthFollows, MoveFollows, MarkFollows};
 ghost use Rattle.loc_tree.specs.Laws.{SoundHasTree, RootsAreSites};
 
@@ -8,7 +9,8 @@ pub fn holds_what_is_there()
     ensures { HoldsWhatIsThere }
 {}
 
-/// A location is alive exactly where it is live: neither it nor its root is marked. It does nothing.
+/// A location is alive exactly where it is live: neither it nor its root is marked. It does
+/// nothing.
 pub fn alive_is_live()
     ensures { AliveIsLive }
 {}
@@ -18,14 +20,14 @@ pub fn number_is_of_root()
     ensures { NumberIsOfRoot }
 {}
 
-/// A location can move exactly where the rule Go has what it needs: it is live and has a host, and the target is a live root. It
-/// does nothing.
+/// A location can move exactly where the rule Go has what it needs: it is live and has a host, and
+/// the target is a live root. It does nothing.
 pub fn moves_as_go_needs()
     ensures { MovesAsGoNeeds }
 {}
 
-/// Death is that of the machine: the rule Detect has what it needs exactly where the one location is alive and the other is there
-/// and dead. It does nothing.
+/// Death is that of the machine: the rule Detect has what it needs exactly where the one location
+/// is alive and the other is there and dead. It does nothing.
 pub fn dies_as_detect_needs()
     ensures { DiesAsDetectNeeds }
 {}
@@ -50,7 +52,8 @@ pub fn mark_follows()
     ensures { MarkFollows }
 {}
 
-/// Each sound numbered solution has a tree: that of its locations, with their hosts' sites and their marks. It does nothing.
+/// Each sound numbered solution has a tree: that of its locations, with their hosts' sites and
+/// their marks. It does nothing.
 pub fn sound_has_tree()
     ensures { SoundHasTree }
 {}

@@ -1,4 +1,5 @@
-// Two roots and a location that is born, moves and dies. The expected values were worked out by hand.
+// Two roots and a location that is born, moves and dies. The expected values were worked out by
+// hand.
 ghost use Rattle.std.specs.Prelude.{◌≡◌};
 
 use crate::tree::LocTree;

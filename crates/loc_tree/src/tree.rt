@@ -1,4 +1,6 @@
-ghost use Rattle.std.specs.Prelude.{◌≡◌, ◌≢◌, max, slice_index, ◌<◌, ◌≤◌, ◌↔◌, ◌+◌, ◌∷◌, ◌++◌, [], ℕ, List, Some, None, true, length, IfOk, OnOk, OnErr, IsTrue, IsOk, is_some, IsSome};
+ghost use Rattle.std.specs.Prelude.{◌≡◌, ◌≢◌, ◌<◌, ◌≤◌, ◌↔◌, ◌+◌, max, ℕ, List, [], ◌∷◌, ◌++◌};
+ghost use Rattle.std.specs.Prelude.{Some, None, true, length, slice_index, IfOk, OnOk, OnErr};
+ghost use Rattle.std.specs.Prelude.{IsTrue, IsOk, IsSome, is_some};
 ghost use Rattle.std.specs.List.{list_all};
 ghost use Rattle.std.specs.Map.{lookup, keys_of};
 ghost use Rattle.indexmap.specs.IndexMap.{spare as map_room};
@@ -9,9 +11,10 @@ ghost use Rattle.chem_model.specs.Solution.{is_there, root, live};
 ghost use Rattle.chem_model.specs.Numbered.{standing};
 ghost use Rattle.chem_model.specs.Opening.{root_of, roots as opened_roots};
 ghost use Rattle.chem_model.specs.Apply.{can_go, with_hosts, with_marks};
-ghost use Rattle.loc_tree.specs.Tree.{spot, number_in, has_mark, is_root, is_alive, can_move, IsFresh};
+ghost use Rattle.loc_tree.specs.Tree.{spot, number_in, has_mark, is_root, is_alive, can_move};
 ghost use Rattle.loc_tree.specs.Tree.{is_pair_of, change_spot, marked, renumbered, unmarked};
-ghost use Rattle.loc_tree.specs.Tree.{unmarked_roots, with_room, with_birth, with_number, with_mark};
+ghost use Rattle.loc_tree.specs.Tree.{IsFresh, unmarked_roots, with_room, with_birth};
+ghost use Rattle.loc_tree.specs.Tree.{with_number, with_mark};
 ghost use Rattle.loc_tree.specs.Places.{IsTree, IsTreeOf};
 ghost use Rattle.loc_tree.specs.Laws.{born_under};
 ghost use Rattle.loc_tree.specs.Stored.{is_below};
@@ -28,8 +31,9 @@ struct Spot {
     marked: bool,
 }
 
-/// The locations in order of birth. Roots are `Loc { site: i, k: 0 }` for each site `i`, and the number of a root is that of its
-/// own site; the number of every other location is that of its host.
+/// The locations in order of birth, each with a site number and a mark. Roots are
+/// `Loc { site: i, k: 0 }` for each site `i`, and the number of a root is that of its own site; the
+/// number of every other location is that of its host.
 #[derive(Drop)]
 pub struct LocTree {
     roots: u32,
@@ -48,7 +52,8 @@ impl Model for LocTree {
 
     ghost view = { λ t. record { roots = t.roots; entries = t.spots.entries; spare = t.room } };
 
-    ghost invariant = { λ t. IsStored (record { roots = t.roots; entries = t.spots.entries; spare = t.room })
+    ghost invariant = { λ t. IsStored
+        (record { roots = t.roots; entries = t.spots.entries; spare = t.room })
         t.newest.items (spare t.spots) };
 }
 
@@ -66,7 +71,8 @@ fn mark(spots: &mut IndexMap<(u32, u64), Spot>, loc: &Loc)
 // Gives a location of the map another number.
 fn renumber(spots: &mut IndexMap<(u32, u64), Spot>, loc: &Loc, number: u32)
     requires { IsSome (lookup (is_pair_of loc.now) spots.old.entries) }
-    ensures entries { spots.new.entries ≡ change_spot loc.now (renumbered number) spots.old.entries }
+    ensures entries { spots.new.entries
+        ≡ change_spot loc.now (renumbered number) spots.old.entries }
     ensures room { map_room spots.new ≡ map_room spots.old }
 {
     if let Some(spot) = spots.get_mut(&(loc.site, loc.k)) {
@@ -131,12 +137,14 @@ impl LocTree {
         })
     }
 
-    /// Makes room for at least so many births, which then take no memory. Want of memory never comes where that room is there.
+    /// Makes room for at least so many births, which then take no memory. Want of memory never
+    /// comes where that room is there already.
     pub fn reserve(&mut self, _alloc: Global, more: u32) -> Result<(), Memory>
         ensures ok { OnOk result (self.new ≡ with_room self.old more) }
         ensures had { more ≤ self.old.spare → IsOk result }
         ensures err { OnErr result (self.new ≡ self.old) }
-        ensures placed { (placed : List Placed) → IsTreeOf self.old placed → IsTreeOf self.new placed }
+        ensures placed { (placed : List Placed) → IsTreeOf self.old placed
+            → IsTreeOf self.new placed }
     {
         if more > self.room {
             self.spots.reserve(more as usize)?;
@@ -193,7 +201,8 @@ impl LocTree {
     pub fn alive(&self, loc: &Loc) -> bool
         requires { IsSome (spot self.now loc.now) }
         ensures tree { result ≡ is_alive self.now loc.now }
-        ensures live { (placed : List Placed) → IsTreeOf self.now placed → result ≡ live (standing placed) loc.now }
+        ensures live { (placed : List Placed) → IsTreeOf self.now placed
+            → result ≡ live (standing placed) loc.now }
     {
         match self.spot(loc) {
             Some(spot) => {
@@ -221,7 +230,8 @@ impl LocTree {
         }
     }
 
-    /// Whether no location has this site and a number from this one on. Only of a site without a root are all locations looked through.
+    /// Whether no location has this site and a number from this one on. All locations are looked
+    /// through only where the site has no root.
     pub fn fresh(&self, site: u32, from: u64) -> bool
         ensures { IsTrue result ↔ IsFresh self.now site from }
     {
@@ -231,12 +241,14 @@ impl LocTree {
         }
     }
 
-    /// Whether the rule Go lets the location move to the target: it is alive and no root, and the target is a root that is alive.
+    /// Whether the rule Go lets the location move to the target: it is alive and no root, and the
+    /// target is a root that is alive.
     pub fn can_move(&self, loc: &Loc, target: &Loc) -> bool
         requires loc { IsSome (spot self.now loc.now) }
         requires target { IsSome (spot self.now target.now) }
         ensures tree { result ≡ can_move self.now loc.now target.now }
-        ensures go { (n : Numbered) → IsTreeOf self.now n.places → result ≡ can_go n loc.now target.now }
+        ensures go { (n : Numbered) → IsTreeOf self.now n.places
+            → result ≡ can_go n loc.now target.now }
     {
         self.alive(loc) && !self.is_root(loc) && self.alive(target) && self.is_root(target)
     }
@@ -263,7 +275,8 @@ impl LocTree {
     }
 }
 
-/// Each root stands in a tree with the number of its own site, and each number is that of a root. It does nothing.
+/// Each root stands in a tree with the number of its own site, and each number is that of a root.
+/// It does nothing.
 pub fn tree_is_kept(tree: &LocTree)
     ensures { IsTree tree.now }
 {

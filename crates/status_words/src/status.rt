@@ -1,4 +1,5 @@
-ghost use Rattle.std.specs.Prelude.{◌≡◌, ℕ, ◌++◌, ◌∷◌, [], ◌<◌, ◌↔◌, ◌+◌, ◌*◌, ◌/◌, true, false, length, slice_set, replicate, IfSome, IfNone, IfOk, OnOk, OnErr, IsTrue};
+ghost use Rattle.std.specs.Prelude.{◌≡◌, ℕ, ◌++◌, ◌∷◌, [], ◌<◌, ◌↔◌, ◌+◌, ◌*◌, ◌/◌, true, false};
+ghost use Rattle.std.specs.Prelude.{length, slice_set, replicate, IfSome, IfNone, IfOk, OnOk, OnErr, IsTrue};
 ghost use Rattle.status_words.specs.Words.{has_bit, number_of_words, Covers, NoneFrom, IsNext};
 ghost use Rattle.status_words.specs.Stored.{AreWords};
 
