@@ -23,3 +23,20 @@ impl DecodeEnd {
         Ok(*self)
     }
 }
+
+/// The same while the bytes are read: of a field that is wrong, how many bytes are left where it begins.
+#[derive(Clone, Copy, Debug, PartialEq, Eq)]
+pub enum Fault {
+    Wrong { left: usize },
+    Memory,
+}
+
+impl From<Memory> for Fault {
+    ghost use Rattle.wire_packet.specs.declared.fault.Fault.TheVariants as fault;
+
+    ghost from_gives = { λ _ error. error ≡ fault.Memory };
+
+    fn from(_error: Memory) -> Fault {
+        Fault::Memory
+    }
+}

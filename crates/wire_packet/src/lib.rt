@@ -2,8 +2,11 @@
 #![tactic(auto)]
 
 mod fault;
+mod ids;
 mod packet;
 mod parcel;
+mod reading;
+mod writing;
 
 pub use fault::DecodeEnd;
 pub use packet::{
@@ -11,3 +14,5 @@ pub use packet::{
     copy_flights, copy_groups, copy_waiting,
 };
 pub use parcel::{Packet, Parcel};
+pub use reading::{decode, one_outcome, one_spelling};
+pub use writing::encode;
