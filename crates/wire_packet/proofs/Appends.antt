@@ -27,8 +27,7 @@ pub member_put : {X : Type 0} (text : X → List ℕ) (P : X → Type 0) (start 
 member_put text P start mid end xs i d lt before put one =
     let x = get_or xs i d in
     let rest = drop (i + 1) xs in
-    let all : text x ++ flat_map text rest ≡ flat_map text (drop i xs) = sym (ap (flat_map text) (drop_more xs i d lt) ∙ flat_map-cons text x rest) in
-    (
+    let all : text x ++ flat_map text rest ≡ flat_map text (drop i xs) = sym (ap (flat_map text) (drop_more xs i d lt) ∙ flat_map-cons text x rest) in (
       ap (λ (t : List ℕ). t ++ flat_map text rest) put ∙ append_assoc mid (text x) (flat_map text rest) ∙ ap (λ (t : List ℕ). mid ++ t) all ∙ before.0,
       λ each. before.1 (subst (λ ys. Each P ys) (sym (drop_more xs i d lt)) (one, each)),
     )

@@ -118,8 +118,7 @@ requests_in l ws front [] e d = tt
 requests_in l ws front (r ∷ rs) e d =
     let ids : EachPair Precedes (request_ids front ++ request_ids (r ∷ rs)) = subst (λ (xs : List AtomId). EachPair Precedes xs) (map_more (λ q. q.id) front (r ∷ rs)) d in
     let rises = above_last r.id front None refl (pairs_front Precedes (request_ids front) r.id (request_ids rs) ids) in
-    let next : EachPair Precedes (request_ids ((front ++ r ∷ []) ++ rs)) = subst (λ (qs : List Request). EachPair Precedes (request_ids qs)) (sym (append_assoc front (r ∷ []) rs)) d in
-    (
+    let next : EachPair Precedes (request_ids ((front ++ r ∷ []) ++ rs)) = subst (λ (qs : List Request). EachPair Precedes (request_ids qs)) (sym (append_assoc front (r ∷ []) rs)) d in (
       record { at = e.0.0; id = e.0.1.0.0; may = may_is (is_waiting ws r.id.site r.id.k) (above r.id.site r.id.k (last_id front None)) e.0.1.1 rises; ask = e.0.1.0.1 },
       requests_in l ws (front ++ r ∷ []) rs e.1 next,
     )
@@ -132,7 +131,7 @@ in_parcel p h =
     let ws = each_both (λ w. w.loc ≡ l) (λ w. IsWaitingValue w × IsAtHome l w.msg.on) p.waiting k.waiting_here (each_both IsWaitingValue (λ w. IsAtHome l w.msg.on) p.waiting h.waiting k.waiting_at_home) in
     let apart = each_swap (λ b a. Differ a b) (request_ids p.requests) (waiting_ids p.waiting) (pairs_across Differ (waiting_ids p.waiting) (request_ids p.requests) k.different) in
     let free = each_weaker (λ r. Each (λ a. Differ a r.id) (waiting_ids p.waiting)) (λ r. is_waiting p.waiting r.id.site r.id.k ≡ false) (λ r e. not_has r.id (waiting_ids p.waiting) e) p.requests
-        (each_unmap (λ r. r.id) (λ b. Each (λ a. Differ a b) (waiting_ids p.waiting)) p.requests apart) in
+    (each_unmap (λ r. r.id) (λ b. Each (λ a. Differ a b) (waiting_ids p.waiting)) p.requests apart) in
     let rs = each_both (λ r. r.loc ≡ l) (λ r. IsRequestValue r × (is_waiting p.waiting r.id.site r.id.k ≡ false)) p.requests k.requests_here (each_both IsRequestValue (λ r. is_waiting p.waiting r.id.site r.id.k ≡ false) p.requests h.requests free) in
     let wids : EachPair Differ (waiting_ids p.waiting) = pairs_left Differ (waiting_ids p.waiting) (request_ids p.requests) k.different in record {
       loc = h.loc;

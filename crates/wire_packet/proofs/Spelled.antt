@@ -166,4 +166,3 @@ packet_spells (packet.Parcel p) is = (
   refl,
   subst (λ (bytes : List ℕ). Spells (parcel_body (λ q. whole (packet.Parcel q))) (packet.Parcel p) bytes) (append-nil (parcel p)) (of_parcel (packet.Parcel p) (λ q. whole (packet.Parcel q)) [] p is (refl, refl)),
 )
-

@@ -6,6 +6,8 @@ mod ids;
 mod packet;
 mod parcel;
 mod reading;
+#[cfg(test)]
+mod tests;
 mod writing;
 
 pub use fault::DecodeEnd;
