@@ -1,4 +1,5 @@
--- Which packets there are: each number is one of its type, and each message and parcel keeps the facts of its type.
+-- Which packets there are: each number is one of its type, and each message and parcel keeps the
+-- facts of its type.
 use Rattle.std.specs.Prelude.{ℕ, ◌<◌, ◌^◌, List}
 use Rattle.chem_model.specs.Each.{Each}
 use Rattle.chem_model.specs.declared.name.Name.{Name}

@@ -1,4 +1,5 @@
--- Formats: which fields stand one behind the other, what bytes spell by a format, and where they are wrong first.
+-- Formats: which fields stand one behind the other, what bytes spell by a format, and where they
+-- are wrong first.
 use Rattle.std.specs.Prelude.{◌≡◌, ℕ, ◌+◌, ◌<◌, ◌^◌, List, [], ◌∷◌, ◌++◌, length, Bool, true, false, ◌⊎◌}
 use Rattle.std.specs.Int.{w32, w64, to_be_bytes}
 

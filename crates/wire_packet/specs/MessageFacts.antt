@@ -19,5 +19,8 @@ IsMessage m = length m.args ≤ 255
 -- how the logic stores a message
 abbrev pub message_code : Coded MessageParts
 message_code =
-    code_by (AtomId × (Name × List Name)) (coded× atom.the_row.coded (coded× name.the_row.coded (coded_list name.the_row.coded)))
-    (λ m. (m.id, (m.on, m.args))) (λ t. record { id = t.0; on = t.1.0; args = t.1.1 }) (λ _. refl)
+    code_by (AtomId × (Name × List Name))
+    (coded× atom.the_row.coded (coded× name.the_row.coded (coded_list name.the_row.coded)))
+    (λ m. (m.id, (m.on, m.args)))
+    (λ t. record { id = t.0; on = t.1.0; args = t.1.1 })
+    (λ _. refl)

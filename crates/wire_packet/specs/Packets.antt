@@ -1,6 +1,6 @@
--- The format of packets, a field a line: in front of each field its size and which values are allowed in it. A part
--- takes what follows it as its last argument, so that parts stand in one another; whatever was read before is in scope
--- where a field is judged, and nothing else.
+-- The format of packets, a field a line: its size, and which values are allowed in it. A part takes
+-- what follows it as its last argument, so that parts stand in one another. Where a field is judged,
+-- the fields before it are known, and nothing else. Numbers are big-endian.
 use Rattle.std.specs.Prelude.{ℕ, zero, suc, List, [], ◌∷◌, ◌++◌, Bool, true, false, not, nat_lt, ◌==◌, ◌&&◌, ◌||◌, Option, Some, None}
 use Rattle.chem_model.specs.declared.name.Loc.{Loc}
 use Rattle.chem_model.specs.declared.event.AtomId.{AtomId}
@@ -117,7 +117,7 @@ abbrev pub waits : {A : Type 0} → Loc → ℕ → ℕ → (Waiting → Format 
     → Name × List Name → Format A
 waits l s k next m = next (record { loc = l; msg = made s k m })
 
--- The number tells whether the id is one that may stand here, as its site stands before it.
+-- An id is judged at its number, since its site stands before it.
 abbrev pub one_waiting : {A : Type 0} → Loc → (ℕ → ℕ → Bool) → (Waiting → Format A) → Format A
 one_waiting l may next =
     field four any (λ s.

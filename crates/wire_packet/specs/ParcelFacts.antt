@@ -49,9 +49,10 @@ pub record IsParcel (p : ParcelParts) : Type 0 where
   pub waiting_at_home : Each (λ w. IsAtHome p.loc w.msg.on) p.waiting
   pub requests_here : Each (λ r. r.loc ≡ p.loc) p.requests
   -- the ids of waiting messages and requests are all different, and those of requests rise
-  pub different : EachPair (λ one other. one ≢ other) (waiting_ids p.waiting ++ request_ids p.requests)
+  pub different :
+      EachPair (λ one other. one ≢ other) (waiting_ids p.waiting ++ request_ids p.requests)
   pub rising : EachPair Precedes (request_ids p.requests)
-  -- its lists, and the environments of its groups, are short enough for their lengths to fit a field
+  -- its lists, and the environments of its groups, have fewer than 2^32 members
   pub few_groups : length p.groups < 2 ^ 32
   pub few_waiting : length p.waiting < 2 ^ 32
   pub few_requests : length p.requests < 2 ^ 32
@@ -61,5 +62,9 @@ pub record IsParcel (p : ParcelParts) : Type 0 where
 abbrev pub parcel_code : Coded ParcelParts
 parcel_code =
     code_by (Loc × (List GroupInst × (List Waiting × List Request)))
-    (coded× loc.the_row.coded (coded× (coded_list group.the_row.coded) (coded× (coded_list waiting.the_row.coded) (coded_list request.the_row.coded))))
-    (λ p. (p.loc, (p.groups, (p.waiting, p.requests)))) (λ t. record { loc = t.0; groups = t.1.0; waiting = t.1.1.0; requests = t.1.1.1 }) (λ _. refl)
+    (coded× loc.the_row.coded
+    (coded× (coded_list group.the_row.coded)
+    (coded× (coded_list waiting.the_row.coded) (coded_list request.the_row.coded))))
+    (λ p. (p.loc, (p.groups, (p.waiting, p.requests))))
+    (λ t. record { loc = t.0; groups = t.1.0; waiting = t.1.1.0; requests = t.1.1.1 })
+    (λ _. refl)

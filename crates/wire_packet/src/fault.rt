@@ -8,7 +8,8 @@ use thiserror::Error;
 /// How the reading of bytes ends without a packet.
 #[derive(Clone, Copy, Debug, PartialEq, Eq, Error)]
 pub enum DecodeEnd {
-    /// The bytes are no packet: the first field that is wrong begins at `place`, a byte offset from 0.
+    /// The bytes are no packet: the field that is wrong first begins at `place`, a byte offset from
+    /// 0.
     #[error("the bytes are no packet: the field at byte {place} is wrong")]
     Bad { place: u64 },
     #[error("out of memory")]
@@ -24,7 +25,7 @@ impl DecodeEnd {
     }
 }
 
-/// The same while the bytes are read: of a field that is wrong, how many bytes are left where it begins.
+/// The same while the bytes are read: how many are left where the field begins that is wrong first.
 #[derive(Clone, Copy, Debug, PartialEq, Eq)]
 pub enum Fault {
     Wrong { left: usize },

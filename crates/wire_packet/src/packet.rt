@@ -7,8 +7,8 @@ use std::marker::Model;
 
 /// A message: its id, the name that it is sent on, and its arguments.
 ///
-/// Each message keeps that it has at most 255 arguments. Whoever writes one proves this, and whoever
-/// reads a field knows it.
+/// Each message keeps that it has at most 255 arguments. Whoever writes one proves this, and
+/// whoever reads a field knows it.
 #[derive(Debug, Drop)]
 pub struct Msg {
     pub id: AtomId,
@@ -79,8 +79,8 @@ impl Request {
 
 pub type Requests = Items<Request>;
 
-/// The rules of one level of the code, at a location, under an environment. The channels of the level
-/// have consecutive numbers from that of `chans` on, and its rules from that of `rules` on.
+/// The rules of one level of the code, at a location, under an environment. The channels of the
+/// level have consecutive numbers from that of `chans` on, and its rules from that of `rules` on.
 #[derive(Debug, Drop)]
 pub struct GroupInst {
     pub loc: Loc,

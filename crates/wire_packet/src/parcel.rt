@@ -9,8 +9,10 @@ use std::marker::Model;
 /// A location with all that stands at it: its groups, the messages that wait there in the order of
 /// their queues, and its requests in the order of their ids.
 ///
-/// Each parcel keeps the facts of `IsParcel`. Whoever writes one proves them, and whoever reads a field
-/// knows them.
+/// Each parcel keeps the facts of `IsParcel`: all that it holds stands at its location, a waiting
+/// message on a channel at the channel's home, the ids of waiting messages and requests are all
+/// different, those of requests rise, and no list has 2^32 members. Whoever writes one proves them,
+/// and whoever reads a field knows them.
 #[derive(Debug, Drop)]
 pub struct Parcel {
     pub loc: Loc,
@@ -26,9 +28,19 @@ impl Model for Parcel {
 
     ghost coded = { parcel_code };
 
-    ghost view = { λ p. record { loc = p.loc; groups = p.groups; waiting = p.waiting; requests = p.requests } };
+    ghost view = { λ p. record {
+      loc = p.loc;
+      groups = p.groups;
+      waiting = p.waiting;
+      requests = p.requests;
+    } };
 
-    ghost invariant = { λ p. IsParcel (record { loc = p.loc; groups = p.groups; waiting = p.waiting; requests = p.requests }) };
+    ghost invariant = { λ p. IsParcel (record {
+      loc = p.loc;
+      groups = p.groups;
+      waiting = p.waiting;
+      requests = p.requests;
+    }) };
 }
 
 impl Parcel {
@@ -48,7 +60,8 @@ impl Parcel {
     }
 }
 
-/// What passes from site to site: a message that goes to its channel's home, or a location that moves.
+/// What passes from site to site: a message that goes to its channel's home, or a location that
+/// moves.
 #[derive(Debug, Drop)]
 pub enum Packet {
     Message(Msg),

@@ -133,6 +133,7 @@ fn names_of(alloc: Global, count: u32, bytes: &[u8]) -> Result<(Names, &[u8]), F
     Ok((names, rest))
 }
 
+/// The name and the arguments of a message. A channel's home is this one, where there is one.
 fn message_after_id(
     alloc: Global,
     home: Option<Loc>,
@@ -218,12 +219,10 @@ fn waiting_of<'a>(
     ensures ids { IfOk result (λ x. (s k : ℕ) → holds ids.new s k ≡
         ((s == x.0.msg.id.site) && (k == x.0.msg.id.k) || holds ids.old s k)) }
 {
-    let (site, after_site) = u32_at(bytes)?;
-    let (k, rest) = u64_at(after_site)?;
+    let (site, from_k) = u32_at(bytes)?;
+    let (k, rest) = u64_at(from_k)?;
     if !ids.add(site, k)? {
-        return Err(Fault::Wrong {
-            left: after_site.len(),
-        });
+        return Err(Fault::Wrong { left: from_k.len() });
     }
     let (on, args, rest) = message_after_id(alloc, Some(loc), rest)?;
     let id = AtomId { site, k };
@@ -231,6 +230,7 @@ fn waiting_of<'a>(
     Ok((Waiting { loc, msg }, rest))
 }
 
+/// The waiting messages of a parcel, and the set of their ids.
 fn waiting_list_of(
     alloc: Global,
     loc: Loc,
@@ -279,6 +279,7 @@ fn ask_of(bytes: &[u8]) -> Result<(Ask, &[u8]), Fault>
     Ok((Ask::Halt, rest))
 }
 
+/// By their sites, and at one site by their numbers.
 fn is_above(site: u32, k: u64, last: Option<AtomId>) -> bool
     ensures { result ≡ above site k last }
 {
@@ -288,6 +289,7 @@ fn is_above(site: u32, k: u64, last: Option<AtomId>) -> bool
     }
 }
 
+/// A request whose id is none of these, and above the last one.
 fn request_of<'a>(
     loc: Loc,
     ids: &Ids,
@@ -397,8 +399,8 @@ fn packet_of(alloc: Global, bytes: &[u8]) -> Result<Packet, Fault>
 /// value isn't allowed behind the fields before it, or the input ends within it. A byte after the
 /// packet is wrong.
 ///
-/// It answers a packet exactly where the input spells it, and `Bad` exactly where it spells none, but
-/// for want of memory. It asks for no memory by a length that the input claims.
+/// It answers a packet exactly where the input spells it, and `Bad` exactly where it spells none,
+/// save for want of memory. It asks for no memory by a length that the input claims.
 pub fn decode(alloc: Global, bytes: &[u8]) -> Result<Packet, DecodeEnd>
     ensures found { IfOk result (λ packet. IsSpelledBy packet bytes.now) }
     ensures bad { IfErr result (λ end. NamesWrong end bytes.now) }
@@ -420,7 +422,8 @@ pub fn one_spelling()
     ensures { (p : Packet) (bytes : List ℕ) → Spells packets p bytes ↔ IsSpelledBy p bytes }
 {}
 
-/// Bytes spell one packet, or they have one field that is wrong first, and never both. It does nothing.
+/// Bytes spell one packet, or they have one field that is wrong first, and never both. It does
+/// nothing.
 pub fn one_outcome()
     ensures { (bytes : List ℕ) → Each (λ byte. byte < 2 ^ 8) bytes → HasOneOutcome packets bytes }
 {}

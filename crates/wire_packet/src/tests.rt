@@ -32,8 +32,8 @@ fn small_parcel_fields() -> &'static [usize] {
     &[0, 1, 5, 13, 17, 21, 25, 33, 37, 45, 49, 53]
 }
 
-/// The location 1.7 with two groups, the waiting messages 0.9, 1.9 and 0.4, and a request of each kind: 0.3, 0.10
-/// and 1.2.
+/// The location 1.7 with two groups, the waiting messages 0.9, 1.9 and 0.4, and a request of each
+/// kind: 0.3, 0.10 and 1.2.
 fn full_parcel() -> &'static [u8] {
     &[
         2, 0, 0, 0, 1, 0, 0, 0, 0, 0, 0, 0, 7, 0, 0, 0, 2, 0, 0, 0, 3, 0, 0, 0, 1, 0, 0, 0, 0, 0,
@@ -177,7 +177,8 @@ fn cut_off(rt: HostRuntime) {
     ends_within(&rt, alloc, full_parcel(), full_parcel_fields());
 }
 
-/// A byte that is changed: its index, its new value, and the place of the field that is then wrong first.
+/// A byte that is changed: its index, its new value, and the place of the field that is then wrong
+/// first.
 type Change = (usize, u8, u64);
 
 fn message_changes() -> &'static [Change] {

@@ -165,8 +165,8 @@ fn put_parcel(out: &mut Text, one: &Parcel) -> Result<(), Memory>
     Ok(())
 }
 
-/// The packet's one spelling, numbers big-endian: a byte for its kind, and then a message, or a location
-/// with its groups, waiting messages and requests, each list behind its length.
+/// The packet's one spelling, numbers big-endian: a byte for its kind, and then a message, or a
+/// location with its groups, waiting messages and requests, each list behind its length.
 pub fn encode(alloc: Global, packet: &Packet) -> Result<Text, Memory>
     ensures { IfOk result (λ bytes. IsSpelledBy packet.now bytes) }
 {
