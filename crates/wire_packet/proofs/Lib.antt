@@ -1,0 +1,12 @@
+pub mod Loop
+pub mod Appends
+pub mod Same
+pub mod Laws
+pub mod InOrder
+pub mod Pairs
+pub mod AtomIds
+pub mod Orders
+pub mod Spelt
+pub mod Parcels
+pub mod Spelled
+pub mod Whole
