@@ -1,1 +1,14 @@
-
+pub mod Lists
+pub mod Slots
+pub mod AsPoured
+pub mod NamingOrder
+pub mod PlacesNamed
+pub mod Pouring
+pub mod PouringFilled
+pub mod Bodies
+pub mod Reacting
+pub mod ReadUnder
+pub mod Fitting
+pub mod GroupsNamed
+pub mod Draws
+pub mod Tied
