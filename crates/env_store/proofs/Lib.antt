@@ -11,4 +11,7 @@ pub mod ReadUnder
 pub mod Fitting
 pub mod GroupsNamed
 pub mod Draws
+pub mod Scoped
+pub mod SitePlaces
+pub mod ReadSites
 pub mod Tied

@@ -1,14 +1,20 @@
 -- The laws, for code that is a program's.
 use Rattle.std.proofs.Common.{◌≡◌, ℕ, ◌+◌, ◌≤◌, List, [], ◌++◌, length, refl, sym, ap, ◌∙◌}
 use Rattle.chem_model.specs.Reduction.{given}
-use Rattle.chem_model.specs.Pour.{pour}
-use Rattle.chem_model.specs.Opening.{site_names, counts_of}
+use Rattle.chem_model.specs.Pour.{naming, births_of, names_made, then_made, pour, lay}
+use Rattle.chem_model.specs.declared.numbered.Made.{Made}
+use Rattle.chem_model.specs.declared.program.SiteTerm.{SiteTerm}
+use Rattle.chem_model.specs.Process.{definitions}
+use Rattle.chem_model.specs.Fill.{Naming}
+use Rattle.chem_model.specs.Opening.{root_of, site_names, counts_of}
 use Rattle.env_store.specs.Layout.{levels_of_program}
 use Rattle.env_store.specs.Running.{code_made}
 use Rattle.env_store.specs.Groups.{unnamed}
-use Rattle.env_store.specs.Laws.{RunningIsPouring, ReadsUnderEach}
+use Rattle.env_store.specs.Laws.{RunningIsPouring, OpeningIsPouring, opened_at, ReadsUnderEach}
 use Rattle.env_store.proofs.Bodies.{code_made_is}
-use Rattle.env_store.proofs.Pouring.{body_pours}
+use Rattle.env_store.proofs.Pouring.{body_pours, site_pours}
+use Rattle.env_store.proofs.SitePlaces.{program_sites}
+use Rattle.env_store.proofs.ReadSites.{site_read}
 use Rattle.env_store.proofs.ReadUnder.{reads_under}
 
 pub running_is_pouring : RunningIsPouring
@@ -25,3 +31,18 @@ reads_under_each p c is y q j body env e = record {
   is_there = body.is_there;
   under = reads_under c (levels_of_program p) (site_names p.sites) q y env body.instrs [] e body.reads;
 }
+
+pub opening_is_pouring : OpeningIsPouring
+opening_is_pouring p c ok kept is i t site e f =
+    let tops = site_names p.sites in
+    let ds = definitions t.defs in
+    site_pours c (levels_of_program p) tops (code_made c i) i (root_of i) is.levels (code_made_is c i kept.falls) ds t.body site (site_read p c is i t site e f) (program_sites p ok i t e).0
+        ∙ ap (λ seen. unnamed (opened seen tops i t)) is.seen
+  where
+    opened : List ℕ → Naming → ℕ → SiteTerm → Made
+    opened seen m i t =
+        let r = root_of i in
+        let ds = definitions t.defs in
+        let n = naming i r ds 1 in
+        let b = lay seen i r m r n.next ds in
+        then_made (names_made n (births_of r m ds)) (then_made b (pour seen i r m r b.next t.body))
