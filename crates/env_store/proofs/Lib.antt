@@ -9,6 +9,7 @@ pub mod Bodies
 pub mod Reacting
 pub mod ReadUnder
 pub mod Fitting
+pub mod GroupsApart
 pub mod GroupsNamed
 pub mod Draws
 pub mod Scoped

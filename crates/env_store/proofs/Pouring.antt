@@ -27,7 +27,7 @@ use Rattle.env_store.specs.declared.group.GroupInst.{GroupInst}
 use Rattle.env_store.specs.declared.code.SiteCode.{SiteCode}
 use Rattle.env_store.specs.Layout.{rules_in, new_in, count_ref, counts_in, new_ref, new_channels, new_counts, place_order, place_in, places_order, order, LevelTerm, level_term}
 use Rattle.env_store.specs.CodeParts.{CodeParts}
-use Rattle.env_store.specs.Running.{ref_at, refs_at, Ran, then_ran, nothing_ran, atom_ran, NumberedLevel, with_level, numbered_levels, loc_at, channel_names, after_place, place_names, place_births, births_ran, group_ran, Making, body_ran, places_ran, site_levels_ran, site_block_ran, site_ran, Entered, levels_entered, block_entered, without_last, run}
+use Rattle.env_store.specs.Running.{ref_at, refs_at, Ran, then_ran, nothing_ran, atom_ran, NumberedLevel, with_level, numbered_levels, loc_at, channel_names, after_place, place_names, place_births, block_names, births_ran, group_ran, Making, body_ran, places_ran, site_levels_ran, site_block_ran, site_ran, Entered, levels_entered, block_entered, without_last, run}
 use Rattle.env_store.specs.Groups.{level_rules, group_rules, groups_rules, Poured, unnamed, hosted, as_poured}
 use Rattle.env_store.specs.Reading.{slot_of, AreSlots, ReadsPlace, ReadsPlaces, ReadsLevels, PlacesAt, ReadsDef, ReadsMessage, ReadsRequest, Reads, ReadsAll, ReadsBody, ReadsProcess, ReadsLevel, ReadsSite}
 use Rattle.env_store.proofs.Lists.{get_front, take_front}
@@ -208,6 +208,20 @@ module _ (c : CodeParts) (levels : List LevelTerm) (tops : Naming) (M : Making) 
       ∙ ap (levels_entered M s env l k) (numbered_step b.levels o.places o.own v o.levels_are f.is_there)
       ∙ (λ i. entered env l k (kn i) first vs (channel_names s l k v.counts ++ place_names s (kn i) vs))
       ∙ ap (entered env l k (k + length bs) first vs) names
+
+  -- how many names a block makes
+  pub block_names_long : (z : List ℕ) (l : Loc) (k : ℕ) (ds : Definitions) (b : Block) (o : ReadsLevels c levels tops z ds b)
+      → length (block_names s l k (record { number = o.own; level = (flat o.own (level_term z [] ds None) o.own_is).level }) (numbered_levels c.levels o.places)) ≡ length (order ds)
+  block_names_long z l k ds b o =
+      let f = flat o.own (level_term z [] ds None) o.own_is in
+      let v = f.level in
+      let bs = new_channels [] ds in
+      let many : length v.counts ≡ length bs = ap length f.counts ∙ level_counts [] ds in
+      let vs = numbered_levels c.levels o.places in
+      let kn : k + length v.counts ≡ k + length bs = omega (arith, many) in
+      (λ i. length (channels_alike s l k v.counts bs many i ++ place_names s (kn i) vs))
+      ∙ ap (λ xs. length (channel_names s l k bs ++ xs)) (places_names z bs ds o.places (k + length bs) o.places_are)
+      ∙ order_long s l k ds
 
   mutual
     pub pours : (p : Process) (y : List ℕ) (env : List Name) (is rest : List Instr) (l : Loc) (k : ℕ) → length env ≡ length y → Reads c levels tops y p is rest
