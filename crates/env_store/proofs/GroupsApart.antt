@@ -12,7 +12,7 @@ use Rattle.chem_model.specs.Each.{Each}
 use Rattle.chem_model.specs.Fill.{Naming}
 use Rattle.chem_model.specs.Reduction.{given}
 use Rattle.chem_model.specs.Pour.{known, is_count, out_made, atom_made, message_made}
-use Rattle.chem_laws.proofs.Lists.{Each-append}
+use Rattle.chem_laws.proofs.Lists.{Each-append, Each-weaker}
 use Rattle.env_store.specs.declared.code.Level.{Level}
 use Rattle.env_store.specs.declared.group.GroupInst.{GroupInst}
 use Rattle.env_store.specs.Layout.{LevelTerm, rules_in}
@@ -30,10 +30,6 @@ shared_before s k n j m a first count b second many between h g x y below under 
 
 shared_after : (s k n j m a first count b second many : ℕ) → m ≤ k → AreFrom s k n a first count → AreFrom s j m b second many → NoneShared a first count b second many
 shared_after s k n j m a first count b second many between h g x y below under same e = omega (arith, h.from, h.below, g.from, g.below)
-
-pub weaker : {X : Type 0} (P Q : X → Type 0) (xs : List X) → ((x : X) → P x → Q x) → Each P xs → Each Q xs
-weaker P Q [] f h = tt
-weaker P Q (x ∷ xs) f h = (f x h.0, weaker P Q xs f h.1)
 
 -- a message draws one number at most
 pub message_up : (seen : List ℕ) (s : ℕ) (l : Loc) (k : ℕ) (x : Ref) (vs : List Ref) → k ≤ (message_made seen s l k x vs).next
@@ -120,7 +116,7 @@ module _ (levels : List LevelTerm) (tops : Naming) (s : ℕ) where
   all_apart-append : (P Q : GroupInst → Type 0) → ((g h : GroupInst) → P g → Q h → AreApart levels g h) → (gs hs : List GroupInst) → Each P gs → Each Q hs → AllApart levels gs → AllApart levels hs → AllApart levels (gs ++ hs)
   all_apart-append P Q f [] hs x y u v = v
   all_apart-append P Q f (g ∷ gs) hs x y u v =
-      (Each-append (AreApart levels g) gs hs u.0 (weaker Q (AreApart levels g) hs (λ h q. f g h x.0 q) y), all_apart-append P Q f gs hs x.1 y u.1 v)
+      (Each-append (AreApart levels g) gs hs u.0 (Each-weaker Q (AreApart levels g) (λ h q. f g h x.0 q) hs y), all_apart-append P Q f gs hs x.1 y u.1 v)
 
   -- one run after another
   pub joined_lays : (i j m k : ℕ) (a b : Ran) → i ≤ j → j ≤ m → m ≤ k → Lays i j k a → Lays j m a.next b → Lays i m k (then_ran a b)
@@ -129,8 +125,8 @@ module _ (levels : List LevelTerm) (tops : Naming) (s : ℕ) where
       let more = g.up in record {
         up = omega arith;
         all = Each-append (Within i m k b.next) a.groups b.groups
-            (weaker (Within i j k a.next) (Within i m k b.next) a.groups (within_more i j k a.next i m k b.next (omega arith) (omega arith) (omega arith) (omega arith)) h.all)
-            (weaker (Within j m a.next b.next) (Within i m k b.next) b.groups (within_more j m a.next b.next i m k b.next (omega arith) (omega arith) (omega arith) (omega arith)) g.all);
+            (Each-weaker (Within i j k a.next) (Within i m k b.next) (within_more i j k a.next i m k b.next (omega arith) (omega arith) (omega arith) (omega arith)) a.groups h.all)
+            (Each-weaker (Within j m a.next b.next) (Within i m k b.next) (within_more j m a.next b.next i m k b.next (omega arith) (omega arith) (omega arith) (omega arith)) b.groups g.all);
         apart = all_apart-append (Within i j k a.next) (Within j m a.next b.next) (within_apart i j m k a.next b.next below between above up) a.groups b.groups h.all g.all h.apart g.apart;
       }
 
@@ -138,7 +134,7 @@ module _ (levels : List LevelTerm) (tops : Naming) (s : ℕ) where
   pub beside : (i j k : ℕ) (a : Ran) → LaysFrom k a → Lays i j k a
   beside i j k a h =
       let up = h.up in
-      record { up = up; all = weaker (Within k k k a.next) (Within i j k a.next) a.groups (within_own k k k a.next i j k (omega arith) (omega arith) (omega arith)) h.all; apart = h.apart }
+      record { up = up; all = Each-weaker (Within k k k a.next) (Within i j k a.next) (within_own k k k a.next i j k (omega arith) (omega arith) (omega arith)) a.groups h.all; apart = h.apart }
 
   pub runs_on : (k : ℕ) (a b : Ran) → LaysFrom k a → LaysFrom a.next b → LaysFrom k (then_ran a b)
   runs_on k a b h g = joined_lays k k k k a b (omega arith) (omega arith) (omega arith) h (beside k k a.next b g)
@@ -147,7 +143,7 @@ module _ (levels : List LevelTerm) (tops : Naming) (s : ℕ) where
   pub block_lays : (k n : ℕ) (ls : List Loc) (a : Ran) → k ≤ n → Lays k n n a → LaysFrom k (then_ran (births_ran n ls) a)
   block_lays k n ls a below h =
       let up = h.up in
-      record { up = omega arith; all = weaker (Within k n n a.next) (Within k k k a.next) a.groups (within_own k n n a.next k k k (omega arith) (omega arith) (omega arith)) h.all; apart = h.apart }
+      record { up = omega arith; all = Each-weaker (Within k n n a.next) (Within k k k a.next) (within_own k n n a.next k k k (omega arith) (omega arith) (omega arith)) a.groups h.all; apart = h.apart }
 
   pub nothing_lays : (i j k : ℕ) → Lays i j k (nothing_ran k)
   nothing_lays i j k = record { up = omega arith; all = tt; apart = tt }

@@ -15,4 +15,6 @@ pub mod Draws
 pub mod Scoped
 pub mod SitePlaces
 pub mod ReadSites
+pub mod LevelTerms
+pub mod RuleGuards
 pub mod Tied

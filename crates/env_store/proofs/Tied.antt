@@ -12,9 +12,10 @@ use Rattle.env_store.specs.Layout.{levels_of_program}
 use Rattle.env_store.specs.Running.{Ran, code_made, site_made}
 use Rattle.env_store.specs.Groups.{unnamed, IsGroup, IsNumbered}
 use Rattle.env_store.specs.Laws.{RunningIsPouring, OpeningIsPouring, LaysGroups, RunsLayGroups, OpeningsLayGroups, ReadsUnderEach}
+use Rattle.chem_laws.proofs.Lists.{Each-weaker}
 use Rattle.env_store.proofs.Bodies.{code_made_is}
 use Rattle.env_store.proofs.Pouring.{body_pours, site_pours}
-use Rattle.env_store.proofs.GroupsApart.{Within, Lays, LaysFrom, weaker, own_numbers}
+use Rattle.env_store.proofs.GroupsApart.{Within, Lays, LaysFrom, own_numbers}
 use Rattle.env_store.proofs.GroupsNamed.{body_groups, site_groups}
 use Rattle.env_store.proofs.SitePlaces.{program_sites}
 use Rattle.env_store.proofs.ReadSites.{site_read}
@@ -55,8 +56,8 @@ laid : (p : ProgramTerms) (s k : ℕ) (a : Ran) → LaysFrom (levels_of_program 
 laid p s k a h =
     let levels = levels_of_program p in
     let tops = site_names p.sites in record {
-      groups = weaker (Within levels tops s k k k a.next) (IsGroup levels tops) a.groups (λ g x. x.is) h.all;
-      numbered = weaker (Within levels tops s k k k a.next) (IsNumbered levels s k a.next) a.groups (own_numbers levels tops s k a.next h.up) h.all;
+      groups = Each-weaker (Within levels tops s k k k a.next) (IsGroup levels tops) (λ g x. x.is) a.groups h.all;
+      numbered = Each-weaker (Within levels tops s k k k a.next) (IsNumbered levels s k a.next) (own_numbers levels tops s k a.next h.up) a.groups h.all;
       apart = h.apart;
     }
 

@@ -62,30 +62,27 @@ RunningIsPouring =
 
 -- ---- React: a group's rule is run by the guard of its place in the level
 
-abbrev pub guard_in : List Guard → ℕ → Option Level → Option Guard
-guard_in guards i None = None
-guard_in guards i (Some v) = slice_get guards (v.first + i)
+-- the patterns are on these channels of the group, each with its channel's count
+abbrev pub AreOn : GroupInst → List ℕ → List Pat → List ℕ → Type 0
+AreOn g counts [] [] = Unit {0}
+AreOn g counts (p ∷ ps) (i ∷ is) =
+    (p.on ≡ Known (name.Chan g.chans.site (g.chans.k + i) g.loc))
+    × (slice_get counts i ≡ Some (length p.params))
+    × AreOn g counts ps is
+AreOn g counts [] (i ∷ is) = ⊥
+AreOn g counts (p ∷ ps) [] = ⊥
 
--- the guard of the group's rule i
-abbrev pub guard_of : CodeParts → GroupInst → ℕ → Option Guard
-guard_of c g i = guard_in c.guards i (slice_get c.levels g.level)
-
--- the patterns are on these channels of the group
-abbrev pub AreOn : GroupInst → List Pat → List ℕ → Type 0
-AreOn g [] [] = Unit {0}
-AreOn g (p ∷ ps) (i ∷ is) =
-    (p.on ≡ Known (name.Chan g.chans.site (g.chans.k + i) g.loc)) × AreOn g ps is
-AreOn g [] (i ∷ is) = ⊥
-AreOn g (p ∷ ps) [] = ⊥
-
+-- the group's rule i and its guard
 pub record RunIsReaction (p : ProgramTerms) (c : CodeParts) (g : GroupInst) (i : ℕ) (rule : NumberedRule) : Type 0 where
+  pub level : Level
+  pub level_is : slice_get c.levels g.level ≡ Some level
   pub guard : Guard
-  pub is_there : guard_of c g i ≡ Some guard
-  -- the rule has its place's number, and stands at the group's location
+  pub guard_is : slice_get c.guards (level.first + i) ≡ Some guard
+  -- the rule has its number in the group, and stands at the group's location
   pub id : rule.id ≡ record { site = g.rules.site; k = g.rules.k + i }
   pub loc : rule.loc ≡ g.loc
   -- the guard's channels are those of the rule's patterns
-  pub chans : AreOn g rule.pats guard.chans
+  pub chans : AreOn g level.counts rule.pats guard.chans
   -- its body, run under the group's environment followed by the received names, makes what pouring
   -- the rule's body with these names for its parameters makes
   pub pours :
