@@ -1,0 +1,2 @@
+pub mod MessageFacts
+pub mod ParcelFacts
