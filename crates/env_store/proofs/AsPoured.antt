@@ -11,7 +11,7 @@ use Rattle.chem_model.specs.Process.{Process, Msg, Rule, Place, Definitions, no_
 use Rattle.chem_model.specs.Fill.{Naming}
 use Rattle.chem_model.specs.Reduction.{given}
 use Rattle.chem_model.specs.Pour.{message_made, known, is_count, out_made, atom_made, lay_rules, rules_made}
-use Rattle.env_store.specs.declared.group.GroupInst.{GroupInst}
+use Rattle.wire_packet.specs.declared.packet.GroupInst.{GroupInst}
 use Rattle.env_store.specs.Layout.{LevelTerm}
 use Rattle.env_store.specs.Running.{Ran, then_ran, atom_ran, NumberedLevel, group_ran}
 use Rattle.env_store.specs.Groups.{level_rules, group_rules, groups_rules, Poured, unnamed, hosted, as_poured}

@@ -14,7 +14,7 @@ use Rattle.chem_model.specs.Reduction.{given}
 use Rattle.chem_model.specs.Pour.{known, is_count, out_made, atom_made, message_made}
 use Rattle.chem_laws.proofs.Lists.{Each-append, Each-weaker}
 use Rattle.env_store.specs.declared.code.Level.{Level}
-use Rattle.env_store.specs.declared.group.GroupInst.{GroupInst}
+use Rattle.wire_packet.specs.declared.packet.GroupInst.{GroupInst}
 use Rattle.env_store.specs.Layout.{LevelTerm, rules_in}
 use Rattle.env_store.specs.Running.{Ran, then_ran, nothing_ran, atom_ran, births_ran, group_ran}
 use Rattle.env_store.specs.Groups.{ChannelsNamed, IsGroupOf, IsGroup, IsNumbered, rule_count, channel_count, AreFrom, NoneShared, AreApart, AllApart}

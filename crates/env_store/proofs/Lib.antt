@@ -8,7 +8,6 @@ pub mod PouringFilled
 pub mod Bodies
 pub mod Reacting
 pub mod ReadUnder
-pub mod Fitting
 pub mod GroupsApart
 pub mod GroupsNamed
 pub mod Draws

@@ -23,7 +23,7 @@ use Rattle.env_store.specs.declared.code.Instr.{Instr}
 use Rattle.env_store.specs.declared.code.Instr.TheVariants as instr
 use Rattle.env_store.specs.declared.code.Level.{Level}
 use Rattle.env_store.specs.declared.code.Block.{Block}
-use Rattle.env_store.specs.declared.group.GroupInst.{GroupInst}
+use Rattle.wire_packet.specs.declared.packet.GroupInst.{GroupInst}
 use Rattle.env_store.specs.declared.code.SiteCode.{SiteCode}
 use Rattle.env_store.specs.Layout.{rules_in, new_in, count_ref, counts_in, new_ref, new_channels, new_counts, place_order, place_in, places_order, order, LevelTerm, level_term}
 use Rattle.env_store.specs.CodeParts.{CodeParts}

@@ -19,7 +19,7 @@ use Rattle.chem_laws.proofs.Parts.{is_named}
 use Rattle.chem_laws.proofs.Filled.{params_left}
 use Rattle.chem_laws.proofs.Terms.{named_more}
 use Rattle.env_store.specs.declared.code.Guard.{Guard}
-use Rattle.env_store.specs.declared.group.GroupInst.{GroupInst}
+use Rattle.wire_packet.specs.declared.packet.GroupInst.{GroupInst}
 use Rattle.env_store.specs.CodeParts.{CodeParts}
 use Rattle.env_store.specs.Layout.{LevelTerm, levels_of_program}
 use Rattle.env_store.specs.Running.{code_made}

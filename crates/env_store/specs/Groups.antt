@@ -14,7 +14,7 @@ use Rattle.chem_model.specs.declared.numbered.NumberedRule.{NumberedRule}
 use Rattle.chem_model.specs.declared.numbered.NumberedAtom.{NumberedAtom}
 use Rattle.chem_model.specs.declared.numbered.Made.{Made}
 use Rattle.chem_model.specs.Pour.{lay_rules}
-use Rattle.env_store.specs.declared.group.GroupInst.{GroupInst}
+use Rattle.wire_packet.specs.declared.packet.GroupInst.{GroupInst}
 use Rattle.env_store.specs.Layout.{LevelTerm, rules_in}
 use Rattle.env_store.specs.Running.{Ran}
 use Rattle.env_store.specs.Reading.{position}

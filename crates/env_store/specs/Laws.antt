@@ -19,7 +19,7 @@ use Rattle.chem_model.specs.Opening.{root_of, site_names, counts_of}
 use Rattle.env_store.specs.declared.code.Guard.{Guard}
 use Rattle.env_store.specs.declared.code.Level.{Level}
 use Rattle.env_store.specs.declared.code.SiteCode.{SiteCode}
-use Rattle.env_store.specs.declared.group.GroupInst.{GroupInst}
+use Rattle.wire_packet.specs.declared.packet.GroupInst.{GroupInst}
 use Rattle.env_store.specs.CodeParts.{CodeParts}
 use Rattle.env_store.specs.CodeFacts.{IsCode}
 use Rattle.env_store.specs.Layout.{LevelTerm, levels_of_program}

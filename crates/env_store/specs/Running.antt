@@ -20,7 +20,7 @@ use Rattle.env_store.specs.declared.code.Instr.TheVariants.{Send, Enter, Leave, 
 use Rattle.env_store.specs.declared.code.Level.{Level}
 use Rattle.env_store.specs.declared.code.Block.{Block}
 use Rattle.env_store.specs.declared.code.SiteCode.{SiteCode}
-use Rattle.env_store.specs.declared.group.GroupInst.{GroupInst}
+use Rattle.wire_packet.specs.declared.packet.GroupInst.{GroupInst}
 use Rattle.env_store.specs.CodeParts.{CodeParts}
 
 -- ---- slots

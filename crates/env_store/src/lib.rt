@@ -4,7 +4,6 @@
 
 mod code;
 mod env;
-mod group;
 mod laws;
 
 pub use code::{
@@ -13,7 +12,6 @@ pub use code::{
     copy_levels,
 };
 pub use env::{Env, extend, lookup};
-pub use group::GroupInst;
 pub use laws::{
     opening_is_pouring, openings_lay_groups, reacting_is_pouring, reads_under_each,
     running_is_pouring, runs_lay_groups,
