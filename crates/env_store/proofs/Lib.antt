@@ -14,6 +14,7 @@ pub mod Draws
 pub mod Scoped
 pub mod SitePlaces
 pub mod ReadSites
+pub mod Counted
 pub mod LevelTerms
 pub mod RuleGuards
 pub mod Tied

@@ -1,5 +1,5 @@
 -- The rules of a group and the guards of its level, one by one.
-use Rattle.std.proofs.Common.{◌≡◌, ℕ, zero, suc, ◌+◌, ◌≤◌, List, [], ◌∷◌, ◌++◌, length, Some, refl, sym, ap, ◌∙◌, subst, arith}
+use Rattle.std.proofs.Common.{◌≡◌, ℕ, zero, suc, ◌+◌, ◌≤◌, List, [], ◌∷◌, ◌++◌, length, Some, refl, sym, ap, ◌∙◌, subst, arith, length-append}
 use Rattle.std.specs.Prelude.{slice_get}
 use Rattle.chem_model.specs.declared.name.Loc.{Loc}
 use Rattle.chem_model.specs.declared.name.Name.{Name}
@@ -28,6 +28,8 @@ use Rattle.env_store.specs.Groups.{names_of_group, level_rules, unnamed, IsGroup
 use Rattle.env_store.specs.Laws.{AreOn, RunIsReaction, ReactingIsPouring}
 use Rattle.env_store.proofs.Bodies.{code_made_is}
 use Rattle.env_store.proofs.NamingOrder.{given_domain}
+use Rattle.env_store.proofs.Counted.{counted_run}
+use Rattle.env_store.proofs.Pouring.{body_pours}
 use Rattle.env_store.proofs.Reacting.{reacts}
 use Rattle.env_store.proofs.LevelTerms.{HasCount, HaveCounts, program_levels}
 
@@ -113,4 +115,12 @@ reacting_is_pouring p c ok kept is g group i rule e =
           reacts c levels tops (code_made c s) s r is.levels (code_made_is c s kept.falls) f.guard.body t.layout (params_of f.ps) q g.env args l k f.reads.body of.long (long ∙ ap length same) once
               ∙ ap (λ seen. unnamed (pour seen s r (given (params_of f.ps) args) l k (fill m q))) is.seen
               ∙ ap (λ bs. unnamed (pour (counts_of p.seen) s r (given bs args) l k (fill m q))) (sym same);
+      counted = λ args long s l k.
+          let env = g.env ++ args in
+          let y = t.layout ++ params_of f.ps in
+          let many : length env ≡ length y = omega (arith, length-append g.env args, length-append t.layout (params_of f.ps), of.long, long, ap length (params_left m f.ps)) in
+          let run = body_pours c levels tops (code_made c s) s l is.levels (code_made_is c s kept.falls) f.guard.body y q env l k f.reads.body many in
+          let a = code_made c s f.guard.body env l k in
+          let all = counted_run levels tops l a c.seen s (tops ++ given y env) l k q run in
+          record { births_are = all.births_are ∙ sym f.reads.births; sends_are = all.sends_are ∙ sym f.reads.sends };
     })

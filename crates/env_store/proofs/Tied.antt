@@ -11,10 +11,13 @@ use Rattle.chem_model.specs.Opening.{root_of, site_names, counts_of}
 use Rattle.env_store.specs.Layout.{levels_of_program}
 use Rattle.env_store.specs.Running.{Ran, code_made, site_made}
 use Rattle.env_store.specs.Groups.{unnamed, IsGroup, IsNumbered}
-use Rattle.env_store.specs.Laws.{RunningIsPouring, OpeningIsPouring, LaysGroups, RunsLayGroups, OpeningsLayGroups, ReadsUnderEach}
+use Rattle.chem_model.specs.declared.name.Loc.{Loc}
+use Rattle.chem_model.specs.declared.name.Name.{Name}
+use Rattle.env_store.specs.Laws.{as_poured_in, all_names, RunningIsPouring, OpeningIsPouring, LaysGroups, RunsLayGroups, OpeningsLayGroups, ReadsUnderEach}
 use Rattle.chem_laws.proofs.Lists.{Each-weaker}
 use Rattle.env_store.proofs.Bodies.{code_made_is}
 use Rattle.env_store.proofs.Pouring.{body_pours, site_pours}
+use Rattle.env_store.proofs.Counted.{counted_run}
 use Rattle.env_store.proofs.GroupsApart.{Within, Lays, LaysFrom, own_numbers}
 use Rattle.env_store.proofs.GroupsNamed.{body_groups, site_groups}
 use Rattle.env_store.proofs.SitePlaces.{program_sites}
@@ -23,11 +26,16 @@ use Rattle.env_store.proofs.ReadUnder.{reads_under}
 
 pub running_is_pouring : RunningIsPouring
 running_is_pouring p c ok kept is y q j body = record {
-  pours = λ s r l env k e.
-      let tops = site_names p.sites in
-      body_pours c (levels_of_program p) tops (code_made c s) s r is.levels (code_made_is c s kept.falls) j y q env l k body e
-          ∙ ap (λ seen. unnamed (pour seen s r (tops ++ given y env) l k q)) is.seen;
+  pours = pours;
+  counted = λ s l env k e.
+      counted_run (levels_of_program p) (site_names p.sites) l (code_made c s j env l k) (counts_of p.seen) s (site_names p.sites ++ given y env) l k q (pours s l l env k e);
 }
+  where
+    pours : (s : ℕ) (r l : Loc) (env : List Name) (k : ℕ) → length env ≡ length y → as_poured_in p r (code_made c s j env l k) ≡ unnamed (pour (counts_of p.seen) s r (all_names p y env) l k q)
+    pours s r l env k e =
+        let tops = site_names p.sites in
+        body_pours c (levels_of_program p) tops (code_made c s) s r is.levels (code_made_is c s kept.falls) j y q env l k body e
+            ∙ ap (λ seen. unnamed (pour seen s r (tops ++ given y env) l k q)) is.seen
 
 pub reads_under_each : ReadsUnderEach
 reads_under_each p c is y q j body env e = record {

@@ -20,7 +20,8 @@ use Rattle.env_store.specs.Running.{NumberedLevel, numbered_levels, code_made, s
 
 -- ---- names and slots
 
--- a name that code knows: a declared observed name, a location of `tops`, or a channel at home there
+-- a name that code knows: a declared observed name, a location of `tops`, or a channel whose home
+-- is one of these
 abbrev pub IsKnownTo : CodeParts → Name → Type 0
 IsKnownTo c (name.Seen i) = i < length c.seen
 IsKnownTo c (name.Place a) = Contains c.tops a
@@ -43,8 +44,9 @@ abbrev pub IsLevelAt : CodeParts → ℕ → ℕ → Type 0
 IsLevelAt c d n = (v : Level) × (slice_get c.levels n ≡ Some v) × (v.depth ≡ d)
 
 -- instructions where the environment has d names, and `open_blocks` is how many names each block
--- made that was entered and not yet left, the last one first: each slot is in range, each message is
--- short, the levels of a block have the environment with its names, and each block is left in turn
+-- made that was entered and not yet left, the last one first: each slot is in range, each message
+-- has at most 255 arguments, the levels of an entered block have the environment with its names,
+-- and each block is left in turn, by the `Leave` of as many names
 abbrev pub Fits : CodeParts → ℕ → List ℕ → List Instr → Type 0
 Fits c d open_blocks [] = open_blocks ≡ []
 Fits c d open_blocks (Send on args ∷ is) =

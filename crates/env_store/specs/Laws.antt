@@ -1,5 +1,5 @@
 -- The laws of compiled code: running it is pouring the program that it reads as.
-use Rattle.std.specs.Prelude.{◌≡◌, ℕ, ◌+◌, List, [], ◌∷◌, ◌++◌, Option, Some, None, length, slice_get}
+use Rattle.std.specs.Prelude.{◌≡◌, ℕ, ◌+◌, List, [], ◌∷◌, ◌++◌, Some, length, slice_get}
 use Rattle.chem_model.specs.declared.name.Loc.{Loc}
 use Rattle.chem_model.specs.declared.name.Name.{Name}
 use Rattle.chem_model.specs.declared.name.Name.TheVariants as name
@@ -7,8 +7,9 @@ use Rattle.chem_model.specs.declared.name.Ref.TheVariants.{Known}
 use Rattle.chem_model.specs.declared.name.Pat.{Pat}
 use Rattle.chem_model.specs.declared.program.SiteTerm.{SiteTerm}
 use Rattle.chem_model.specs.declared.numbered.NumberedRule.{NumberedRule}
+use Rattle.chem_model.specs.declared.numbered.NumberedAtom.{NumberedAtom}
 use Rattle.chem_model.specs.declared.numbered.Made.{Made}
-use Rattle.chem_model.specs.Process.{Process, definitions}
+use Rattle.chem_model.specs.Process.{Process, Msg, Par, Def, Go, Fail, Halt, definitions}
 use Rattle.chem_model.specs.ProgramFacts.{ProgramTerms, IsProgram}
 use Rattle.chem_model.specs.Binders.{params_of}
 use Rattle.chem_model.specs.Each.{Each}
@@ -22,7 +23,7 @@ use Rattle.env_store.specs.declared.code.SiteCode.{SiteCode}
 use Rattle.wire_packet.specs.declared.packet.GroupInst.{GroupInst}
 use Rattle.env_store.specs.CodeParts.{CodeParts}
 use Rattle.env_store.specs.CodeFacts.{IsCode}
-use Rattle.env_store.specs.Layout.{LevelTerm, levels_of_program}
+use Rattle.env_store.specs.Layout.{births_in, sends_in, levels_of_program}
 use Rattle.env_store.specs.Reading.{ReadsBody, IsCodeOf}
 use Rattle.env_store.specs.Under.{BodyUnder}
 use Rattle.env_store.specs.Running.{Ran, code_made, site_made}
@@ -46,14 +47,36 @@ as_poured_in p r a = as_poured (levels_of_program p) (site_names p.sites) r a
 abbrev pub IsGroupIn : ProgramTerms → GroupInst → Type 0
 IsGroupIn p g = IsGroup (levels_of_program p) (site_names p.sites) g
 
--- ---- a body's run is what pouring its process makes: the same births, rules, atoms, observables and
--- numbers, in the same order. Guards, places and sites have bodies that are those of their source
+-- the messages among atoms
+abbrev pub message_of : Process → ℕ
+message_of (Msg x vs) = 1
+message_of (Par ps) = 0
+message_of (Def ds p) = 0
+message_of (Go b k) = 0
+message_of (Fail a k) = 0
+message_of Halt = 0
 
-pub record RunIsPour (p : ProgramTerms) (c : CodeParts) (y : List ℕ) (q : Process) (j : ℕ) : Type 0 where
+abbrev pub messages_in : List NumberedAtom → ℕ
+messages_in [] = 0
+messages_in (a ∷ others) = message_of a.term + messages_in others
+
+-- so many locations are born, and so many messages poured, those on observed names among them
+pub record IsCounted (births sends : ℕ) (a : Ran) : Type 0 where
+  pub births_are : length a.births ≡ births
+  pub sends_are : messages_in a.atoms + length a.outs ≡ sends
+
+-- ---- a body's run is what pouring its process makes: the same births, rules, atoms, observables
+-- and numbers, in the same order. The bodies of guards, places and sites are those of their source
+
+pub record RunIsPour (p : ProgramTerms) (c : CodeParts) (y : List ℕ) (q : Process)
+    (j : ℕ) : Type 0 where
   pub pours :
       (s : ℕ) (r l : Loc) (env : List Name) (k : ℕ) → length env ≡ length y
       → as_poured_in p r (code_made c s j env l k)
         ≡ unnamed (pour (counts_of p.seen) s r (all_names p y env) l k q)
+  pub counted :
+      (s : ℕ) (l : Loc) (env : List Name) (k : ℕ) → length env ≡ length y
+      → IsCounted (births_in q) (sends_in q) (code_made c s j env l k)
 
 abbrev pub RunningIsPouring : Type 0
 RunningIsPouring =
@@ -73,7 +96,8 @@ AreOn g counts [] (i ∷ is) = ⊥
 AreOn g counts (p ∷ ps) [] = ⊥
 
 -- the group's rule i and its guard
-pub record RunIsReaction (p : ProgramTerms) (c : CodeParts) (g : GroupInst) (i : ℕ) (rule : NumberedRule) : Type 0 where
+pub record RunIsReaction (p : ProgramTerms) (c : CodeParts) (g : GroupInst) (i : ℕ)
+    (rule : NumberedRule) : Type 0 where
   pub level : Level
   pub level_is : slice_get c.levels g.level ≡ Some level
   pub guard : Guard
@@ -90,6 +114,11 @@ pub record RunIsReaction (p : ProgramTerms) (c : CodeParts) (g : GroupInst) (i :
       → (s : ℕ) (r l : Loc) (k : ℕ)
       → as_poured_in p r (code_made c s guard.body (g.env ++ args) l k)
         ≡ unnamed (pour (counts_of p.seen) s r (given (params_of rule.pats) args) l k rule.body)
+  -- and as many locations and messages as the guard counts
+  pub counted :
+      (args : List Name) → length args ≡ length (params_of rule.pats)
+      → (s : ℕ) (l : Loc) (k : ℕ)
+      → IsCounted guard.births guard.sends (code_made c s guard.body (g.env ++ args) l k)
 
 abbrev pub ReactingIsPouring : Type 0
 ReactingIsPouring =
@@ -122,8 +151,8 @@ OpeningIsPouring =
 
 -- ---- the groups that a run lays
 
--- each is a group of its level, and their rules and channels have numbers of the site from k on that
--- no two of them share
+-- each is a group of its level, and their rules and channels have numbers of the site from k on,
+-- which no two of them share
 pub record LaysGroups (p : ProgramTerms) (s k : ℕ) (a : Ran) : Type 0 where
   pub groups : Each (IsGroupIn p) a.groups
   pub numbered : Each (IsNumbered (levels_of_program p) s k a.next) a.groups

@@ -5,7 +5,8 @@ use Rattle.chem_model.specs.declared.name.Name.{Name}
 use Rattle.chem_model.specs.declared.name.Ref.{Ref}
 use Rattle.chem_model.specs.declared.name.Ref.TheVariants.{Binder, Known}
 use Rattle.chem_model.specs.declared.name.Pat.{Pat}
-use Rattle.chem_model.specs.Process.{Process, Msg, Par, Def, Go, Fail, Halt, Processes, none, one_more}
+use Rattle.chem_model.specs.Process.{Process, Msg, Par, Def, Go, Fail, Halt}
+use Rattle.chem_model.specs.Process.{Processes, none, one_more}
 use Rattle.chem_model.specs.Process.{Definition, Rule, Place, Definitions, no_definition, and_also}
 use Rattle.chem_model.specs.Process as term
 use Rattle.chem_model.specs.Binders.{binder_of, params_of, is_among}

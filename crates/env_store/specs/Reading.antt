@@ -1,5 +1,5 @@
--- When code reads as a program: each body as a process under a layout, each level, block and site as
--- its source. A body's instructions are read in front of a rest, so that one walk reads them all.
+-- When code reads as a program: each body as a process under a layout, each level, block and site
+-- as its source. Instructions are read in front of a rest, so that one walk reads a whole body.
 use Rattle.std.specs.Prelude.{◌≡◌, ℕ, ◌+◌, List, [], ◌∷◌, ◌++◌, ◌==◌, Option, Some, None, cond}
 use Rattle.std.specs.Prelude.{length, slice_get, take}
 use Rattle.chem_model.specs.declared.name.Loc.{Loc}
@@ -9,7 +9,8 @@ use Rattle.chem_model.specs.declared.name.Ref.{Ref}
 use Rattle.chem_model.specs.declared.name.Ref.TheVariants as ref
 use Rattle.chem_model.specs.declared.name.Pat.{Pat}
 use Rattle.chem_model.specs.declared.program.SiteTerm.{SiteTerm}
-use Rattle.chem_model.specs.Process.{Process, Msg, Par, Def, Go, Fail, Halt, Processes, none, one_more}
+use Rattle.chem_model.specs.Process.{Process, Msg, Par, Def, Go, Fail, Halt}
+use Rattle.chem_model.specs.Process.{Processes, none, one_more}
 use Rattle.chem_model.specs.Process.{Definition, Rule, Place, Definitions, no_definition, and_also}
 use Rattle.chem_model.specs.Process as term
 use Rattle.chem_model.specs.Binders.{binder_of, params_of}
@@ -125,14 +126,18 @@ module _ (c : CodeParts) (levels : List LevelTerm) (tops : Naming) where
         let xs = new_channels [] ds in
         PlacesAt tops (y ++ order ds) xs (length y + length xs) ds
 
-  pub record ReadsMessage (y : List ℕ) (x : Ref) (vs : List Ref) (is rest : List Instr) : Type 0 where
+  -- one `Send`
+  pub record ReadsMessage (y : List ℕ) (x : Ref) (vs : List Ref)
+      (is rest : List Instr) : Type 0 where
     pub on : Slot
     pub args : List Slot
     pub sends : is ≡ instr.Send on args ∷ rest
     pub on_is : slot_of tops y x ≡ Some on
     pub args_are : AreSlots tops y vs args
 
-  pub record ReadsRequest (y : List ℕ) (made : Slot → Slot → Instr) (x k : Ref) (is rest : List Instr) : Type 0 where
+  -- one request, made of its two slots
+  pub record ReadsRequest (y : List ℕ) (made : Slot → Slot → Instr) (x k : Ref)
+      (is rest : List Instr) : Type 0 where
     pub target : Slot
     pub cont : Slot
     pub asks : is ≡ made target cont ∷ rest
@@ -167,7 +172,8 @@ module _ (c : CodeParts) (levels : List LevelTerm) (tops : Naming) where
 
   -- the guard of a rule of the level n: its body is under the layout of the level, followed by the
   -- received names in the order of the patterns
-  pub record ReadsGuard (n : ℕ) (t : LevelTerm) (ps : List Pat) (p : Process) (g : Guard) : Type 0 where
+  pub record ReadsGuard (n : ℕ) (t : LevelTerm) (ps : List Pat) (p : Process)
+      (g : Guard) : Type 0 where
     pub level : g.level ≡ n
     pub chans : AreChannels t.channels ps g.chans
     pub mask : IsMask (length t.channels) g.chans g.mask.words

@@ -147,7 +147,8 @@ places_ran M s env kn k (v ∷ vs) =
 
 -- the births, groups and places of a block, where its naming took the numbers from k on below n:
 -- v is its own list, and vs are its places
-abbrev pub block_laid : Making → ℕ → List Name → Loc → ℕ → ℕ → NumberedLevel → List NumberedLevel → Ran
+abbrev pub block_laid :
+    Making → ℕ → List Name → Loc → ℕ → ℕ → NumberedLevel → List NumberedLevel → Ran
 block_laid M s env l k n v vs =
     let kn = k + length v.level.counts in
     let a = group_ran s l env k n v in

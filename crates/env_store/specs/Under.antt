@@ -3,7 +3,8 @@
 use Rattle.std.specs.Prelude.{◌≡◌, ℕ, List, [], ◌∷◌, ◌++◌, Some, length, slice_get}
 use Rattle.chem_model.specs.declared.name.Name.{Name}
 use Rattle.chem_model.specs.declared.name.Ref.{Ref}
-use Rattle.chem_model.specs.Process.{Process, Msg, Par, Def, Go, Fail, Halt, Processes, none, one_more}
+use Rattle.chem_model.specs.Process.{Process, Msg, Par, Def, Go, Fail, Halt}
+use Rattle.chem_model.specs.Process.{Processes, none, one_more}
 use Rattle.chem_model.specs.Fill.{Naming, fill_ref, fill_refs}
 use Rattle.chem_model.specs.Reduction.{given}
 use Rattle.env_store.specs.declared.code.Slot.{Slot}
@@ -15,7 +16,8 @@ use Rattle.env_store.specs.Layout.{order}
 use Rattle.env_store.specs.Running.{ref_at, refs_at}
 
 -- one `Send`, whose slots hold the names of the message
-pub record MessageUnder (m : Naming) (env : List Name) (x : Ref) (vs : List Ref) (is rest : List Instr) : Type 0 where
+pub record MessageUnder (m : Naming) (env : List Name) (x : Ref) (vs : List Ref)
+    (is rest : List Instr) : Type 0 where
   pub on : Slot
   pub args : List Slot
   pub sends : is ≡ instr.Send on args ∷ rest
@@ -23,7 +25,8 @@ pub record MessageUnder (m : Naming) (env : List Name) (x : Ref) (vs : List Ref)
   pub args_are : refs_at env args ≡ fill_refs m vs
 
 -- one request, whose slots hold its names
-pub record RequestUnder (m : Naming) (env : List Name) (made : Slot → Slot → Instr) (x k : Ref) (is rest : List Instr) : Type 0 where
+pub record RequestUnder (m : Naming) (env : List Name) (made : Slot → Slot → Instr) (x k : Ref)
+    (is rest : List Instr) : Type 0 where
   pub target : Slot
   pub cont : Slot
   pub asks : is ≡ made target cont ∷ rest

@@ -80,8 +80,8 @@ pub fn copy_instrs(alloc: Global, list: &Instrs) -> Result<Instrs, Memory>
 
 pub type Bits = Items<u64>;
 
-/// A set of channels of one level, in words of 64 bits: bit `i % 64` of the word `i / 64` stands for
-/// channel `i` (Le Fessant, Maranget, *Compiling Join Patterns*, 1998).
+/// A set of channels of one level, in words of 64 bits: bit `i % 64` of the word `i / 64` stands
+/// for channel `i` (Le Fessant, Maranget, *Compiling Join Patterns*, 1998).
 #[derive(Debug, Drop)]
 pub struct Mask {
     pub words: Bits,
@@ -254,8 +254,8 @@ pub fn copy_bodies(alloc: Global, list: &Bodies) -> Result<Bodies, Memory>
 
 pub type Locs = Items<Loc>;
 
-/// The whole program: `seen` are the declared counts of its observed names, and `tops` the locations
-/// that its sites define, their roots among them. `sites` has one member per site.
+/// The whole program: `seen` are the declared counts of its observed names, and `tops` the
+/// locations that its sites define, their roots among them. `sites` has one member per site.
 ///
 /// Each such value keeps the facts of `IsCode`: each index is in range, each `Enter` is followed by
 /// its `Leave`, environments are as long as the levels say, masks have the bits of their channels,

@@ -1,8 +1,10 @@
 // The laws of compiled code. Whoever calls one of these functions has its law.
-ghost use Rattle.env_store.specs.Laws.{RunningIsPouring, ReactingIsPouring, OpeningIsPouring, RunsLayGroups, OpeningsLayGroups, ReadsUnderEach};
+ghost use Rattle.env_store.specs.Laws.{RunningIsPouring, ReactingIsPouring, OpeningIsPouring};
+ghost use Rattle.env_store.specs.Laws.{RunsLayGroups, OpeningsLayGroups, ReadsUnderEach};
 
 /// What a body makes, run under an environment, is what pouring its process makes with the names of
-/// that environment for its binders. It does nothing.
+/// that environment for its binders, and as many locations and messages are made as are counted. It
+/// does nothing.
 pub fn running_is_pouring()
     ensures { RunningIsPouring }
 {}
