@@ -27,7 +27,6 @@ use Rattle.env_store.proofs.GroupsApart.{Lays, LaysFrom, joined_lays, beside, ru
 module _ (c : CodeParts) (levels : List LevelTerm) (tops : Naming) (M : Making) (s : ℕ) (r : Loc)
     (flat : (n : ℕ) (t : LevelTerm) → slice_get levels n ≡ Some t → ReadsLevel c levels tops n t)
     (runs : (j : ℕ) (is : List Instr) → slice_get c.bodies j ≡ Some is → (env : List Name) (l : Loc) (k : ℕ) → M j env l k ≡ run c M s is env l k) where
-
   abbrev Laid : ℕ → Ran → Type 0
   Laid k a = LaysFrom levels tops s k a
 
@@ -37,7 +36,7 @@ module _ (c : CodeParts) (levels : List LevelTerm) (tops : Naming) (M : Making) 
     groups_are (Msg x vs) y env is rest l e h f k =
         let m = message_made c.seen s l k (ref_at env h.on) (refs_at env h.args) in
         subst (λ js. Laid k (run c M s js env l k)) (sym h.sends)
-          (runs_on levels tops s k (atom_ran m) (run c M s rest env l m.next) (atom_lays levels tops s k m (message_up c.seen s l k (ref_at env h.on) (refs_at env h.args))) (f m.next))
+        (runs_on levels tops s k (atom_ran m) (run c M s rest env l m.next) (atom_lays levels tops s k m (message_up c.seen s l k (ref_at env h.on) (refs_at env h.args))) (f m.next))
     groups_are (Par ps) y env is rest l e h f k = all_groups ps y env is rest l e h f k
     groups_are (Def ds p) y env is rest l e h f k =
         let d = h.1 in
@@ -66,8 +65,8 @@ module _ (c : CodeParts) (levels : List LevelTerm) (tops : Naming) (M : Making) 
         let block = block_lays levels tops s k n (place_births s kn vs) (then_ran a b) (omega arith) (joined_lays levels tops s k kn n n a b (omega arith) (omega (arith, many)) (omega arith) group places) in
         let inner = groups_are p z env' h.0 (instr.Leave (length (order ds)) ∷ rest) l long h.2 (λ j. subst (λ ms. Laid j (run c M s rest ms l j)) (sym (left_is c levels tops M s r flat runs env ns (length (order ds)) (order_long s l k ds))) (f j)) in
         subst (λ js. Laid k (run c M s js env l k)) (sym d.enters)
-          (subst (λ (u : Entered). Laid k (then_ran u.ran (run c M s h.0 (env ++ u.names) l u.ran.next))) (sym (enters_is c levels tops M s r flat runs y env l k ds d.block o d.number d.is_there))
-            (runs_on levels tops s k q.ran (run c M s h.0 env' l q.ran.next) block (inner q.ran.next)))
+        (subst (λ (u : Entered). Laid k (then_ran u.ran (run c M s h.0 (env ++ u.names) l u.ran.next))) (sym (enters_is c levels tops M s r flat runs y env l k ds d.block o d.number d.is_there))
+        (runs_on levels tops s k q.ran (run c M s h.0 env' l q.ran.next) block (inner q.ran.next)))
     groups_are (Go b j) y env is rest l e h f k =
         let m = atom_made s l k (term.Go (ref_at env h.target) (ref_at env h.cont)) in
         subst (λ js. Laid k (run c M s js env l k)) (sym h.asks) (runs_on levels tops s k (atom_ran m) (run c M s rest env l m.next) (atom_lays levels tops s k m (omega arith)) (f m.next))
@@ -90,7 +89,7 @@ module _ (c : CodeParts) (levels : List LevelTerm) (tops : Naming) (M : Making) 
     place_groups (and_also (Rule ps p) ds) z env acc ns kn m k end above long h g =
         let zero : kn + length {A = ℕ} [] ≡ kn = omega arith in
         subst (λ xs. Lays levels tops s kn m k (places_ran M s env kn k (numbered_levels c.levels xs))) (sym h.1)
-          (subst (λ j. Lays levels tops s j m k (places_ran M s env j k (numbered_levels c.levels h.0))) zero (place_groups ds z env (acc ++ []) h.0 (kn + length {A = ℕ} []) m k (omega arith) above long h.2 g.1))
+        (subst (λ j. Lays levels tops s j m k (places_ran M s env j k (numbered_levels c.levels h.0))) zero (place_groups ds z env (acc ++ []) h.0 (kn + length {A = ℕ} []) m k (omega arith) above long h.2 g.1))
     place_groups (and_also (Place (Known x) es p) ds) z env acc ns kn m k end above long h g = absurd h.1.3
     place_groups (and_also (Place (Binder b) es p) ds) z env acc ns kn m k end above long h g =
         let d = Place (Binder b) es p in
@@ -109,16 +108,16 @@ module _ (c : CodeParts) (levels : List LevelTerm) (tops : Naming) (M : Making) 
         let made = body_ran M f.level.body env q a.next in
         let one = then_ran a made in
         let body : Laid a.next made =
-            subst (λ o. Laid a.next (body_ran M o env q a.next)) (sym f.process.1)
-              (subst (Laid a.next) (sym (runs f.process.0 f.process.2.instrs f.process.2.is_there env q a.next))
-                (groups_are p z env f.process.2.instrs [] q long f.process.2.reads (λ i. nothing_lays levels tops s i i i) a.next)) in
+        subst (λ o. Laid a.next (body_ran M o env q a.next)) (sym f.process.1)
+        (subst (Laid a.next) (sym (runs f.process.0 f.process.2.instrs f.process.2.is_there env q a.next))
+        (groups_are p z env f.process.2.instrs [] q long f.process.2.reads (λ i. nothing_lays levels tops s i i i) a.next)) in
         let group = group_lays levels tops s h.1.0 t f.level q env kn j (kn + 1) k h.1.2 long g.0.1 f.guards (omega arith) (omega arith) in
         let first = joined_lays levels tops s kn j j k a made (omega arith) (omega arith) (omega (arith, whole)) group (beside levels tops s j j a.next made body) in
         let up = first.up in
         let rest = place_groups ds z env (acc ++ xs) h.0 j m one.next (omega (arith, whole)) (omega arith) long h.2 g.1 in
         subst (λ us. Lays levels tops s kn m k (places_ran M s env kn k us)) (sym (numbered_step c levels tops M s r flat runs ns h.0 h.1.0 f.level h.1.1 f.is_there))
-          (subst (λ i. Lays levels tops s kn m k (then_ran one (places_ran M s env i one.next vs))) (sym next)
-            (joined_lays levels tops s kn j m k one (places_ran M s env j one.next vs) (omega arith) (omega (arith, whole)) above first rest))
+        (subst (λ i. Lays levels tops s kn m k (then_ran one (places_ran M s env i one.next vs))) (sym next)
+        (joined_lays levels tops s kn j m k one (places_ran M s env j one.next vs) (omega arith) (omega (arith, whole)) above first rest))
 
   -- a body as a whole
   pub body_groups : (j : ℕ) (y : List ℕ) (p : Process) (env : List Name) (l : Loc) (k : ℕ) → ReadsBody c levels tops y p j → length env ≡ length y → Laid k (M j env l k)
@@ -154,5 +153,5 @@ module _ (c : CodeParts) (levels : List LevelTerm) (tops : Naming) (M : Making) 
       let names = block_names_long c levels tops M s r flat runs [] l 1 ds h.block o in
       let last : n ≡ 1 + length (block_names s l 1 first vs) = omega (arith, names) in
       subst (λ q. Laid 1 (site_block_ran c M s site.body q)) (sym h.is_there)
-        (subst (λ us. Laid 1 (site_levels_ran M s site.body us)) (sym (numbered_step c levels tops M s r flat runs h.block.levels o.places o.own f.level o.levels_are f.is_there))
-          (subst (λ k. Laid 1 (opened (1 + length f.level.counts) k)) last (subst (λ j. Laid 1 (opened j n)) kn all)))
+      (subst (λ us. Laid 1 (site_levels_ran M s site.body us)) (sym (numbered_step c levels tops M s r flat runs h.block.levels o.places o.own f.level o.levels_are f.is_there))
+      (subst (λ k. Laid 1 (opened (1 + length f.level.counts) k)) last (subst (λ j. Laid 1 (opened j n)) kn all)))

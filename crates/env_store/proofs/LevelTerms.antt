@@ -87,7 +87,7 @@ module _ (b n : ℕ) (l : Option Ref) where
   level_counted acc (and_also (Rule ps p) ds) h =
       let xs = new_in acc ps in
       counted-append b n xs (counts_in acc ps) (new_channels (acc ++ xs) ds) (new_counts (acc ++ xs) ds)
-          (pats_counted acc ps (λ x i. h x (in_left x (at l ps) (patterns_of l ds) i))) (level_counted (acc ++ xs) ds (λ x i. h x (in_right x (at l ps) (patterns_of l ds) i)))
+      (pats_counted acc ps (λ x i. h x (in_left x (at l ps) (patterns_of l ds) i))) (level_counted (acc ++ xs) ds (λ x i. h x (in_right x (at l ps) (patterns_of l ds) i)))
   level_counted acc (and_also (Place y es p) ds) h = level_counted acc ds (λ x i. h x (in_right x (patterns_of (Some y) es) (patterns_of l ds) i))
 
 abbrev pub HasCount : LevelTerm → Pat → Type 0
@@ -112,11 +112,11 @@ module _ (t : LevelTerm) (l : Option Ref) (has : (p : Pat) → IsIn (l, p) (patt
 level_counts : (z acc : List ℕ) (l : Option Ref) (ds : Definitions) (o : Option Process) → Alike l ds → HaveCounts (level_term z acc ds o) ds
 level_counts z acc l ds o alike =
     have_counts (level_term z acc ds o) l
-      (λ p i b j e f.
-        let r = counted_from b (length p.params) 0 (new_channels acc ds) (new_counts acc ds) j (level_counted b (length p.params) l acc ds (λ x k g. alike x (l, p) k i (g ∙ sym e))) f in
-        let same : r.0 ≡ j = omega (arith, r.1) in
-        subst (λ m. slice_get (new_counts acc ds) m ≡ Some (length p.params)) same r.2)
-      ds (λ x i. i)
+    (λ p i b j e f.
+    let r = counted_from b (length p.params) 0 (new_channels acc ds) (new_counts acc ds) j (level_counted b (length p.params) l acc ds (λ x k g. alike x (l, p) k i (g ∙ sym e))) f in
+    let same : r.0 ≡ j = omega (arith, r.1) in
+    subst (λ m. slice_get (new_counts acc ds) m ≡ Some (length p.params)) same r.2)
+    ds (λ x i. i)
 
 -- ---- each level of a program
 
@@ -133,9 +133,11 @@ module _ (tops : Naming) (Q : Name → Type 0) (scope : List ℕ) where
         let z = y ++ order ds in
         let more : (b : ℕ) → once z b ≤ once y b + once (block ds) b = (λ b. omega (arith, once-append y (order ds) b, ap {B = ℕ} (λ t. cond t 1 0) (order_among ds b e.1))) in
         let alike : Alike None ds = same_count (patterns_of None ds) e.0.agree in
-        let own : IsLevelTerm tops (level_term z [] ds None) = record { free = λ b. omega (arith, o b, more b); counts = level_counts z [] None ds None alike } in
-        (own, Each-append (IsLevelTerm tops) (levels_of_defs z (new_channels [] ds) ds) (levels_of z p)
-            (defs_levels ds None z (new_channels [] ds) (block ds ++ scope) (λ b. omega (arith, o b, more b)) alike e.2) (process_levels p z (block ds ++ scope) (λ b. omega (arith, o b, more b)) e.3))
+        let own : IsLevelTerm tops (level_term z [] ds None) = record { free = λ b. omega (arith, o b, more b); counts = level_counts z [] None ds None alike } in (
+          own,
+          Each-append (IsLevelTerm tops) (levels_of_defs z (new_channels [] ds) ds) (levels_of z p)
+              (defs_levels ds None z (new_channels [] ds) (block ds ++ scope) (λ b. omega (arith, o b, more b)) alike e.2) (process_levels p z (block ds ++ scope) (λ b. omega (arith, o b, more b)) e.3),
+        )
     process_levels (Go b k) y scope o e = tt
     process_levels (Fail b k) y scope o e = tt
     process_levels Halt y scope o e = tt
@@ -148,17 +150,19 @@ module _ (tops : Naming) (Q : Name → Type 0) (scope : List ℕ) where
     defs_levels no_definition l z acc scope o alike e = tt
     defs_levels (and_also (Rule ps p) ds) l z acc scope o alike e =
         Each-append (IsLevelTerm tops) (levels_of (z ++ params_of ps) p) (levels_of_defs z (acc ++ []) ds)
-            (process_levels p (z ++ params_of ps) (params_of ps ++ scope) (λ b. omega (arith, o b, once-append z (params_of ps) b, once_least (params_of ps) b)) e.0.1)
-            (defs_levels ds l z (acc ++ []) scope (λ b. omega (arith, o b)) (λ x y i j. alike x y (in_right x (at l ps) (patterns_of l ds) i) (in_right y (at l ps) (patterns_of l ds) j)) e.1)
+        (process_levels p (z ++ params_of ps) (params_of ps ++ scope) (λ b. omega (arith, o b, once-append z (params_of ps) b, once_least (params_of ps) b)) e.0.1)
+        (defs_levels ds l z (acc ++ []) scope (λ b. omega (arith, o b)) (λ x y i j. alike x y (in_right x (at l ps) (patterns_of l ds) i) (in_right y (at l ps) (patterns_of l ds) j)) e.1)
     defs_levels (and_also (Place n es p) ds) l z acc scope o alike e =
         let named = acc ++ binder_of n in
         let inner : Alike (Some n) es = (λ x y i j. alike x y (in_left x (patterns_of (Some n) es) (patterns_of l ds) i) (in_left y (patterns_of (Some n) es) (patterns_of l ds) j)) in
         let own : IsLevelTerm tops (level_term z named es (Some p)) = record { free = λ b. omega (arith, o b); counts = level_counts z named (Some n) es (Some p) inner } in
         let rest = place_order acc n es in
-        Each-append (IsLevelTerm tops) (levels_of_def z acc (Place n es p)) (levels_of_defs z (acc ++ rest) ds)
-            (own, Each-append (IsLevelTerm tops) (levels_of_defs z (acc ++ rest) es) (levels_of z p)
-                (defs_levels es (Some n) z (acc ++ rest) scope (λ b. omega (arith, o b)) inner e.0.0) (process_levels p z scope (λ b. omega (arith, o b)) e.0.1))
-            (defs_levels ds l z (acc ++ rest) scope (λ b. omega (arith, o b)) (λ x y i j. alike x y (in_right x (patterns_of (Some n) es) (patterns_of l ds) i) (in_right y (patterns_of (Some n) es) (patterns_of l ds) j)) e.1)
+        Each-append (IsLevelTerm tops) (levels_of_def z acc (Place n es p)) (levels_of_defs z (acc ++ rest) ds) (
+          own,
+          Each-append (IsLevelTerm tops) (levels_of_defs z (acc ++ rest) es) (levels_of z p)
+              (defs_levels es (Some n) z (acc ++ rest) scope (λ b. omega (arith, o b)) inner e.0.0) (process_levels p z scope (λ b. omega (arith, o b)) e.0.1),
+        )
+        (defs_levels ds l z (acc ++ rest) scope (λ b. omega (arith, o b)) (λ x y i j. alike x y (in_right x (patterns_of (Some n) es) (patterns_of l ds) i) (in_right y (patterns_of (Some n) es) (patterns_of l ds) j)) e.1)
 
   sites_levels : (ts : List SiteTerm) → IsBlockAt None (places ts) → AreDefinitions Q scope (places ts) → ((b : ℕ) → is_named tops b + bound_in_definitions (places ts) b ≤ 1) → Each (IsLevelTerm tops) (levels_of_sites ts)
   sites_levels [] h e o = tt
@@ -167,10 +171,12 @@ module _ (tops : Naming) (Q : Name → Type 0) (scope : List ℕ) where
       let is = own_block None t.name ds t.body (places ts) h in
       let alike : Alike None ds = same_count (patterns_of None ds) is.agree in
       let own : IsLevelTerm tops (level_term [] [] ds None) = record { free = λ b. omega (arith, o b); counts = level_counts [] [] None ds None alike } in
-      Each-append (IsLevelTerm tops) (levels_of_site t) (levels_of_sites ts)
-        (own, Each-append (IsLevelTerm tops) (levels_of_defs [] (new_channels [] ds) ds) (levels_of [] t.body)
-            (defs_levels ds None [] (new_channels [] ds) scope (λ b. omega (arith, o b)) alike e.0.0) (process_levels t.body [] scope (λ b. omega (arith, o b)) e.0.1))
-        (sites_levels ts (other_block None (Place (Binder t.name) ds t.body) (places ts) h) e.1 (λ b. omega (arith, o b)))
+      Each-append (IsLevelTerm tops) (levels_of_site t) (levels_of_sites ts) (
+        own,
+        Each-append (IsLevelTerm tops) (levels_of_defs [] (new_channels [] ds) ds) (levels_of [] t.body)
+            (defs_levels ds None [] (new_channels [] ds) scope (λ b. omega (arith, o b)) alike e.0.0) (process_levels t.body [] scope (λ b. omega (arith, o b)) e.0.1),
+      )
+      (sites_levels ts (other_block None (Place (Binder t.name) ds t.body) (places ts) h) e.1 (λ b. omega (arith, o b)))
 
 each_at : {X : Type 0} (P : X → Type 0) (xs : List X) (n : ℕ) (x : X) → Each P xs → slice_get xs n ≡ Some x → P x
 each_at P [] n x h e = cc

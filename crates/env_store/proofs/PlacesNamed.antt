@@ -69,8 +69,8 @@ module _ (tops : Naming) (s : ℕ) (z : List ℕ) (env : List Name) (long : leng
   pub channels_named : (pre post : List Name) (q : Loc) (k i : ℕ) (bs : List ℕ) → env ≡ pre ++ (channel_names s q k bs ++ post) → length pre ≡ i → ChannelsAt tops z i bs → ChannelsNamed s (tops ++ given z env) q k bs
   channels_named pre post q k i bs e n h b j at =
       let there : slice_get env (i + j) ≡ Some (name.Chan s (k + j) q) =
-          ap (λ ns. slice_get ns (i + j)) e ∙ (let m : i + j ≡ length pre + j = omega arith in ap (slice_get (pre ++ (channel_names s q k bs ++ post))) m) ∙ get_behind pre (channel_names s q k bs ++ post) j
-          ∙ get_left (channel_names s q k bs) post j (name.Chan s (k + j) q) (channel_at s q k bs b j at) in
+      ap (λ ns. slice_get ns (i + j)) e ∙ (let m : i + j ≡ length pre + j = omega arith in ap (slice_get (pre ++ (channel_names s q k bs ++ post))) m) ∙ get_behind pre (channel_names s q k bs ++ post) j
+      ∙ get_left (channel_names s q k bs) post j (name.Chan s (k + j) q) (channel_at s q k bs b j at) in
       some_of b (name_at (tops ++ given z env) b) (name.Chan s (k + j) q) (sym (slot_law tops z env long (Binder b) (slot.Env (i + j)) (h b j at)) ∙ ap (or_binder (i + j)) there)
 
   pub places_named : (ds : Definitions) (acc : List ℕ) (i kn : ℕ) (pre : List Name) → PlacesAt tops z acc i ds → env ≡ pre ++ names_of_places s acc kn ds → length pre ≡ i → PlacesNamed s (tops ++ given z env) acc kn ds

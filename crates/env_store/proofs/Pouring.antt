@@ -79,7 +79,6 @@ loc_of_known l x a e = ap (loc_or l) e
 module _ (c : CodeParts) (levels : List LevelTerm) (tops : Naming) (M : Making) (s : ℕ) (r : Loc)
     (flat : (n : ℕ) (t : LevelTerm) → slice_get levels n ≡ Some t → ReadsLevel c levels tops n t)
     (runs : (j : ℕ) (is : List Instr) → slice_get c.bodies j ≡ Some is → (env : List Name) (l : Loc) (k : ℕ) → M j env l k ≡ run c M s is env l k) where
-
   abbrev means : Ran → Poured
   means a = as_poured levels tops r a
 
@@ -203,7 +202,7 @@ module _ (c : CodeParts) (levels : List LevelTerm) (tops : Naming) (M : Making) 
       let vs = numbered_levels c.levels o.places in
       let kn : k + length v.counts ≡ k + length bs = omega (arith, many) in
       let names : channel_names s l k v.counts ++ place_names s (k + length bs) vs ≡ order_names s l k ds =
-          (λ i. channels_alike s l k v.counts bs many i ++ places_names (y ++ order ds) bs ds o.places (k + length bs) o.places_are i) in
+      (λ i. channels_alike s l k v.counts bs many i ++ places_names (y ++ order ds) bs ds o.places (k + length bs) o.places_are i) in
       ap (block_entered c M s env l k) there
       ∙ ap (levels_entered M s env l k) (numbered_step b.levels o.places o.own v o.levels_are f.is_there)
       ∙ (λ i. entered env l k (kn i) first vs (channel_names s l k v.counts ++ place_names s (kn i) vs))
@@ -231,7 +230,7 @@ module _ (c : CodeParts) (levels : List LevelTerm) (tops : Naming) (M : Making) 
         let args = slots_law tops y env e vs h.args h.args_are in
         ap (λ js. means (run c M s js env l k)) h.sends
         ∙ joined levels tops r (atom_ran (message_made c.seen s l k (ref_at env h.on) (refs_at env h.args))) (message_made c.seen s l k (ref_at env h.on) (refs_at env h.args)) (run c M s rest env l)
-          (message_plain levels tops r c.seen s l k (ref_at env h.on) (refs_at env h.args))
+        (message_plain levels tops r c.seen s l k (ref_at env h.on) (refs_at env h.args))
         ∙ (λ i. then_poured (unnamed (message_made c.seen s l k (on i) (args i))) (means (run c M s rest env l (message_made c.seen s l k (on i) (args i)).next)))
     pours (Par ps) y env is rest l k e h = pours_all ps y env is rest l k e h
     pours (Def ds p) y env is rest l k e h =
@@ -256,13 +255,13 @@ module _ (c : CodeParts) (levels : List LevelTerm) (tops : Naming) (M : Making) 
         let a = λ (j : ℕ). rules_made (lay_rules s m l j ds) in
         let laid = λ (j : ℕ). then_ran (group_ran s l env' k j first) (places_ran M s env' kn (j + f.level.guards) vs) in
         let given_names : means (births_ran (k + length ns) (place_births s kn vs)) ≡ unnamed (names_made n (births_of r m ds)) =
-            (λ i. record { next = next i; births = births i; rules = []; atoms = []; outs = [] }) in
+        (λ i. record { next = next i; births = births i; rules = []; atoms = []; outs = [] }) in
         let lays : means (laid n.next) ≡ unnamed (then_made (a n.next) (lay_places c.seen s r m l (a n.next).next ds)) =
-            joined levels tops r (group_ran s l env' k n.next first) (a n.next) (λ j. places_ran M s env' kn j vs) (group_law o.own (level_term z [] ds None) f.level l env' k n.next o.own_is f.guards)
-            ∙ ap (then_poured (unnamed (a n.next))) (pours_places ds z env' bs o.places kn l (a n.next).next long o.places_are named) in
+        joined levels tops r (group_ran s l env' k n.next first) (a n.next) (λ j. places_ran M s env' kn j vs) (group_law o.own (level_term z [] ds None) f.level l env' k n.next o.own_is f.guards)
+        ∙ ap (then_poured (unnamed (a n.next))) (pours_places ds z env' bs o.places kn l (a n.next).next long o.places_are named) in
         let q = entered env l k kn first vs ns in
         let block : means q.ran ≡ unnamed (block_made m l ds n) =
-            joined levels tops r (births_ran (k + length ns) (place_births s kn vs)) (names_made n (births_of r m ds)) laid given_names ∙ ap (then_poured (unnamed (names_made n (births_of r m ds)))) lays in
+        joined levels tops r (births_ran (k + length ns) (place_births s kn vs)) (names_made n (births_of r m ds)) laid given_names ∙ ap (then_poured (unnamed (names_made n (births_of r m ds)))) lays in
         let b = block_made m l ds n in
         let w = pour c.seen s r m l b.next p in
         ap (λ js. means (run c M s js env l k)) d.enters
@@ -323,11 +322,11 @@ module _ (c : CodeParts) (levels : List LevelTerm) (tops : Naming) (M : Making) 
         let laid = λ (a : Loc). rules_made (lay_rules s m a k es) in
         let placed = λ (a : Loc). then_made (laid a) (pour c.seen s r m a (laid a).next p) in
         let body : (j : ℕ) → means (body_ran M f.level.body env q j) ≡ unnamed (pour c.seen s r m q j p) =
-            (λ j. ap (λ o. means (body_ran M o env q j)) f.process.1 ∙ ap means (runs f.process.0 f.process.2.instrs f.process.2.is_there env q j)
-            ∙ pours p z env f.process.2.instrs [] q j long f.process.2.reads ∙ then_nothing (pour c.seen s r m q j p)) in
+        (λ j. ap (λ o. means (body_ran M o env q j)) f.process.1 ∙ ap means (runs f.process.0 f.process.2.instrs f.process.2.is_there env q j)
+        ∙ pours p z env f.process.2.instrs [] q j long f.process.2.reads ∙ then_nothing (pour c.seen s r m q j p)) in
         let one = then_ran (group_ran s q env (kn + 1) k v) (body_ran M f.level.body env q (k + f.level.guards)) in
         let first : means one ≡ unnamed (placed q) =
-            joined levels tops r (group_ran s q env (kn + 1) k v) (laid q) (body_ran M f.level.body env q) (group_law h.1.0 t f.level q env (kn + 1) k h.1.2 f.guards) ∙ ap (then_poured (unnamed (laid q))) (body (laid q).next) in
+        joined levels tops r (group_ran s q env (kn + 1) k v) (laid q) (body_ran M f.level.body env q) (group_law h.1.0 t f.level q env (kn + 1) k h.1.2 f.guards) ∙ ap (then_poured (unnamed (laid q))) (body (laid q).next) in
         let rest = pours_places ds z env (acc ++ place_in acc d) h.0 (kn + length (place_in acc d)) l (placed q).next long h.2 g.1 in
         ap (λ us. means (places_ran M s env kn k us)) (numbered_step ns h.0 h.1.0 f.level h.1.1 f.is_there)
         ∙ joined levels tops r one (placed q) (λ j. places_ran M s env (after_place kn f.level) j vs) first
@@ -375,12 +374,12 @@ module _ (c : CodeParts) (levels : List LevelTerm) (tops : Naming) (M : Making) 
       let block = λ (j : ℕ) (k : ℕ). then_ran (births_ran k (place_births s j vs)) (then_ran (group_ran s l [] 1 k first) (places_ran M s [] j (k + f.level.guards) vs)) in
       let opened = λ (j : ℕ) (k : ℕ). then_ran (block j k) (M site.body [] l (block j k).next) in
       let given_names : means (births_ran (1 + length ns) (place_births s (1 + length bs) vs)) ≡ unnamed (names_made n (births_of r m ds)) =
-          (λ i. record { next = next i; births = places_births m [] bs ds o.places (1 + length bs) o.places_are named i; rules = []; atoms = []; outs = [] }) in
+      (λ i. record { next = next i; births = places_births m [] bs ds o.places (1 + length bs) o.places_are named i; rules = []; atoms = []; outs = [] }) in
       let lays : means (laid n.next) ≡ unnamed placed =
-          joined levels tops r (group_ran s l [] 1 n.next first) a (λ k. places_ran M s [] (1 + length bs) k vs) (group_law o.own (level_term [] [] ds None) f.level l [] 1 n.next o.own_is f.guards)
-          ∙ ap (then_poured (unnamed a)) (pours_places ds [] [] bs o.places (1 + length bs) l a.next refl o.places_are named) in
+      joined levels tops r (group_ran s l [] 1 n.next first) a (λ k. places_ran M s [] (1 + length bs) k vs) (group_law o.own (level_term [] [] ds None) f.level l [] 1 n.next o.own_is f.guards)
+      ∙ ap (then_poured (unnamed a)) (pours_places ds [] [] bs o.places (1 + length bs) l a.next refl o.places_are named) in
       let all : means (block (1 + length bs) (1 + length ns)) ≡ unnamed b =
-          joined levels tops r (births_ran (1 + length ns) (place_births s (1 + length bs) vs)) (names_made n (births_of r m ds)) laid given_names ∙ ap (then_poured (unnamed (names_made n (births_of r m ds)))) lays in
+      joined levels tops r (births_ran (1 + length ns) (place_births s (1 + length bs) vs)) (names_made n (births_of r m ds)) laid given_names ∙ ap (then_poured (unnamed (names_made n (births_of r m ds)))) lays in
       ap (λ q. means (site_block_ran c M s site.body q)) h.is_there
       ∙ ap (λ us. means (site_levels_ran M s site.body us)) (numbered_step h.block.levels o.places o.own f.level o.levels_are f.is_there)
       ∙ (λ i. means (opened (kn i) (1 + length (channel_names s l 1 f.level.counts ++ place_names s (kn i) vs))))

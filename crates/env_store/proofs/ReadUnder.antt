@@ -23,9 +23,9 @@ module _ (c : CodeParts) (levels : List LevelTerm) (tops : Naming) where
           h.0,
           record { number = h.1.number; block = h.1.block; is_there = h.1.is_there; many = h.1.reads.names; enters = h.1.enters },
           λ ns f.
-            let long : length (env ++ ns) ≡ length (y ++ order ds) = omega (arith, length-append env ns, length-append y (order ds)) in
-            let same : tops ++ given (y ++ order ds) (env ++ ns) ≡ (tops ++ given y env) ++ given (order ds) ns = ap (λ m. tops ++ m) (given-append y (order ds) env ns e) ∙ sym (append_assoc tops (given y env) (given (order ds) ns)) in
-            subst (λ m. Under c m (env ++ ns) p h.0 (leave ∷ rest)) same (reads_under p (y ++ order ds) (env ++ ns) h.0 (leave ∷ rest) long h.2),
+              let long : length (env ++ ns) ≡ length (y ++ order ds) = omega (arith, length-append env ns, length-append y (order ds)) in
+              let same : tops ++ given (y ++ order ds) (env ++ ns) ≡ (tops ++ given y env) ++ given (order ds) ns = ap (λ m. tops ++ m) (given-append y (order ds) env ns e) ∙ sym (append_assoc tops (given y env) (given (order ds) ns)) in
+              subst (λ m. Under c m (env ++ ns) p h.0 (leave ∷ rest)) same (reads_under p (y ++ order ds) (env ++ ns) h.0 (leave ∷ rest) long h.2),
         )
     reads_under (Go b k) y env is rest e h = record { target = h.target; cont = h.cont; asks = h.asks; target_is = slot_law tops y env e b h.target h.target_is; cont_is = slot_law tops y env e k h.cont h.cont_is }
     reads_under (Fail b k) y env is rest e h = record { target = h.target; cont = h.cont; asks = h.asks; target_is = slot_law tops y env e b h.target h.target_is; cont_is = slot_law tops y env e k h.cont h.cont_is }

@@ -87,7 +87,7 @@ are_on tops g t of (p ∷ ps) [] h many = absurd h
 are_on tops g t of (p ∷ ps) (i ∷ is) h many =
     let b = h.0.0 in
     let on : fill_ref (names_of_group tops t.layout g) p.on ≡ or_binder b (Some (name.Chan g.chans.site (g.chans.k + i) g.loc)) =
-        ap (fill_ref (names_of_group tops t.layout g)) h.0.1 ∙ ap (or_binder b) (of.channels b i h.0.2) in
+    ap (fill_ref (names_of_group tops t.layout g)) h.0.1 ∙ ap (or_binder b) (of.channels b i h.0.2) in
     (on, many.0 b i h.0.1 h.0.2, are_on tops g t of ps is h.1 many.1)
 
 pub reacting_is_pouring : ReactingIsPouring
@@ -113,8 +113,8 @@ reacting_is_pouring p c ok kept is g group i rule e =
       pours = λ args long s r l k.
           let same = params_left m f.ps in
           reacts c levels tops (code_made c s) s r is.levels (code_made_is c s kept.falls) f.guard.body t.layout (params_of f.ps) q g.env args l k f.reads.body of.long (long ∙ ap length same) once
-              ∙ ap (λ seen. unnamed (pour seen s r (given (params_of f.ps) args) l k (fill m q))) is.seen
-              ∙ ap (λ bs. unnamed (pour (counts_of p.seen) s r (given bs args) l k (fill m q))) (sym same);
+          ∙ ap (λ seen. unnamed (pour seen s r (given (params_of f.ps) args) l k (fill m q))) is.seen
+          ∙ ap (λ bs. unnamed (pour (counts_of p.seen) s r (given bs args) l k (fill m q))) (sym same);
       counted = λ args long s l k.
           let env = g.env ++ args in
           let y = t.layout ++ params_of f.ps in

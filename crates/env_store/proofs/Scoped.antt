@@ -195,23 +195,22 @@ module _ (tops : Naming) where
       let long : length (pre ++ mine) ≡ length pre + length mine = length-append pre mine in
       let same' = place_known acc bs b es ok.0 same in
       let front' : (c : ℕ) → is_among (pre ++ mine) c ≡ is_among y c || is_among ((bs ++ b ∷ []) ++ block es) c =
-          (λ c. among-append pre mine c ∙ ap (λ t. t || is_among mine c) (front c) ∙ regroup (is_among y c) (is_among bs c) (is_among mine c)
-            ∙ ap (λ t. is_among y c || (t || is_among mine c)) (sym (same c)) ∙ ap (λ t. is_among y c || t) (sym (among-append acc mine c)) ∙ ap (λ t. is_among y c || t) (same' c)) in
+      (λ c. among-append pre mine c ∙ ap (λ t. t || is_among mine c) (front c) ∙ regroup (is_among y c) (is_among bs c) (is_among mine c)
+      ∙ ap (λ t. is_among y c || (t || is_among mine c)) (sym (same c)) ∙ ap (λ t. is_among y c || t) (sym (among-append acc mine c)) ∙ ap (λ t. is_among y c || t) (same' c)) in
       let rest = places_at ds y z (acc ++ mine) (pre ++ mine) ((bs ++ b ∷ []) ++ block es) (at ∙ sym (append_assoc pre mine (places_order (acc ++ mine) ds))) front' same' fresh.2 ok.1
-          (λ c f. free c (among_right (b ∷ block es) (block ds) c f)) in
+      (λ c f. free c (among_right (b ∷ block es) (block ds) c f)) in
       let inner = new_channels (acc ++ b ∷ []) es in
       let behind_it : z ≡ (pre ++ b ∷ []) ++ (inner ++ places_order (acc ++ mine) ds) = at ∙ sym (append_assoc pre (b ∷ []) (inner ++ places_order (acc ++ mine) ds)) in
       let one_more : length (pre ++ b ∷ []) ≡ length pre + 1 = length-append pre (b ∷ []) in
       -- a channel of the place is one of its block, and none of those before
       let apart : (c : ℕ) → is_among inner c ≡ true → (is_among (pre ++ b ∷ []) c ≡ false) × (name_at tops c ≡ None) =
-          (λ c f.
-            let mine_is : is_among (block es) c ≡ true = ap (λ cs. is_among cs c) (rules_block es ok.0) ∙ new_is_top (acc ++ b ∷ []) es c f in
-            let none_c = free c (among_right (b ∷ []) (block es ++ block ds) c (among_left (block es) (block ds) c mine_is)) in
-            let named_c : is_named tops c ≡ 0 = omega arith in
-            let laid_c : once y c ≡ 0 = omega arith in
-            let old = fresh.1 c mine_is in
-            let parts = none_parts (is_among bs c) (is_among (b ∷ []) c) (sym (among-append bs (b ∷ []) c) ∙ old) in
-            (among-append pre (b ∷ []) c ∙ none_either (is_among pre c) (is_among (b ∷ []) c) (front c ∙ none_either (is_among y c) (is_among bs c) (none_once y c laid_c) parts.0) parts.1, none_named c named_c)) in
+      (λ c f.
+      let mine_is : is_among (block es) c ≡ true = ap (λ cs. is_among cs c) (rules_block es ok.0) ∙ new_is_top (acc ++ b ∷ []) es c f in
+      let none_c = free c (among_right (b ∷ []) (block es ++ block ds) c (among_left (block es) (block ds) c mine_is)) in
+      let named_c : is_named tops c ≡ 0 = omega arith in
+      let laid_c : once y c ≡ 0 = omega arith in
+      let old = fresh.1 c mine_is in
+      let parts = none_parts (is_among bs c) (is_among (b ∷ []) c) (sym (among-append bs (b ∷ []) c) ∙ old) in
+      (among-append pre (b ∷ []) c ∙ none_either (is_among pre c) (is_among (b ∷ []) c) (front c ∙ none_either (is_among y c) (is_among bs c) (none_once y c laid_c) parts.0) parts.1, none_named c named_c)) in
       let own = subst (λ i. ChannelsAt tops z i inner) one_more (channels_at z (pre ++ b ∷ []) inner (places_order (acc ++ mine) ds) behind_it apart) in
       ((here, own), subst (λ i. PlacesAt tops z (acc ++ mine) i ds) long rest)
-

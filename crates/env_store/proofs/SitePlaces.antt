@@ -49,7 +49,7 @@ site_places s m ds is ok agree =
     let top : (b : ℕ) → is_among bs b ≡ is_among (top_channels ds) b = channels_among [] ds in
     let at : PlacesAt [] (order ds) bs (length bs) ds = places_at [] ds [] (order ds) bs bs (top_channels ds) refl top top (block_fresh ds is ok) ok (λ b e. refl) in
     named_again s m (naming s l ds 1).names ds bs (1 + length bs) ok agree
-        (subst (λ (d : Drawn). PlacesNamed s d.names bs (1 + length bs) ds) (sym (order_is s l 1 ds)) (places_named [] s (order ds) ns (order_long s l 1 ds) ds bs (length bs) (1 + length bs) (channel_names s l 1 bs) at refl (channels_long s l 1 bs)))
+    (subst (λ (d : Drawn). PlacesNamed s d.names bs (1 + length bs) ds) (sym (order_is s l 1 ds)) (places_named [] s (order ds) ns (order_long s l 1 ds) ds bs (length bs) (1 + length bs) (channel_names s l 1 bs) at refl (channels_long s l 1 bs)))
 
 -- and so have its channels
 pub site_channels : (s : ℕ) (m : Naming) (ds : Definitions) → AreRulesAndPlaces ds → Agree (block ds) m (naming s (loc_at s 0) ds 1).names → ChannelsNamed s m (loc_at s 0) 1 (new_channels [] ds)
@@ -80,13 +80,13 @@ site_levels (t ∷ ts) i m h g same zero u e =
     let is : t ≡ u = cc in
     let zero_more : i ≡ i + 0 = omega arith in
     let agree : Agree (block ds) m (naming i (loc_at i 0) ds 1).names =
-        (λ b f. same b (among_right (t.name ∷ []) (block ds ++ block (places ts)) b (among_left (block ds) (block (places ts)) b f)) ∙ here naming_is i t ts h g.0 b f) in
+    (λ b f. same b (among_right (t.name ∷ []) (block ds ++ block (places ts)) b (among_left (block ds) (block (places ts)) b f)) ∙ here naming_is i t ts h g.0 b f) in
     subst (λ k. SiteLevel m k u) zero_more (subst (SiteLevel m i) is (site_places i m ds (own_block None t.name ds t.body (places ts) h) g.0 agree, site_channels i m ds g.0 agree))
 site_levels (t ∷ ts) i m h g same (suc j) u e =
     let ds = definitions t.defs in
     let next : (i + 1) + j ≡ i + suc j = omega arith in
     let agree : Agree (block (places ts)) m (rest_names (i + 1) ts) =
-        (λ b f. same b (among_right (t.name ∷ []) (block ds ++ block (places ts)) b (among_right (block ds) (block (places ts)) b f)) ∙ later naming_is i t ts h g.0 b f) in
+    (λ b f. same b (among_right (t.name ∷ []) (block ds ++ block (places ts)) b (among_right (block ds) (block (places ts)) b f)) ∙ later naming_is i t ts h g.0 b f) in
     subst (λ k. SiteLevel m k u) next (site_levels ts (i + 1) m (other_block None (Place (Binder t.name) ds t.body) (places ts) h) g.1 agree j u e)
 
 -- among the site-level names each site's places and channels have those that the naming of its level gives

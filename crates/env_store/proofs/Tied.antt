@@ -35,7 +35,7 @@ running_is_pouring p c ok kept is y q j body = record {
     pours s r l env k e =
         let tops = site_names p.sites in
         body_pours c (levels_of_program p) tops (code_made c s) s r is.levels (code_made_is c s kept.falls) j y q env l k body e
-            ∙ ap (λ seen. unnamed (pour seen s r (tops ++ given y env) l k q)) is.seen
+        ∙ ap (λ seen. unnamed (pour seen s r (tops ++ given y env) l k q)) is.seen
 
 pub reads_under_each : ReadsUnderEach
 reads_under_each p c is y q j body env e = record {
@@ -49,7 +49,7 @@ opening_is_pouring p c ok kept is i t site e f =
     let tops = site_names p.sites in
     let ds = definitions t.defs in
     site_pours c (levels_of_program p) tops (code_made c i) i (root_of i) is.levels (code_made_is c i kept.falls) ds t.body site (site_read p c is i t site e f) (program_sites p ok i t e).0
-        ∙ ap (λ seen. unnamed (opened seen tops i t)) is.seen
+    ∙ ap (λ seen. unnamed (opened seen tops i t)) is.seen
   where
     opened : List ℕ → Naming → ℕ → SiteTerm → Made
     opened seen m i t =
@@ -77,4 +77,4 @@ pub openings_lay_groups : OpeningsLayGroups
 openings_lay_groups p c ok kept is i t site e f =
     let named = program_sites p ok i t e in
     laid p i 1 (site_made c i site)
-        (site_groups c (levels_of_program p) (site_names p.sites) (code_made c i) i (root_of i) is.levels (code_made_is c i kept.falls) (definitions t.defs) t.body site (site_read p c is i t site e f) named.0 named.1)
+    (site_groups c (levels_of_program p) (site_names p.sites) (code_made c i) i (root_of i) is.levels (code_made_is c i kept.falls) (definitions t.defs) t.body site (site_read p c is i t site e f) named.0 named.1)

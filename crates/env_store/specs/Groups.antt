@@ -122,10 +122,10 @@ module _ (levels : List LevelTerm) where
   pub record AreApart (g h : GroupInst) : Type 0 where
     pub rules :
         NoneShared g.rules.site g.rules.k (rule_count (slice_get levels g.level))
-            h.rules.site h.rules.k (rule_count (slice_get levels h.level))
+        h.rules.site h.rules.k (rule_count (slice_get levels h.level))
     pub chans :
         NoneShared g.chans.site g.chans.k (channel_count (slice_get levels g.level))
-            h.chans.site h.chans.k (channel_count (slice_get levels h.level))
+        h.chans.site h.chans.k (channel_count (slice_get levels h.level))
 
   -- no two of them have
   abbrev pub AllApart : List GroupInst → Type 0

@@ -73,7 +73,7 @@ pub record RunIsPour (p : ProgramTerms) (c : CodeParts) (y : List ℕ) (q : Proc
   pub pours :
       (s : ℕ) (r l : Loc) (env : List Name) (k : ℕ) → length env ≡ length y
       → as_poured_in p r (code_made c s j env l k)
-        ≡ unnamed (pour (counts_of p.seen) s r (all_names p y env) l k q)
+      ≡ unnamed (pour (counts_of p.seen) s r (all_names p y env) l k q)
   pub counted :
       (s : ℕ) (l : Loc) (env : List Name) (k : ℕ) → length env ≡ length y
       → IsCounted (births_in q) (sends_in q) (code_made c s j env l k)
@@ -113,7 +113,7 @@ pub record RunIsReaction (p : ProgramTerms) (c : CodeParts) (g : GroupInst) (i :
       (args : List Name) → length args ≡ length (params_of rule.pats)
       → (s : ℕ) (r l : Loc) (k : ℕ)
       → as_poured_in p r (code_made c s guard.body (g.env ++ args) l k)
-        ≡ unnamed (pour (counts_of p.seen) s r (given (params_of rule.pats) args) l k rule.body)
+      ≡ unnamed (pour (counts_of p.seen) s r (given (params_of rule.pats) args) l k rule.body)
   -- and as many locations and messages as the guard counts
   pub counted :
       (args : List Name) → length args ≡ length (params_of rule.pats)

@@ -219,8 +219,8 @@ module _ (c : CodeParts) (levels : List LevelTerm) (tops : Naming) where
   ReadsSites i [] = Unit {0}
   ReadsSites i (t ∷ ts) =
       ((site : SiteCode)
-        × (slice_get c.sites i ≡ Some site)
-        × ReadsSite (term.definitions t.defs) t.body site)
+      × (slice_get c.sites i ≡ Some site)
+      × ReadsSite (term.definitions t.defs) t.body site)
       × ReadsSites (i + 1) ts
 
 -- ---- code as a whole

@@ -153,7 +153,7 @@ block_laid M s env l k n v vs =
     let kn = k + length v.level.counts in
     let a = group_ran s l env k n v in
     then_ran (births_ran n (place_births s kn vs))
-        (then_ran a (places_ran M s env kn a.next vs))
+    (then_ran a (places_ran M s env kn a.next vs))
 
 -- ---- entering a block
 

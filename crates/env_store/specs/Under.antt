@@ -52,7 +52,7 @@ module _ (c : CodeParts) where
         (inner : List Instr)
         × EntersBlock c n is inner
         × ((ns : List Name) → length ns ≡ n
-            → Under (m ++ given (order ds) ns) (env ++ ns) p inner (instr.Leave n ∷ rest))
+        → Under (m ++ given (order ds) ns) (env ++ ns) p inner (instr.Leave n ∷ rest))
     Under m env (Go b k) is rest = RequestUnder m env (λ u v. instr.Go u v) b k is rest
     Under m env (Fail b k) is rest = RequestUnder m env (λ u v. instr.Fail u v) b k is rest
     Under m env Halt is rest = is ≡ instr.Halt ∷ rest

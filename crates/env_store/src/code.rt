@@ -282,23 +282,23 @@ impl Model for Code {
     ghost coded = { code_stored };
 
     ghost view = { λ c. record {
-        guards = c.guards;
-        levels = c.levels;
-        blocks = c.blocks;
-        bodies = c.bodies;
-        seen = c.seen;
-        tops = c.tops;
-        sites = c.sites;
+      guards = c.guards;
+      levels = c.levels;
+      blocks = c.blocks;
+      bodies = c.bodies;
+      seen = c.seen;
+      tops = c.tops;
+      sites = c.sites;
     } };
 
     ghost invariant = { λ c. IsCode (record {
-        guards = c.guards;
-        levels = c.levels;
-        blocks = c.blocks;
-        bodies = c.bodies;
-        seen = c.seen;
-        tops = c.tops;
-        sites = c.sites;
+      guards = c.guards;
+      levels = c.levels;
+      blocks = c.blocks;
+      bodies = c.bodies;
+      seen = c.seen;
+      tops = c.tops;
+      sites = c.sites;
     }) };
 }
 
