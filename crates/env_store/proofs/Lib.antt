@@ -15,6 +15,7 @@ pub mod Scoped
 pub mod SitePlaces
 pub mod ReadSites
 pub mod Counted
+pub mod Environments
 pub mod LevelTerms
 pub mod RuleGuards
 pub mod Tied

@@ -169,14 +169,14 @@ pub record IsBlockAt (c : CodeParts) (b : ℕ) (block : Block) : Type 0 where
 
 -- ---- sites
 
--- a site: the levels of its block and its process have the empty environment, and its opening draws
--- at most 1,048,576 numbers, its root's among them
-pub record IsSiteCode (c : CodeParts) (site : SiteCode) : Type 0 where
+-- the site with the number i: the levels of its block and its process have the empty environment,
+-- and its opening draws at most 1,048,576 numbers, its root's among them
+pub record IsSiteCode (c : CodeParts) (i : ℕ) (site : SiteCode) : Type 0 where
   pub block : Block
   pub is_there : slice_get c.blocks site.block ≡ Some block
   pub levels : Each (IsLevelAt c 0) block.levels
   pub body : IsBodyAt c 0 site.body
-  pub draws : (s : ℕ) → (site_made c s site).next ≤ 1048576
+  pub draws : (site_made c i site).next ≤ 1048576
 
 -- ---- code as a whole: each member of its lists
 
@@ -184,5 +184,5 @@ pub record IsCode (c : CodeParts) : Type 0 where
   pub guards : (j : ℕ) (g : Guard) → slice_get c.guards j ≡ Some g → IsGuardAt c j g
   pub levels : (n : ℕ) (v : Level) → slice_get c.levels n ≡ Some v → IsLevel c n v
   pub blocks : (b : ℕ) (block : Block) → slice_get c.blocks b ≡ Some block → IsBlockAt c b block
-  pub sites : (i : ℕ) (site : SiteCode) → slice_get c.sites i ≡ Some site → IsSiteCode c site
+  pub sites : (i : ℕ) (site : SiteCode) → slice_get c.sites i ≡ Some site → IsSiteCode c i site
   pub falls : BodiesFall c
