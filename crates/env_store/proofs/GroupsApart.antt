@@ -15,8 +15,11 @@ use Rattle.chem_model.specs.Pour.{known, is_count, out_made, atom_made, message_
 use Rattle.chem_laws.proofs.Lists.{Each-append, Each-weaker}
 use Rattle.env_store.specs.declared.code.Level.{Level}
 use Rattle.wire_packet.specs.declared.packet.GroupInst.{GroupInst}
-use Rattle.env_store.specs.Layout.{LevelTerm, rules_in}
+use Rattle.env_store.specs.Layout.{LevelTerm, levels_of_program, rules_in}
 use Rattle.env_store.specs.Running.{Ran, then_ran, nothing_ran, atom_ran, births_ran, group_ran}
+use Rattle.chem_model.specs.ProgramFacts.{ProgramTerms}
+use Rattle.chem_model.specs.Opening.{site_names}
+use Rattle.env_store.specs.Laws.{LaysGroups}
 use Rattle.env_store.specs.Groups.{ChannelsNamed, IsGroupOf, IsGroup, IsNumbered, rule_count, channel_count, AreFrom, NoneShared, AreApart, AllApart}
 
 -- ---- ranges of numbers
@@ -187,3 +190,13 @@ module _ (levels : List LevelTerm) (tops : Naming) (s : ℕ) where
       go : ChansFrom k k g ⊎ ChansFrom k n g → ChansFrom k n g
       go (inl f) = from_within s k k k n g.chans.site g.chans.k (channel_count (slice_get levels g.level)) (omega arith) up f
       go (inr f) = f
+
+-- what a run of a program's code lays
+pub lays_groups : (p : ProgramTerms) (s k : ℕ) (a : Ran) → LaysFrom (levels_of_program p) (site_names p.sites) s k a → LaysGroups p s k a
+lays_groups p s k a h =
+    let levels = levels_of_program p in
+    let tops = site_names p.sites in record {
+      groups = Each-weaker (Within levels tops s k k k a.next) (IsGroup levels tops) (λ g x. x.is) a.groups h.all;
+      numbered = Each-weaker (Within levels tops s k k k a.next) (IsNumbered levels s k a.next) (own_numbers levels tops s k a.next h.up) a.groups h.all;
+      apart = h.apart;
+    }

@@ -21,16 +21,18 @@ use Rattle.chem_laws.proofs.Terms.{named_more}
 use Rattle.env_store.specs.declared.code.Guard.{Guard}
 use Rattle.wire_packet.specs.declared.packet.GroupInst.{GroupInst}
 use Rattle.env_store.specs.CodeParts.{CodeParts}
-use Rattle.env_store.specs.Layout.{LevelTerm, levels_of_program}
+use Rattle.env_store.specs.Layout.{LevelTerm, levels_of_program, rules_in}
 use Rattle.env_store.specs.Running.{code_made}
-use Rattle.env_store.specs.Reading.{AreChannels, ReadsGuard, ReadsRules}
+use Rattle.env_store.specs.Reading.{AreChannels, ReadsGuard, ReadsRules, ReadsLevel}
 use Rattle.env_store.specs.Groups.{names_of_group, level_rules, unnamed, IsGroupOf}
-use Rattle.env_store.specs.Laws.{AreOn, RunIsReaction, ReactingIsPouring}
+use Rattle.env_store.specs.Laws.{AreOn, rules_of_group, RunIsReaction, ReactingIsPouring}
 use Rattle.env_store.proofs.Bodies.{code_made_is}
 use Rattle.env_store.proofs.NamingOrder.{given_domain}
 use Rattle.env_store.proofs.Counted.{counted_run}
 use Rattle.env_store.proofs.Pouring.{body_pours}
 use Rattle.env_store.proofs.Reacting.{reacts}
+use Rattle.env_store.proofs.GroupsApart.{lays_groups}
+use Rattle.env_store.proofs.GroupsNamed.{body_groups}
 use Rattle.env_store.proofs.LevelTerms.{HasCount, HaveCounts, program_levels}
 
 abbrev rule_of : ℕ → Naming → Loc → ℕ → List Pat → Process → NumberedRule
@@ -90,37 +92,64 @@ are_on tops g t of (p ∷ ps) (i ∷ is) h many =
     ap (fill_ref (names_of_group tops t.layout g)) h.0.1 ∙ ap (or_binder b) (of.channels b i h.0.2) in
     (on, many.0 b i h.0.1 h.0.2, are_on tops g t of ps is h.1 many.1)
 
+laid_many : (s : ℕ) (m : Naming) (l : Loc) (k : ℕ) (ds : Definitions) → length (lay_rules s m l k ds).rules ≡ rules_in ds
+laid_many s m l k no_definition = refl
+laid_many s m l k (and_also (Rule ps q) ds) = omega (arith, laid_many s m l (k + 1) ds)
+laid_many s m l k (and_also (Place x es q) ds) = laid_many s m l k ds
+
 pub reacting_is_pouring : ReactingIsPouring
-reacting_is_pouring p c ok kept is g group i rule e =
-    let levels = levels_of_program p in
-    let tops = site_names p.sites in
-    let t = group.0 in
-    let of = group.2 in
-    let m = names_of_group tops t.layout g in
-    let reads = is.levels g.level t group.1 in
-    let term = program_levels p ok g.level t group.1 in
-    let f = found c levels tops g.level t g.rules.site m g.loc t.defs g.rules.k reads.level.first i rule reads.rules term.counts (sym (ap (λ o. slice_get (level_rules tops g o) i) group.1) ∙ e) in
-    let q = f.q in
-    let once : (b : ℕ) → is_named m b + bound_in q b ≤ 1 = (λ b. omega (arith, term.free b, f.few b, named_more t.layout tops (given t.layout g.env) b (given_domain t.layout g.env of.long))) in
-    subst (RunIsReaction p c g i) (sym f.is) (record {
-      level = reads.level;
-      level_is = reads.is_there;
-      guard = f.guard;
-      guard_is = f.is_there;
-      id = refl;
-      loc = refl;
-      chans = subst (λ counts. AreOn g counts (fill_pats m f.ps) f.guard.chans) (sym reads.counts) (are_on tops g t of f.ps f.guard.chans f.reads.chans f.counts);
-      pours = λ args long s r l k.
-          let same = params_left m f.ps in
-          reacts c levels tops (code_made c s) s r is.levels (code_made_is c s kept.falls) f.guard.body t.layout (params_of f.ps) q g.env args l k f.reads.body of.long (long ∙ ap length same) once
-          ∙ ap (λ seen. unnamed (pour seen s r (given (params_of f.ps) args) l k (fill m q))) is.seen
-          ∙ ap (λ bs. unnamed (pour (counts_of p.seen) s r (given bs args) l k (fill m q))) (sym same);
-      counted = λ args long s l k.
-          let env = g.env ++ args in
-          let y = t.layout ++ params_of f.ps in
-          let many : length env ≡ length y = omega (arith, length-append g.env args, length-append t.layout (params_of f.ps), of.long, long, ap length (params_left m f.ps)) in
-          let run = body_pours c levels tops (code_made c s) s l is.levels (code_made_is c s kept.falls) f.guard.body y q env l k f.reads.body many in
-          let a = code_made c s f.guard.body env l k in
-          let all = counted_run levels tops l a c.seen s (tops ++ given y env) l k q run in
-          record { births_are = all.births_are ∙ sym f.reads.births; sends_are = all.sends_are ∙ sym f.reads.sends };
-    })
+reacting_is_pouring p c ok kept is g group = record {
+  level = reads.level;
+  level_is = reads.is_there;
+  depth = of.long ∙ sym reads.depth;
+  guards = ap (λ o. length (level_rules tops g o)) group.1 ∙ laid_many g.rules.site m g.loc g.rules.k t.defs ∙ sym reads.guards;
+  rules = rules;
+}
+  where
+    levels : List LevelTerm
+    levels = levels_of_program p
+
+    tops : Naming
+    tops = site_names p.sites
+
+    t : LevelTerm
+    t = group.0
+
+    of : IsGroupOf tops g t
+    of = group.2
+
+    m : Naming
+    m = names_of_group tops t.layout g
+
+    reads : ReadsLevel c levels tops g.level t
+    reads = is.levels g.level t group.1
+
+    rules : (i : ℕ) (rule : NumberedRule) → slice_get (rules_of_group p g) i ≡ Some rule → RunIsReaction p c g reads.level i rule
+    rules i rule e =
+        let term = program_levels p ok g.level t group.1 in
+        let f = found c levels tops g.level t g.rules.site m g.loc t.defs g.rules.k reads.level.first i rule reads.rules term.counts (sym (ap (λ o. slice_get (level_rules tops g o) i) group.1) ∙ e) in
+        let q = f.q in
+        let y = t.layout ++ params_of f.ps in
+        let once : (b : ℕ) → is_named m b + bound_in q b ≤ 1 = (λ b. omega (arith, term.free b, f.few b, named_more t.layout tops (given t.layout g.env) b (given_domain t.layout g.env of.long))) in
+        let same : params_of (fill_pats m f.ps) ≡ params_of f.ps = params_left m f.ps in
+        let many : (args : List Name) → length args ≡ length (params_of (fill_pats m f.ps)) → length (g.env ++ args) ≡ length y =
+            (λ args long. omega (arith, length-append g.env args, length-append t.layout (params_of f.ps), of.long, long, ap length same)) in
+        subst (RunIsReaction p c g reads.level i) (sym f.is) (record {
+          guard = f.guard;
+          guard_is = f.is_there;
+          id = refl;
+          loc = refl;
+          chans = subst (λ counts. AreOn g counts (fill_pats m f.ps) f.guard.chans) (sym reads.counts) (are_on tops g t of f.ps f.guard.chans f.reads.chans f.counts);
+          pours = λ args long s r l k.
+              reacts c levels tops (code_made c s) s r is.levels (code_made_is c s kept.falls) f.guard.body t.layout (params_of f.ps) q g.env args l k f.reads.body of.long (long ∙ ap length same) once
+              ∙ ap (λ seen. unnamed (pour seen s r (given (params_of f.ps) args) l k (fill m q))) is.seen
+              ∙ ap (λ bs. unnamed (pour (counts_of p.seen) s r (given bs args) l k (fill m q))) (sym same);
+          counted = λ args long s l k.
+              let env = g.env ++ args in
+              let run = body_pours c levels tops (code_made c s) s l is.levels (code_made_is c s kept.falls) f.guard.body y q env l k f.reads.body (many args long) in
+              let all = counted_run levels tops l (code_made c s f.guard.body env l k) c.seen s (tops ++ given y env) l k q run in
+              record { births_are = all.births_are ∙ sym f.reads.births; sends_are = all.sends_are ∙ sym f.reads.sends };
+          lays = λ args long s l k.
+              let env = g.env ++ args in
+              lays_groups p s k (code_made c s f.guard.body env l k) (body_groups c levels tops (code_made c s) s l is.levels (code_made_is c s kept.falls) f.guard.body y q env l k f.reads.body (many args long));
+        })

@@ -5,20 +5,18 @@ use Rattle.chem_model.specs.Pour.{naming, births_of, names_made, then_made, pour
 use Rattle.chem_model.specs.declared.numbered.Made.{Made}
 use Rattle.chem_model.specs.declared.program.SiteTerm.{SiteTerm}
 use Rattle.chem_model.specs.Process.{definitions}
-use Rattle.chem_model.specs.ProgramFacts.{ProgramTerms}
 use Rattle.chem_model.specs.Fill.{Naming}
 use Rattle.chem_model.specs.Opening.{root_of, site_names, counts_of}
 use Rattle.env_store.specs.Layout.{levels_of_program}
-use Rattle.env_store.specs.Running.{Ran, code_made, site_made}
-use Rattle.env_store.specs.Groups.{unnamed, IsGroup, IsNumbered}
+use Rattle.env_store.specs.Running.{code_made, site_made}
+use Rattle.env_store.specs.Groups.{unnamed}
 use Rattle.chem_model.specs.declared.name.Loc.{Loc}
 use Rattle.chem_model.specs.declared.name.Name.{Name}
-use Rattle.env_store.specs.Laws.{as_poured_in, all_names, RunningIsPouring, OpeningIsPouring, LaysGroups, RunsLayGroups, OpeningsLayGroups, ReadsUnderEach}
-use Rattle.chem_laws.proofs.Lists.{Each-weaker}
+use Rattle.env_store.specs.Laws.{as_poured_in, all_names, RunningIsPouring, OpeningIsPouring, RunsLayGroups, OpeningsLayGroups, ReadsUnderEach}
 use Rattle.env_store.proofs.Bodies.{code_made_is}
 use Rattle.env_store.proofs.Pouring.{body_pours, site_pours}
 use Rattle.env_store.proofs.Counted.{counted_run}
-use Rattle.env_store.proofs.GroupsApart.{Within, Lays, LaysFrom, own_numbers}
+use Rattle.env_store.proofs.GroupsApart.{lays_groups}
 use Rattle.env_store.proofs.GroupsNamed.{body_groups, site_groups}
 use Rattle.env_store.proofs.SitePlaces.{program_sites}
 use Rattle.env_store.proofs.ReadSites.{site_read}
@@ -59,22 +57,12 @@ opening_is_pouring p c ok kept is i t site e f =
         let b = lay seen i r m r n.next ds in
         then_made (names_made n (births_of r m ds)) (then_made b (pour seen i r m r b.next t.body))
 
--- what runs lay, as the laws say it
-laid : (p : ProgramTerms) (s k : ℕ) (a : Ran) → LaysFrom (levels_of_program p) (site_names p.sites) s k a → LaysGroups p s k a
-laid p s k a h =
-    let levels = levels_of_program p in
-    let tops = site_names p.sites in record {
-      groups = Each-weaker (Within levels tops s k k k a.next) (IsGroup levels tops) (λ g x. x.is) a.groups h.all;
-      numbered = Each-weaker (Within levels tops s k k k a.next) (IsNumbered levels s k a.next) (own_numbers levels tops s k a.next h.up) a.groups h.all;
-      apart = h.apart;
-    }
-
 pub runs_lay_groups : RunsLayGroups
 runs_lay_groups p c ok kept is y q j body s l env k e =
-    laid p s k (code_made c s j env l k) (body_groups c (levels_of_program p) (site_names p.sites) (code_made c s) s l is.levels (code_made_is c s kept.falls) j y q env l k body e)
+    lays_groups p s k (code_made c s j env l k) (body_groups c (levels_of_program p) (site_names p.sites) (code_made c s) s l is.levels (code_made_is c s kept.falls) j y q env l k body e)
 
 pub openings_lay_groups : OpeningsLayGroups
 openings_lay_groups p c ok kept is i t site e f =
     let named = program_sites p ok i t e in
-    laid p i 1 (site_made c i site)
+    lays_groups p i 1 (site_made c i site)
     (site_groups c (levels_of_program p) (site_names p.sites) (code_made c i) i (root_of i) is.levels (code_made_is c i kept.falls) (definitions t.defs) t.body site (site_read p c is i t site e f) named.0 named.1)

@@ -83,6 +83,22 @@ RunningIsPouring =
     (p : ProgramTerms) (c : CodeParts) → IsProgram p → IsCode c → IsCodeOf p c
     → (y : List ℕ) (q : Process) (j : ℕ) → IsBodyOf p c y q j → RunIsPour p c y q j
 
+-- ---- the groups that a run lays
+
+-- each is a group of its level, and their rules and channels have numbers of the site from k on,
+-- which no two of them share
+pub record LaysGroups (p : ProgramTerms) (s k : ℕ) (a : Ran) : Type 0 where
+  pub groups : Each (IsGroupIn p) a.groups
+  pub numbered : Each (IsNumbered (levels_of_program p) s k a.next) a.groups
+  pub apart : AllApart (levels_of_program p) a.groups
+
+abbrev pub RunsLayGroups : Type 0
+RunsLayGroups =
+    (p : ProgramTerms) (c : CodeParts) → IsProgram p → IsCode c → IsCodeOf p c
+    → (y : List ℕ) (q : Process) (j : ℕ) → IsBodyOf p c y q j
+    → (s : ℕ) (l : Loc) (env : List Name) (k : ℕ) → length env ≡ length y
+    → LaysGroups p s k (code_made c s j env l k)
+
 -- ---- React: a group's rule is run by the guard of its place in the level
 
 -- the patterns are on these channels of the group, each with its channel's count
@@ -95,11 +111,12 @@ AreOn g counts (p ∷ ps) (i ∷ is) =
 AreOn g counts [] (i ∷ is) = ⊥
 AreOn g counts (p ∷ ps) [] = ⊥
 
--- the group's rule i and its guard
-pub record RunIsReaction (p : ProgramTerms) (c : CodeParts) (g : GroupInst) (i : ℕ)
+abbrev pub rules_of_group : ProgramTerms → GroupInst → List NumberedRule
+rules_of_group p g = group_rules (levels_of_program p) (site_names p.sites) g
+
+-- the rule i of a group of the level, and its guard
+pub record RunIsReaction (p : ProgramTerms) (c : CodeParts) (g : GroupInst) (level : Level) (i : ℕ)
     (rule : NumberedRule) : Type 0 where
-  pub level : Level
-  pub level_is : slice_get c.levels g.level ≡ Some level
   pub guard : Guard
   pub guard_is : slice_get c.guards (level.first + i) ≡ Some guard
   -- the rule has its number in the group, and stands at the group's location
@@ -114,19 +131,31 @@ pub record RunIsReaction (p : ProgramTerms) (c : CodeParts) (g : GroupInst) (i :
       → (s : ℕ) (r l : Loc) (k : ℕ)
       → as_poured_in p r (code_made c s guard.body (g.env ++ args) l k)
       ≡ unnamed (pour (counts_of p.seen) s r (given (params_of rule.pats) args) l k rule.body)
-  -- and as many locations and messages as the guard counts
+  -- as many locations and messages as the guard counts
   pub counted :
       (args : List Name) → length args ≡ length (params_of rule.pats)
       → (s : ℕ) (l : Loc) (k : ℕ)
       → IsCounted guard.births guard.sends (code_made c s guard.body (g.env ++ args) l k)
+  -- and groups that are apart
+  pub lays :
+      (args : List Name) → length args ≡ length (params_of rule.pats)
+      → (s : ℕ) (l : Loc) (k : ℕ)
+      → LaysGroups p s k (code_made c s guard.body (g.env ++ args) l k)
+
+-- a group has a rule for each guard of its level, and an environment of its level's depth
+pub record GroupReacts (p : ProgramTerms) (c : CodeParts) (g : GroupInst) : Type 0 where
+  pub level : Level
+  pub level_is : slice_get c.levels g.level ≡ Some level
+  pub depth : length g.env ≡ level.depth
+  pub guards : length (rules_of_group p g) ≡ level.guards
+  pub rules :
+      (i : ℕ) (rule : NumberedRule) → slice_get (rules_of_group p g) i ≡ Some rule
+      → RunIsReaction p c g level i rule
 
 abbrev pub ReactingIsPouring : Type 0
 ReactingIsPouring =
     (p : ProgramTerms) (c : CodeParts) → IsProgram p → IsCode c → IsCodeOf p c
-    → (g : GroupInst) → IsGroupIn p g
-    → (i : ℕ) (rule : NumberedRule)
-    → slice_get (group_rules (levels_of_program p) (site_names p.sites) g) i ≡ Some rule
-    → RunIsReaction p c g i rule
+    → (g : GroupInst) → IsGroupIn p g → GroupReacts p c g
 
 -- ---- the opening of a site
 
@@ -149,22 +178,7 @@ OpeningIsPouring =
     → slice_get p.sites i ≡ Some t → slice_get c.sites i ≡ Some site
     → as_poured_in p (root_of i) (site_made c i site) ≡ unnamed (opened_at p i t)
 
--- ---- the groups that a run lays
-
--- each is a group of its level, and their rules and channels have numbers of the site from k on,
--- which no two of them share
-pub record LaysGroups (p : ProgramTerms) (s k : ℕ) (a : Ran) : Type 0 where
-  pub groups : Each (IsGroupIn p) a.groups
-  pub numbered : Each (IsNumbered (levels_of_program p) s k a.next) a.groups
-  pub apart : AllApart (levels_of_program p) a.groups
-
-abbrev pub RunsLayGroups : Type 0
-RunsLayGroups =
-    (p : ProgramTerms) (c : CodeParts) → IsProgram p → IsCode c → IsCodeOf p c
-    → (y : List ℕ) (q : Process) (j : ℕ) → IsBodyOf p c y q j
-    → (s : ℕ) (l : Loc) (env : List Name) (k : ℕ) → length env ≡ length y
-    → LaysGroups p s k (code_made c s j env l k)
-
+-- and its groups
 abbrev pub OpeningsLayGroups : Type 0
 OpeningsLayGroups =
     (p : ProgramTerms) (c : CodeParts) → IsProgram p → IsCode c → IsCodeOf p c
