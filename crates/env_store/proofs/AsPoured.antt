@@ -1,22 +1,18 @@
 -- What running makes, with groups as rules, joins as what pouring makes.
-use Rattle.std.proofs.Common.{◌≡◌, ℕ, zero, suc, ◌+◌, List, [], ◌∷◌, ◌++◌, ◌==◌, length, Option, Some, None, Bool, true, false, cond, refl, sym, ap, ◌∙◌, arith, append_assoc}
+use Rattle.std.proofs.Common.{◌≡◌, ℕ, List, [], ◌∷◌, ◌++◌, length, Some, Bool, true, false, cond, refl, sym, ap, ◌∙◌, append_assoc}
 use Rattle.std.specs.Prelude.{slice_get}
 use Rattle.chem_model.specs.declared.name.Loc.{Loc}
-use Rattle.chem_model.specs.declared.name.Name.{Name}
 use Rattle.chem_model.specs.declared.name.Name.TheVariants as name
 use Rattle.chem_model.specs.declared.name.Ref.{Ref}
 use Rattle.chem_model.specs.declared.name.Ref.TheVariants.{Binder, Known}
 use Rattle.chem_model.specs.declared.numbered.Made.{Made}
-use Rattle.chem_model.specs.Process.{Process, Msg, Rule, Place, Definitions, no_definition, and_also}
+use Rattle.chem_model.specs.Process.{Msg}
 use Rattle.chem_model.specs.Fill.{Naming}
-use Rattle.chem_model.specs.Reduction.{given}
-use Rattle.chem_model.specs.Pour.{message_made, known, is_count, out_made, atom_made, lay_rules, rules_made}
+use Rattle.chem_model.specs.Pour.{message_made, known, is_count, out_made, atom_made}
 use Rattle.wire_packet.specs.declared.packet.GroupInst.{GroupInst}
 use Rattle.env_store.specs.Layout.{LevelTerm}
-use Rattle.env_store.specs.Running.{Ran, then_ran, atom_ran, NumberedLevel, group_ran}
-use Rattle.env_store.specs.Groups.{level_rules, group_rules, groups_rules, Poured, unnamed, hosted, as_poured}
-use Rattle.env_store.specs.Layout.{rules_in}
-use Rattle.chem_laws.proofs.Lists.{append_nil}
+use Rattle.env_store.specs.Running.{Ran, then_ran, atom_ran}
+use Rattle.env_store.specs.Groups.{group_rules, groups_rules, Poured, unnamed, hosted, as_poured}
 
 -- what is poured first, and then second
 abbrev pub then_poured : Poured → Poured → Poured

@@ -1,5 +1,5 @@
 -- What a body makes, where the bodies of the places that it opens have smaller numbers.
-use Rattle.std.proofs.Common.{◌≡◌, ℕ, zero, suc, ◌+◌, ◌<◌, ◌≤◌, List, [], ◌∷◌, ◌++◌, ◌==◌, length, Option, Some, None, Bool, true, false, cond, refl, sym, ap, ◌∙◌, arith, eq-eqb, eqb-true}
+use Rattle.std.proofs.Common.{◌≡◌, ℕ, zero, suc, ◌+◌, ◌<◌, List, [], ◌∷◌, ◌++◌, ◌==◌, length, Option, Some, None, Bool, true, false, cond, refl, sym, ap, ◌∙◌, arith, eq-eqb, eqb-true}
 use Rattle.std.specs.Prelude.{slice_get}
 use Rattle.std.proofs.lemmas.Option.{slice_get_within}
 use Rattle.chem_model.specs.declared.name.Loc.{Loc}
@@ -8,10 +8,9 @@ use Rattle.chem_model.specs.Process as term
 use Rattle.chem_model.specs.Pour.{message_made, atom_made}
 use Rattle.env_store.specs.declared.code.Instr.{Instr}
 use Rattle.env_store.specs.declared.code.Instr.TheVariants.{Send, Enter, Leave, Go, Fail, Halt}
-use Rattle.env_store.specs.declared.code.Level.{Level}
 use Rattle.env_store.specs.declared.code.Block.{Block}
 use Rattle.env_store.specs.CodeParts.{CodeParts}
-use Rattle.env_store.specs.Running.{ref_at, refs_at, Ran, atom_ran, then_ran, nothing_ran, births_ran, group_ran, NumberedLevel, numbered_levels, loc_at, channel_names, place_names, place_births, after_place, Making, body_ran, places_ran, levels_entered, block_entered, Entered, run, run_body, made_below, code_made, without_last}
+use Rattle.env_store.specs.Running.{ref_at, refs_at, Ran, atom_ran, then_ran, births_ran, group_ran, NumberedLevel, numbered_levels, loc_at, channel_names, place_names, place_births, after_place, Making, body_ran, places_ran, levels_entered, block_entered, run, run_body, made_below, code_made, without_last}
 use Rattle.env_store.specs.CodeFacts.{IsBelow, AreBelow, IsBlockBelow, Falls, BodiesFall}
 
 module _ (c : CodeParts) (s : ℕ) where

@@ -7,13 +7,13 @@ use Rattle.chem_model.specs.declared.name.Ref.{Ref}
 use Rattle.chem_model.specs.declared.name.Ref.TheVariants.{Binder, Known}
 use Rattle.chem_model.specs.declared.numbered.NumberedAtom.{NumberedAtom}
 use Rattle.chem_model.specs.declared.numbered.Made.{Made}
-use Rattle.chem_model.specs.Process.{Process, Msg, Par, Def, Go, Fail, Halt, Processes, none, one_more, Definition, Rule, Place, Definitions, no_definition, and_also}
+use Rattle.chem_model.specs.Process.{Process, Msg, Par, Def, Go, Fail, Halt, Processes, none, one_more, Rule, Place, Definitions, no_definition, and_also}
 use Rattle.chem_model.specs.Fill.{Naming, fill_ref, fill_refs}
 use Rattle.chem_model.specs.Pour.{known, is_count, out_made, atom_made, message_made, naming, births_of, loc_or, lay_rules, rules_made, then_made, pour, pour_all, lay_places}
 use Rattle.env_store.specs.Layout.{births_in, births_in_all, births_in_defs, sends_in, sends_in_all, sends_in_defs, LevelTerm}
 use Rattle.env_store.specs.Running.{Ran}
 use Rattle.env_store.specs.Groups.{hosted, unnamed, Poured, as_poured}
-use Rattle.env_store.specs.Laws.{message_of, messages_in, IsCounted}
+use Rattle.env_store.specs.Laws.{messages_in, IsCounted}
 
 messages-append : (xs ys : List NumberedAtom) → messages_in (xs ++ ys) ≡ messages_in xs + messages_in ys
 messages-append [] ys = omega arith

@@ -1,5 +1,5 @@
 -- The length of the environment at each instruction of a body that fits: what whoever runs code needs to look up its slots.
-use Rattle.std.proofs.Common.{◌≡◌, ℕ, ◌+◌, ◌-◌, ◌≤◌, List, [], ◌∷◌, ◌++◌, length, take, Some, refl, sym, ap, ◌∙◌, arith, length-append}
+use Rattle.std.proofs.Common.{◌≡◌, ℕ, ◌+◌, List, [], ◌∷◌, length, Some, refl, sym, ◌∙◌, arith, length-append}
 use Rattle.chem_model.specs.declared.name.Loc.{Loc}
 use Rattle.chem_model.specs.declared.name.Name.{Name}
 use Rattle.env_store.specs.declared.code.Slot.{Slot}
@@ -7,7 +7,7 @@ use Rattle.env_store.specs.declared.code.Slot.TheVariants.{Env, Known}
 use Rattle.env_store.specs.declared.code.Block.{Block}
 use Rattle.env_store.specs.CodeParts.{CodeParts}
 use Rattle.env_store.specs.CodeFacts.{IsInEnv, IsSlotAt, place_names_made, names_made, IsBlockAt}
-use Rattle.env_store.specs.Running.{NumberedLevel, numbered_levels, loc_at, channel_names, place_names, after_place, block_names, Making, block_entered, levels_entered}
+use Rattle.env_store.specs.Running.{NumberedLevel, numbered_levels, loc_at, channel_names, place_names, after_place, Making, block_entered, levels_entered}
 use Rattle.env_store.proofs.NamingOrder.{channels_long}
 
 -- a slot of a body may be looked up

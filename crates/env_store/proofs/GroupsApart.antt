@@ -1,5 +1,5 @@
 -- What runs lay, one after another: groups whose rules and channels have numbers from one on below another.
-use Rattle.std.proofs.Common.{◌≡◌, ℕ, ◌+◌, ◌≤◌, List, [], ◌∷◌, ◌++◌, ◌==◌, length, Some, Bool, true, false, cond, refl, sym, ap, arith, ◌⊎◌, inl, inr}
+use Rattle.std.proofs.Common.{◌≡◌, ℕ, ◌+◌, ◌≤◌, List, [], ◌∷◌, ◌++◌, ◌==◌, length, Some, Bool, true, false, cond, refl, ap, arith, ◌⊎◌, inl, inr}
 use Rattle.std.specs.Prelude.{slice_get}
 use Rattle.chem_model.specs.declared.name.Loc.{Loc}
 use Rattle.chem_model.specs.declared.name.Name.{Name}
@@ -7,7 +7,7 @@ use Rattle.chem_model.specs.declared.name.Name.TheVariants as name
 use Rattle.chem_model.specs.declared.name.Ref.{Ref}
 use Rattle.chem_model.specs.declared.name.Ref.TheVariants.{Binder, Known}
 use Rattle.chem_model.specs.declared.numbered.Made.{Made}
-use Rattle.chem_model.specs.Process.{Process, Msg}
+use Rattle.chem_model.specs.Process.{Msg}
 use Rattle.chem_model.specs.Each.{Each}
 use Rattle.chem_model.specs.Fill.{Naming}
 use Rattle.chem_model.specs.Reduction.{given}
@@ -20,7 +20,7 @@ use Rattle.env_store.specs.Running.{Ran, then_ran, nothing_ran, atom_ran, births
 use Rattle.chem_model.specs.ProgramFacts.{ProgramTerms}
 use Rattle.chem_model.specs.Opening.{site_names}
 use Rattle.env_store.specs.Laws.{LaysGroups}
-use Rattle.env_store.specs.Groups.{ChannelsNamed, IsGroupOf, IsGroup, IsNumbered, rule_count, channel_count, AreFrom, NoneShared, AreApart, AllApart}
+use Rattle.env_store.specs.Groups.{ChannelsNamed, IsGroup, IsNumbered, rule_count, channel_count, AreFrom, NoneShared, AreApart, AllApart}
 
 -- ---- ranges of numbers
 

@@ -12,11 +12,10 @@ use Rattle.chem_model.specs.Pour.{message_made, atom_made}
 use Rattle.chem_laws.proofs.Lists.{append_nil}
 use Rattle.env_store.specs.declared.code.Instr.{Instr}
 use Rattle.env_store.specs.declared.code.Instr.TheVariants as instr
-use Rattle.env_store.specs.declared.code.Level.{Level}
 use Rattle.env_store.specs.declared.code.SiteCode.{SiteCode}
-use Rattle.env_store.specs.Layout.{new_channels, place_in, places_order, order, rules_in, LevelTerm, level_term}
+use Rattle.env_store.specs.Layout.{new_channels, place_in, places_order, order, LevelTerm, level_term}
 use Rattle.env_store.specs.CodeParts.{CodeParts}
-use Rattle.env_store.specs.Running.{ref_at, refs_at, Ran, then_ran, nothing_ran, atom_ran, births_ran, NumberedLevel, numbered_levels, loc_at, channel_names, place_names, place_births, block_names, block_laid, after_place, group_ran, Making, body_ran, places_ran, site_levels_ran, site_block_ran, site_ran, Entered, without_last, run}
+use Rattle.env_store.specs.Running.{ref_at, refs_at, Ran, then_ran, atom_ran, births_ran, NumberedLevel, numbered_levels, loc_at, channel_names, place_births, block_names, after_place, group_ran, Making, body_ran, places_ran, site_levels_ran, site_block_ran, site_ran, Entered, run}
 use Rattle.env_store.specs.Reading.{ReadsPlaces, Reads, ReadsAll, ReadsBody, ReadsLevel, ReadsSite}
 use Rattle.env_store.specs.Groups.{ChannelsNamed}
 use Rattle.env_store.proofs.NamingOrder.{names_of_places, order_names, order_long, channels_long}

@@ -6,9 +6,9 @@ use Rattle.chem_model.specs.declared.name.Ref.{Ref}
 use Rattle.chem_model.specs.declared.name.Ref.TheVariants.{Binder, Known}
 use Rattle.chem_model.specs.declared.name.Pat.{Pat}
 use Rattle.chem_model.specs.declared.program.SiteTerm.{SiteTerm}
-use Rattle.chem_model.specs.Process.{Process, Msg, Par, Def, Go, Fail, Halt, Processes, none, one_more, Definition, Rule, Place, Definitions, no_definition, and_also, definitions}
-use Rattle.chem_model.specs.Binders.{at, patterns_of, params_of, block, binder_of, is_among, once, bound_in, bound_in_all, bound_in_definition, bound_in_definitions}
-use Rattle.chem_model.specs.Scope.{Agree, IsBlock, AreRulesAndPlaces, IsTerm, AreTerms, IsDefinition, AreDefinitions}
+use Rattle.chem_model.specs.Process.{Process, Msg, Par, Def, Go, Fail, Halt, Processes, none, one_more, Rule, Place, Definitions, no_definition, and_also, definitions}
+use Rattle.chem_model.specs.Binders.{at, patterns_of, params_of, block, binder_of, is_among, once, bound_in, bound_in_all, bound_in_definitions}
+use Rattle.chem_model.specs.Scope.{Agree, IsTerm, AreTerms, AreDefinitions}
 use Rattle.chem_model.specs.Each.{Each}
 use Rattle.chem_model.specs.ProgramFacts.{ProgramTerms, IsProgram, IsDeclared, places}
 use Rattle.chem_model.specs.Fill.{Naming, name_at}
@@ -19,7 +19,7 @@ use Rattle.chem_laws.proofs.Naming.{naming_is}
 use Rattle.chem_laws.proofs.NamingLevels.{IsIn, in_left, in_right, all_in}
 use Rattle.chem_laws.proofs.OpeningBlocks.{IsBlockAt, of_block, own_block, other_block}
 use Rattle.chem_laws.proofs.OpeningNames.{HasLevel, rest_found}
-use Rattle.env_store.specs.Layout.{new_ref, new_in, new_channels, count_ref, counts_in, new_counts, place_in, place_order, order, LevelTerm, level_term, levels_of, levels_of_all, levels_of_defs, levels_of_def, levels_of_site, levels_of_sites, levels_of_program}
+use Rattle.env_store.specs.Layout.{new_ref, new_in, new_channels, count_ref, counts_in, new_counts, place_order, order, LevelTerm, level_term, levels_of, levels_of_all, levels_of_defs, levels_of_def, levels_of_site, levels_of_sites, levels_of_program}
 use Rattle.env_store.specs.Reading.{position_from, position}
 use Rattle.env_store.proofs.Scoped.{once_least, once-append, order_among}
 

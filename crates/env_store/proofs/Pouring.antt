@@ -1,5 +1,5 @@
 -- Running instructions that read as a process, under an environment, makes what pouring the process makes.
-use Rattle.std.proofs.Common.{◌≡◌, ℕ, zero, suc, ◌+◌, ◌-◌, List, [], ◌∷◌, ◌++◌, ◌==◌, length, take, Option, Some, None, Bool, true, false, cond, refl, sym, ap, ◌∙◌, subst, arith, append_assoc, length-append, eqb-true}
+use Rattle.std.proofs.Common.{◌≡◌, ℕ, ◌+◌, ◌-◌, List, [], ◌∷◌, ◌++◌, ◌==◌, length, take, Some, None, Bool, true, false, cond, refl, sym, ap, ◌∙◌, subst, arith, append_assoc, length-append, eqb-true}
 use Rattle.std.specs.Prelude.{slice_get}
 use Rattle.chem_model.specs.declared.name.Loc.{Loc}
 use Rattle.chem_model.specs.declared.name.Name.{Name}
@@ -8,33 +8,28 @@ use Rattle.chem_model.specs.declared.name.Ref.{Ref}
 use Rattle.chem_model.specs.declared.name.Ref.TheVariants.{Binder, Known}
 use Rattle.chem_model.specs.declared.name.Pat.{Pat}
 use Rattle.chem_model.specs.declared.numbered.Made.{Made}
-use Rattle.chem_model.specs.declared.numbered.Placed.{Placed}
-use Rattle.chem_model.specs.declared.numbered.NumberedRule.{NumberedRule}
-use Rattle.chem_model.specs.Process.{Process, Msg, Par, Def, Go, Fail, Halt, Processes, none, one_more, Definition, Rule, Place, Definitions, no_definition, and_also}
-use Rattle.chem_model.specs.Binders.{binder_of, is_among}
-use Rattle.chem_model.specs.Scope.{IsBinder}
-use Rattle.chem_model.specs.Fill.{Naming, or_binder, fill_ref, fill_refs}
+use Rattle.chem_model.specs.Process.{Process, Msg, Par, Def, Go, Fail, Halt, Processes, none, one_more, Rule, Place, Definitions, no_definition, and_also}
+use Rattle.chem_model.specs.Binders.{is_among}
+use Rattle.chem_model.specs.Fill.{Naming, fill_ref}
 use Rattle.chem_model.specs.Reduction.{given}
-use Rattle.chem_model.specs.Pour.{Drawn, nothing_made, then_made, atom_made, message_made, naming, births_of, loc_or, names_made, lay_rules, rules_made, pour, pour_all, lay_places}
+use Rattle.chem_model.specs.Pour.{Drawn, then_made, atom_made, message_made, naming, births_of, loc_or, names_made, lay_rules, rules_made, pour, pour_all, lay_places}
 use Rattle.chem_laws.proofs.Lists.{append_nil}
-use Rattle.env_store.specs.declared.code.Slot.{Slot}
-use Rattle.env_store.specs.declared.code.Slot.TheVariants as slot
 use Rattle.env_store.specs.declared.code.Instr.{Instr}
 use Rattle.env_store.specs.declared.code.Instr.TheVariants as instr
 use Rattle.env_store.specs.declared.code.Level.{Level}
 use Rattle.env_store.specs.declared.code.Block.{Block}
 use Rattle.wire_packet.specs.declared.packet.GroupInst.{GroupInst}
 use Rattle.env_store.specs.declared.code.SiteCode.{SiteCode}
-use Rattle.env_store.specs.Layout.{rules_in, new_in, count_ref, counts_in, new_ref, new_channels, new_counts, place_order, place_in, places_order, order, LevelTerm, level_term}
+use Rattle.env_store.specs.Layout.{rules_in, new_in, count_ref, counts_in, new_ref, new_channels, new_counts, place_in, order, LevelTerm, level_term}
 use Rattle.env_store.specs.CodeParts.{CodeParts}
 use Rattle.env_store.specs.Running.{ref_at, refs_at, Ran, then_ran, nothing_ran, atom_ran, NumberedLevel, with_level, numbered_levels, loc_at, channel_names, after_place, place_names, place_births, block_names, births_ran, group_ran, Making, body_ran, places_ran, site_levels_ran, site_block_ran, site_ran, Entered, levels_entered, block_entered, without_last, run}
 use Rattle.env_store.specs.Groups.{level_rules, group_rules, groups_rules, Poured, unnamed, hosted, as_poured}
-use Rattle.env_store.specs.Reading.{slot_of, AreSlots, ReadsPlace, ReadsPlaces, ReadsLevels, PlacesAt, ReadsDef, ReadsMessage, ReadsRequest, Reads, ReadsAll, ReadsBody, ReadsProcess, ReadsLevel, ReadsSite}
-use Rattle.env_store.proofs.Lists.{get_front, take_front}
+use Rattle.env_store.specs.Reading.{ReadsPlaces, ReadsLevels, Reads, ReadsAll, ReadsBody, ReadsLevel, ReadsSite}
+use Rattle.env_store.proofs.Lists.{take_front}
 use Rattle.env_store.proofs.Slots.{slot_law, slots_law}
 use Rattle.env_store.proofs.PlacesNamed.{PlacesNamed, places_named}
 use Rattle.env_store.proofs.AsPoured.{then_poured, then_assoc, message_plain, joined}
-use Rattle.env_store.proofs.NamingOrder.{given-append, channels_alike, drawn_on, names_in, names_in_long, names_of_places, order_names, order_long, order_is, channels_long}
+use Rattle.env_store.proofs.NamingOrder.{given-append, channels_alike, names_of_places, order_names, order_long, order_is, channels_long}
 
 -- ---- a level's counts are as many as its channels
 

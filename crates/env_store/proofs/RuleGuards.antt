@@ -4,7 +4,6 @@ use Rattle.std.specs.Prelude.{slice_get}
 use Rattle.chem_model.specs.declared.name.Loc.{Loc}
 use Rattle.chem_model.specs.declared.name.Name.{Name}
 use Rattle.chem_model.specs.declared.name.Name.TheVariants as name
-use Rattle.chem_model.specs.declared.name.Ref.TheVariants.{Binder}
 use Rattle.chem_model.specs.declared.name.Pat.{Pat}
 use Rattle.chem_model.specs.declared.numbered.NumberedRule.{NumberedRule}
 use Rattle.chem_model.specs.Process.{Process, Rule, Place, Definitions, no_definition, and_also}
@@ -13,7 +12,6 @@ use Rattle.chem_model.specs.Each.{Each}
 use Rattle.chem_model.specs.Fill.{Naming, or_binder, fill_ref, fill_pats, fill}
 use Rattle.chem_model.specs.Reduction.{given}
 use Rattle.chem_model.specs.Pour.{lay_rules, pour}
-use Rattle.chem_model.specs.ProgramFacts.{ProgramTerms, IsProgram}
 use Rattle.chem_model.specs.Opening.{site_names, counts_of}
 use Rattle.chem_laws.proofs.Parts.{is_named}
 use Rattle.chem_laws.proofs.Filled.{params_left}
@@ -133,7 +131,7 @@ reacting_is_pouring p c ok kept is g group = record {
         let once : (b : ℕ) → is_named m b + bound_in q b ≤ 1 = (λ b. omega (arith, term.free b, f.few b, named_more t.layout tops (given t.layout g.env) b (given_domain t.layout g.env of.long))) in
         let same : params_of (fill_pats m f.ps) ≡ params_of f.ps = params_left m f.ps in
         let many : (args : List Name) → length args ≡ length (params_of (fill_pats m f.ps)) → length (g.env ++ args) ≡ length y =
-            (λ args long. omega (arith, length-append g.env args, length-append t.layout (params_of f.ps), of.long, long, ap length same)) in
+        (λ args long. omega (arith, length-append g.env args, length-append t.layout (params_of f.ps), of.long, long, ap length same)) in
         subst (RunIsReaction p c g reads.level i) (sym f.is) (record {
           guard = f.guard;
           guard_is = f.is_there;

@@ -1,30 +1,26 @@
 -- Where the binders of a block are in a layout.
-use Rattle.std.proofs.Common.{◌≡◌, ℕ, ◌+◌, ◌≤◌, List, [], ◌∷◌, ◌++◌, ◌==◌, ◌||◌, zero, suc, length, Option, Some, None, Bool, true, false, cond, refl, sym, ap, ◌∙◌, subst, arith, append_assoc, length-append, ◌⊎◌, inl, inr, eq-eqb, All}
+use Rattle.std.proofs.Common.{◌≡◌, ℕ, ◌+◌, ◌≤◌, List, [], ◌∷◌, ◌++◌, ◌==◌, ◌||◌, suc, length, Option, Some, None, Bool, true, false, cond, refl, sym, ap, ◌∙◌, subst, arith, append_assoc, length-append, inl, inr, eq-eqb}
 use Rattle.std.specs.Prelude.{is_some}
-use Rattle.chem_model.specs.declared.name.Loc.{Loc}
 use Rattle.chem_model.specs.declared.name.Name.{Name}
 use Rattle.chem_model.specs.declared.name.Ref.{Ref}
 use Rattle.chem_model.specs.declared.name.Ref.TheVariants.{Binder, Known}
 use Rattle.chem_model.specs.declared.name.Pat.{Pat}
-use Rattle.chem_model.specs.Process.{Process, Msg, Par, Def, Go, Fail, Halt, Processes, none, one_more, Definition, Rule, Place, Definitions, no_definition, and_also}
-use Rattle.chem_model.specs.Binders.{binder_of, channels_of, params_of, block, defined, is_among, times, once, bound_in, bound_in_all, bound_in_definition, bound_in_definitions}
-use Rattle.chem_model.specs.Scope.{IsBinder, AreRules, AreRulesAndPlaces, IsBlock, IsInScope, IsTerm, AreTerms, IsDefinition, AreDefinitions}
-use Rattle.chem_model.specs.Each.{Each}
+use Rattle.chem_model.specs.Process.{Rule, Place, Definitions, no_definition, and_also}
+use Rattle.chem_model.specs.Binders.{binder_of, channels_of, block, is_among, times, once}
+use Rattle.chem_model.specs.Scope.{AreRules, AreRulesAndPlaces}
 use Rattle.chem_model.specs.Fill.{Naming, name_at}
 use Rattle.chem_model.specs.Reduction.{given}
-use Rattle.chem_model.specs.Pour.{Drawn, naming, name_channels}
-use Rattle.chem_laws.proofs.Lists.{append_nil, either_true, cond_either, all_each}
+use Rattle.chem_model.specs.Pour.{Drawn}
+use Rattle.chem_laws.proofs.Lists.{append_nil, either_true, cond_either}
 use Rattle.chem_laws.proofs.Terms.{among-append, among_left, among_right, among_first, times-cons}
 use Rattle.chem_laws.proofs.Parts.{is_named}
 use Rattle.chem_laws.proofs.Naming.{channels_found, naming_domain}
-use Rattle.chem_laws.proofs.NamingLevels.{top_channels, rules_block, block_channels, Fresh, block_fresh}
-use Rattle.chem_laws.proofs.NamingLevels as levels
-use Rattle.env_store.specs.declared.code.Slot.{Slot}
+use Rattle.chem_laws.proofs.NamingLevels.{top_channels, rules_block, Fresh}
 use Rattle.env_store.specs.declared.code.Slot.TheVariants as slot
-use Rattle.env_store.specs.Layout.{new_ref, new_in, new_channels, place_order, place_in, places_order, order}
+use Rattle.env_store.specs.Layout.{new_ref, new_in, new_channels, place_order, places_order, order}
 use Rattle.env_store.specs.Running.{loc_at, channel_names}
 use Rattle.env_store.specs.Reading.{position_from, position, top_or_place, slot_of, ChannelsAt, PlacesAt}
-use Rattle.env_store.proofs.NamingOrder.{given_domain, channels_long, channels_on, channels_order, channels_domain, order_names, order_long, order_is}
+use Rattle.env_store.proofs.NamingOrder.{given_domain, channels_long, channels_order, channels_domain, order_names, order_long, order_is}
 
 -- ---- where a binder is in a layout
 

@@ -1,6 +1,5 @@
 -- The places of a site have, among the site-level names, the locations that its naming gives them.
 use Rattle.std.proofs.Common.{◌≡◌, ℕ, zero, suc, ◌+◌, Some, None, ◌∙◌, List, [], ◌∷◌, ◌++◌, length, true, refl, sym, ap, subst, arith}
-use Rattle.chem_model.specs.declared.name.Name.{Name}
 use Rattle.chem_model.specs.declared.name.Ref.TheVariants.{Binder}
 use Rattle.chem_model.specs.declared.program.SiteTerm.{SiteTerm}
 use Rattle.chem_model.specs.ProgramFacts.{ProgramTerms, IsProgram, places}
@@ -11,7 +10,7 @@ use Rattle.chem_laws.proofs.Naming.{naming_is}
 use Rattle.chem_laws.proofs.OpeningBlocks.{IsBlockAt, of_block, own_block, other_block}
 use Rattle.chem_laws.proofs.OpeningNames.{HasLevel, rest_names, here, later}
 use Rattle.std.specs.Prelude.{slice_get}
-use Rattle.chem_model.specs.Process.{definitions, Definition, Rule, Place, Definitions, no_definition, and_also}
+use Rattle.chem_model.specs.Process.{definitions, Rule, Place, Definitions, no_definition, and_also}
 use Rattle.chem_model.specs.Binders.{binder_of, channels_of, block, is_among}
 use Rattle.chem_model.specs.Scope.{IsBlock, AreRulesAndPlaces}
 use Rattle.chem_model.specs.Fill.{Naming, name_at}

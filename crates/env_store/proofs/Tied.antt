@@ -1,5 +1,5 @@
 -- The laws, for code that is a program's.
-use Rattle.std.proofs.Common.{◌≡◌, ℕ, ◌+◌, ◌≤◌, List, [], ◌++◌, length, refl, sym, ap, ◌∙◌}
+use Rattle.std.proofs.Common.{◌≡◌, ℕ, List, [], ◌++◌, length, ap, ◌∙◌}
 use Rattle.chem_model.specs.Reduction.{given}
 use Rattle.chem_model.specs.Pour.{naming, births_of, names_made, then_made, pour, lay}
 use Rattle.chem_model.specs.declared.numbered.Made.{Made}

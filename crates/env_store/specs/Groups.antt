@@ -3,7 +3,6 @@
 use Rattle.std.specs.Prelude.{◌≡◌, ℕ, ◌+◌, ◌<◌, ◌≤◌, List, [], ◌∷◌, ◌++◌, Option, Some, None, false}
 use Rattle.std.specs.Prelude.{length, slice_get}
 use Rattle.chem_model.specs.declared.name.Loc.{Loc}
-use Rattle.chem_model.specs.declared.name.Name.{Name}
 use Rattle.chem_model.specs.declared.name.Name.TheVariants as name
 use Rattle.chem_model.specs.declared.event.Out.{Out}
 use Rattle.chem_model.specs.Each.{Each}

@@ -1,7 +1,6 @@
 -- Layouts: which binder each place of an environment is for, read off the source alone. A list of
 -- binders `named` that a definition is given are those of the block that have a name already.
-use Rattle.std.specs.Prelude.{ℕ, ◌+◌, List, [], ◌∷◌, ◌++◌, ◌==◌, Option, Some, None, cond, length}
-use Rattle.chem_model.specs.declared.name.Name.{Name}
+use Rattle.std.specs.Prelude.{ℕ, ◌+◌, List, [], ◌∷◌, ◌++◌, Option, Some, None, cond, length}
 use Rattle.chem_model.specs.declared.name.Ref.{Ref}
 use Rattle.chem_model.specs.declared.name.Ref.TheVariants.{Binder, Known}
 use Rattle.chem_model.specs.declared.name.Pat.{Pat}
