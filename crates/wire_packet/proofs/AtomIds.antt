@@ -1,6 +1,6 @@
 -- Tests of ids, and what they say.
-use Rattle.std.proofs.Common.{◌≡◌, ◌<◌, ℕ, Bool, true, false, List, [], ◌∷◌, refl, sym, ap, arith, inl, inr, Option, Some, None}
-use Rattle.std.specs.Prelude.{◌≢◌, ◌&&◌, ◌||◌, ◌==◌}
+use Rattle.std.proofs.Common.{◌≡◌, Bool, true, false, List, [], ◌∷◌, refl, sym, ap, arith, inl, inr, Option, Some, None}
+use Rattle.std.specs.Prelude.{◌≢◌, ◌&&◌, ◌==◌}
 use Rattle.std.proofs.lemmas.Bool.{or_parts, or_from, or_cases, or_left, or_right, and_parts, and_from, both_ways, false_from_ne_true, eqb-true, eq-eqb, ltb-true, lt-ltb}
 use Rattle.chem_model.specs.Each.{Each}
 use Rattle.chem_model.specs.declared.event.AtomId.{AtomId}

@@ -6,7 +6,7 @@ pub mod InOrder
 pub mod Pairs
 pub mod AtomIds
 pub mod Orders
-pub mod Spelt
-pub mod Parcels
-pub mod Spelled
+pub mod Messages
+pub mod ParcelsSpelt
+pub mod ParcelsSpell
 pub mod Whole

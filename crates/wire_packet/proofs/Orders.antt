@@ -1,6 +1,6 @@
 -- What a packet has to be member by member, and what it has to be as a whole, are the same.
-use Rattle.std.proofs.Common.{◌≡◌, ◌<◌, ◌^◌, true, false, List, [], ◌∷◌, ◌++◌, length, Option, Some, None, refl, sym, subst, append_assoc}
-use Rattle.std.specs.Prelude.{not, ◌&&◌}
+use Rattle.std.proofs.Common.{◌≡◌, ◌<◌, ◌^◌, true, false, List, [], ◌∷◌, ◌++◌, length, Some, None, refl, sym, subst, append_assoc}
+use Rattle.std.specs.Prelude.{not}
 use Rattle.std.proofs.lemmas.Bool.{and_parts, not-true, eqb-true, eq-eqb}
 use Rattle.std.proofs.lemmas.List.{append-nil}
 use Rattle.chem_model.specs.Each.{Each}
@@ -9,7 +9,6 @@ use Rattle.chem_model.specs.declared.name.Name.{Name}
 use Rattle.chem_model.specs.declared.name.Name.TheVariants as name
 use Rattle.chem_model.specs.declared.event.AtomId.{AtomId}
 use Rattle.wire_packet.specs.ParcelFacts.{ParcelParts, EachPair, Precedes, waiting_ids, request_ids, IsAtHome, IsParcel}
-use Rattle.wire_packet.specs.declared.packet.GroupInst.{GroupInst}
 use Rattle.wire_packet.specs.declared.packet.Waiting.{Waiting}
 use Rattle.wire_packet.specs.declared.packet.Request.{Request}
 use Rattle.wire_packet.specs.declared.parcel.Packet.{Packet}

@@ -1,8 +1,8 @@
--- A set of pairs that are compared as pairs.
-use Rattle.std.proofs.Common.{◌≡◌, ℕ, Bool, true, false, cond, refl, sym, ap, ◌∙◌, List, [], ◌∷◌, ◌++◌, nat_lt, arith}
+-- Tests of ids, as the loops keep them.
+use Rattle.std.proofs.Common.{◌≡◌, ℕ, Bool, true, false, cond, refl, ap, ◌∙◌, List, [], ◌∷◌, ◌++◌, arith}
 use Rattle.std.specs.Prelude.{◌==◌, ◌&&◌, ◌||◌, not}
-use Rattle.std.specs.Ordering.{is_eq, nat_cmp, ordering_then}
-use Rattle.std.specs.Prelude.{Option, Some, None}
+use Rattle.std.specs.Ordering.{is_eq}
+use Rattle.std.specs.Prelude.{Option, Some}
 use Rattle.chem_model.specs.declared.event.AtomId.{AtomId}
 use Rattle.wire_packet.specs.declared.packet.Request.{Request}
 use Rattle.wire_packet.specs.declared.packet.Waiting.{Waiting}
@@ -38,9 +38,6 @@ has_more s k (v ∷ ws) w =
 pub same_test : (ids : Ids) (ws : List Waiting) → ((s k : ℕ) → holds ids s k ≡ has s k (waiting_ids ws))
     → ◌≡◌ {A = ℕ → ℕ → Bool} (λ s k. not (holds ids s k)) (λ s k. not (has s k (waiting_ids ws)))
 same_test ids ws h = λ i s k. not (h s k i)
-
-pub is_new : (x b : Bool) → b ≡ not x → b ≡ true → not x ≡ true
-is_new x b e t = sym e ∙ t
 
 pub last_more : (rs : List Request) (r : Request) (d : Option AtomId) → last_id (rs ++ r ∷ []) d ≡ Some r.id
 last_more [] r d = refl

@@ -1,18 +1,17 @@
 -- The format and the spelling of packets are the same, and what reading gives is what `decode` promises.
-use Rattle.std.proofs.Common.{◌≡◌, ℕ, zero, suc, ◌-◌, ◌+◌, ◌<◌, ◌≤◌, ◌^◌, List, [], ◌∷◌, ◌++◌, length, get_or, Result, Ok, Err, refl, sym, ap, subst, inl, inr, arith}
+use Rattle.std.proofs.Common.{◌≡◌, ℕ, zero, suc, ◌-◌, ◌<◌, ◌^◌, List, [], ◌∷◌, length, Result, Ok, Err, sym, ap, subst, inl, inr, arith}
 use Rattle.std.specs.Prelude.{◌⊎◌}
 use Rattle.chem_model.specs.Each.{Each}
 use Rattle.wire_packet.specs.declared.fault.DecodeEnd.{DecodeEnd}
 use Rattle.wire_packet.specs.declared.fault.DecodeEnd.TheVariants as end
 use Rattle.wire_packet.specs.declared.parcel.Packet.{Packet}
-use Rattle.wire_packet.specs.Spelling.{spelling}
 use Rattle.wire_packet.specs.Format.{Format, Spells, WrongAt, HasOneOutcome}
 use Rattle.wire_packet.specs.Packets.{packets}
 use Rattle.wire_packet.specs.Codec.{IsSpelledBy, IsOrMemory}
 use Rattle.wire_packet.specs.Reading.{read}
 use Rattle.wire_packet.proofs.Laws.{IsBytes, Means, means, is_spelt, is_wrong, never_both, one_value, one_place}
-use Rattle.wire_packet.proofs.Parcels.{packet_spelt}
-use Rattle.wire_packet.proofs.Spelled.{packet_spells}
+use Rattle.wire_packet.proofs.ParcelsSpelt.{packet_spelt}
+use Rattle.wire_packet.proofs.ParcelsSpell.{packet_spells}
 use Rattle.wire_packet.proofs.Orders.{from_order, in_order}
 
 pub is_spelling : (p : Packet) (bytes : List ℕ) → Spells packets p bytes → IsSpelledBy p bytes

@@ -1,6 +1,6 @@
 -- Which packets there are: each number is one of its type, and each message and parcel keeps the
 -- facts of its type.
-use Rattle.std.specs.Prelude.{ℕ, ◌<◌, ◌^◌, List}
+use Rattle.std.specs.Prelude.{ℕ, ◌<◌, ◌^◌}
 use Rattle.chem_model.specs.Each.{Each}
 use Rattle.chem_model.specs.declared.name.Name.{Name}
 use Rattle.chem_model.specs.declared.name.Name.TheVariants as name

@@ -1,5 +1,5 @@
 -- What reading and writing promise.
-use Rattle.std.specs.Prelude.{◌≡◌, ℕ, List, Result, Ok, Err, ◌⊎◌, ◌<◌, ◌^◌}
+use Rattle.std.specs.Prelude.{◌≡◌, ℕ, List, Result, Err, ◌⊎◌}
 use Rattle.wire_packet.specs.declared.fault.DecodeEnd.{DecodeEnd}
 use Rattle.wire_packet.specs.declared.fault.DecodeEnd.TheVariants as end
 use Rattle.wire_packet.specs.declared.parcel.Packet.{Packet}

@@ -1,9 +1,8 @@
 -- A set of pairs as a test: private contracts alone cite this.
-use Rattle.std.specs.Prelude.{◌≡◌, ℕ, List, [], ◌∷◌, Bool, true, false, ◌||◌, ◌&&◌, ◌==◌}
+use Rattle.std.specs.Prelude.{ℕ, Bool}
 use Rattle.std.specs.declared.cmp.Ordering.{Ordering}
 use Rattle.std.specs.Ordering.{nat_cmp, ordering_then}
 use Rattle.std.specs.BTreeSet.{contains}
-use Rattle.chem_model.specs.declared.event.AtomId.{AtomId}
 use Rattle.wire_packet.specs.declared.ids.Ids.{Ids}
 
 abbrev pub pair_cmp : ℕ × ℕ → ℕ × ℕ → Ordering

@@ -1,5 +1,5 @@
 -- A parcel, and what its type keeps.
-use Rattle.std.specs.Prelude.{◌≡◌, ◌≢◌, ℕ, ◌<◌, ◌^◌, List, [], ◌∷◌, ◌++◌, length, map, refl, ◌⊎◌}
+use Rattle.std.specs.Prelude.{◌≡◌, ◌≢◌, ◌<◌, ◌^◌, List, [], ◌∷◌, ◌++◌, length, map, refl, ◌⊎◌}
 use Rattle.std.specs.Coded.{Coded, code_by, coded×, coded_list}
 use Rattle.chem_model.specs.Each.{Each}
 use Rattle.chem_model.specs.declared.name.Loc.{Loc}

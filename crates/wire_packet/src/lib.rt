@@ -16,5 +16,5 @@ pub use packet::{
     copy_flights, copy_groups, copy_waiting,
 };
 pub use parcel::{Packet, Parcel};
-pub use reading::{decode, one_outcome, one_spelling};
+pub use reading::{decode, front_decides, one_outcome, one_spelling};
 pub use writing::encode;

@@ -1,5 +1,5 @@
 // Bytes read as a packet, from left to right.
-ghost use Rattle.std.specs.Prelude.{◌≡◌, ◌≤◌, ◌<◌, ◌^◌, ◌↔◌, ℕ, List, [], ◌==◌, ◌&&◌, ◌||◌, length, not, None, Ok, Err, IfOk, IfErr};
+ghost use Rattle.std.specs.Prelude.{◌≡◌, ◌+◌, ◌++◌, ◌≤◌, ◌<◌, ◌^◌, ◌↔◌, ℕ, List, [], ◌==◌, ◌&&◌, ◌||◌, length, not, None, Ok, Err, IfOk, IfErr};
 ghost use Rattle.chem_model.specs.Each.{Each};
 ghost use Rattle.chem_model.specs.declared.name.Name.{Name};
 ghost use Rattle.wire_packet.specs.declared.fault.DecodeEnd.TheVariants as end;
@@ -426,4 +426,11 @@ pub fn one_spelling()
 /// nothing.
 pub fn one_outcome()
     ensures { (bytes : List ℕ) → Each (λ byte. byte < 2 ^ 8) bytes → HasOneOutcome packets bytes }
+{}
+
+/// A field is judged by the fields before it alone: where these bytes hold the field that is wrong
+/// first (it has at most 8 bytes), it doesn't matter what follows them. It does nothing.
+pub fn front_decides()
+    ensures { (front rest other : List ℕ) (place : ℕ) → place + 8 ≤ length front →
+        WrongAt packets (front ++ rest) place → WrongAt packets (front ++ other) place }
 {}

@@ -1,7 +1,5 @@
-use Rattle.std.proofs.Common.{◌≡◌, Err, arith, inr}
-use Rattle.std.specs.Prelude.{length}
+use Rattle.std.proofs.Common.{arith}
 use Rattle.wire_packet.specs.Packets.{packets}
-use Rattle.wire_packet.specs.Reading.{read}
 use Rattle.wire_packet.proofs.Loop.{as_wrong}
 use Rattle.wire_packet.proofs.Laws.{is_wrong}
 use Rattle.wire_packet.proofs.Whole.{found, found_reads, found_refuses, bad_reads, bad_refuses}

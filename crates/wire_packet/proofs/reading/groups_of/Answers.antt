@@ -1,9 +1,5 @@
-use Rattle.std.proofs.Common.{◌≡◌, ◌++◌, ◌∷◌, [], ◌∙◌, List}
-use Rattle.std.specs.Prelude.{None}
+use Rattle.std.proofs.Common.{◌∙◌}
 use Rattle.std.proofs.lemmas.Result.{err_from_is_err_and}
-use Rattle.chem_model.specs.declared.name.Name.{Name}
-use Rattle.wire_packet.specs.declared.parcel.Packet.{Packet}
-use Rattle.wire_packet.specs.Format.{Format}
 use Rattle.wire_packet.specs.Packets.{group_member}
 use Rattle.wire_packet.proofs.Loop.{steps, ends, is_done}
 use Rattle.wire_packet.proofs.reading.groups_of.Goals as goal

@@ -3,7 +3,6 @@ use Rattle.wire_packet.specs.declared.packet.GroupInst.{GroupInst}
 use Rattle.wire_packet.specs.declared.parcel.Packet.{Packet}
 use Rattle.wire_packet.specs.Format.{Format}
 use Rattle.wire_packet.specs.Packets.{group_list, members, group_member}
-use Rattle.std.specs.Prelude.{None}
 use Rattle.wire_packet.specs.Reading.{read}
 use Rattle.wire_packet.proofs.reading.groups_of.Given as goal
 

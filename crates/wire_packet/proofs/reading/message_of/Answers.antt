@@ -1,4 +1,3 @@
-use Rattle.std.proofs.Common.{◌≡◌, ◌∙◌, List}
 use Rattle.std.proofs.lemmas.Result.{err_from_is_err_and}
 use Rattle.wire_packet.specs.Packets.{made}
 use Rattle.wire_packet.proofs.reading.message_of.Goals as goal

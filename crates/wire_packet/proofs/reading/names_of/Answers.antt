@@ -1,10 +1,7 @@
-use Rattle.std.proofs.Common.{◌≡◌, ◌-◌, ◌+◌, ◌++◌, ◌∷◌, [], ◌∙◌, refl, List, length, arith}
+use Rattle.std.proofs.Common.{◌≡◌, ◌-◌, ◌+◌, ◌++◌, ◌∷◌, [], ◌∙◌, refl, length, arith}
 use Rattle.std.specs.Prelude.{None}
 use Rattle.std.proofs.lemmas.Result.{err_from_is_err_and}
 use Rattle.std.proofs.lemmas.List.{length-append}
-use Rattle.chem_model.specs.declared.name.Name.{Name}
-use Rattle.wire_packet.specs.declared.parcel.Packet.{Packet}
-use Rattle.wire_packet.specs.Format.{Format}
 use Rattle.wire_packet.specs.Packets.{one_name}
 use Rattle.wire_packet.proofs.Loop.{steps, ends, is_done}
 use Rattle.wire_packet.proofs.reading.names_of.Goals as goal

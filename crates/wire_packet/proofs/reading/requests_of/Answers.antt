@@ -1,11 +1,11 @@
-use Rattle.std.proofs.Common.{◌≡◌, ℕ, ◌-◌, ◌++◌, ◌∷◌, [], ◌∙◌, refl, sym, ap, subst, Bool, true, false, List, arith}
-use Rattle.std.specs.Prelude.{not, ◌&&◌, None}
+use Rattle.std.proofs.Common.{◌≡◌, ◌-◌, ◌∙◌, refl, sym, subst, arith}
+use Rattle.std.specs.Prelude.{None}
 use Rattle.std.proofs.lemmas.Result.{err_from_is_err_and}
 use Rattle.wire_packet.specs.declared.parcel.Packet.{Packet}
 use Rattle.wire_packet.specs.declared.packet.Request.{Request}
 use Rattle.wire_packet.specs.Format.{Format}
 use Rattle.wire_packet.specs.Ids.{holds}
-use Rattle.wire_packet.specs.Packets.{members, request_member, one_request, may_request, last_id}
+use Rattle.wire_packet.specs.Packets.{request_member, one_request, may_request}
 use Rattle.wire_packet.specs.Reading.{read, FailsAs}
 use Rattle.std.specs.Prelude.{Option}
 use Rattle.chem_model.specs.declared.event.AtomId.{AtomId}

@@ -1,4 +1,4 @@
-use Rattle.std.proofs.Common.{◌≡◌, ℕ, ◌-◌, List}
+use Rattle.std.proofs.Common.{◌≡◌, ◌-◌, List}
 use Rattle.std.specs.Prelude.{None}
 use Rattle.wire_packet.specs.declared.parcel.Packet.{Packet}
 use Rattle.wire_packet.specs.declared.packet.Request.{Request}

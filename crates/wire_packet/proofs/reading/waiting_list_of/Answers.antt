@@ -1,11 +1,10 @@
-use Rattle.std.proofs.Common.{◌≡◌, ℕ, ◌-◌, ◌++◌, ◌∷◌, [], ◌∙◌, refl, sym, ap, subst, Bool, arith}
+use Rattle.std.proofs.Common.{◌≡◌, ℕ, ◌-◌, ◌∙◌, refl, sym, ap, subst, Bool, arith}
 use Rattle.std.specs.Prelude.{◌||◌, ◌&&◌, ◌==◌}
 use Rattle.std.proofs.lemmas.Result.{err_from_is_err_and}
 use Rattle.wire_packet.specs.declared.parcel.Packet.{Packet}
 use Rattle.wire_packet.specs.declared.packet.Waiting.{Waiting}
 use Rattle.wire_packet.specs.Format.{Format}
-use Rattle.wire_packet.specs.ParcelFacts.{waiting_ids}
-use Rattle.wire_packet.specs.Packets.{members, waiting_member, one_waiting, has}
+use Rattle.wire_packet.specs.Packets.{waiting_member, one_waiting}
 use Rattle.wire_packet.specs.Reading.{read, FailsAs}
 use Rattle.wire_packet.proofs.Same.{has_more, same_test}
 use Rattle.wire_packet.proofs.Loop.{steps, ends, is_done}

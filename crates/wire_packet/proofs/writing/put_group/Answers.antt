@@ -1,4 +1,4 @@
-use Rattle.std.proofs.Common.{◌≡◌, ◌++◌, ℕ, List, length, ap, ◌∙◌}
+use Rattle.std.proofs.Common.{◌++◌, ℕ, List, length, ap, ◌∙◌}
 use Rattle.std.specs.List.{flat_map}
 use Rattle.chem_model.specs.declared.name.Name.{Name}
 use Rattle.wire_packet.specs.Format.{four, digits}

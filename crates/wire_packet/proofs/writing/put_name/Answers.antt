@@ -1,4 +1,4 @@
-use Rattle.std.proofs.Common.{◌≡◌, ◌++◌, [], ◌∷◌}
+use Rattle.std.proofs.Common.{[], ◌∷◌}
 use Rattle.wire_packet.specs.Spelling.{pair}
 use Rattle.wire_packet.proofs.Appends.{put_two, put_three}
 use Rattle.wire_packet.proofs.writing.put_name.Goals as goal

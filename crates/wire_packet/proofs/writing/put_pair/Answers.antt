@@ -1,4 +1,4 @@
-use Rattle.std.proofs.Common.{◌≡◌, ℕ, List, ◌++◌, ap, ◌∙◌}
+use Rattle.std.proofs.Common.{ℕ, List, ◌++◌, ap, ◌∙◌}
 use Rattle.std.specs.Int.{w32, w64, to_be_bytes}
 use Rattle.wire_packet.proofs.Appends.{put_two}
 use Rattle.wire_packet.proofs.writing.put_pair.Goals as goal

@@ -1,4 +1,3 @@
-use Rattle.std.proofs.Common.{◌≡◌, ◌++◌, ap, subst, ◌∙◌}
 use Rattle.wire_packet.specs.Spelling.{request}
 use Rattle.wire_packet.specs.Allowed.{IsRequestValue}
 use Rattle.wire_packet.proofs.Appends.{member_put}

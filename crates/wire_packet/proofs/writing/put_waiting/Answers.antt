@@ -1,4 +1,4 @@
-use Rattle.std.proofs.Common.{◌≡◌, ◌++◌, ap, subst, ◌∙◌}
+use Rattle.std.proofs.Common.{◌++◌, ap, subst, ◌∙◌}
 use Rattle.wire_packet.specs.Spelling.{waiting_message}
 use Rattle.wire_packet.specs.Allowed.{IsWaitingValue}
 use Rattle.wire_packet.proofs.Appends.{member_put}

@@ -1,5 +1,5 @@
--- What the format says and what the spelling says are the same.
-use Rattle.std.proofs.Common.{◌≡◌, ℕ, zero, suc, ◌+◌, ◌<◌, ◌^◌, Bool, true, false, ltb, List, [], ◌∷◌, ◌++◌, length, Option, Some, None, refl, sym, ap, subst, ◌∙◌, append_assoc, arith}
+-- What the format of names and messages says and what their spelling says are the same.
+use Rattle.std.proofs.Common.{◌≡◌, ℕ, zero, suc, ◌<◌, ◌^◌, true, ltb, List, [], ◌∷◌, ◌++◌, length, Option, None, refl, sym, ap, subst, ◌∙◌, append_assoc, arith}
 use Rattle.std.specs.List.{flat_map}
 use Rattle.chem_model.specs.Each.{Each}
 use Rattle.std.proofs.lemmas.Bool.{ltb-true}
@@ -10,10 +10,10 @@ use Rattle.chem_model.specs.declared.name.Name.{Name}
 use Rattle.chem_model.specs.declared.name.Name.TheVariants as name
 use Rattle.wire_packet.specs.MessageFacts.{MessageParts}
 use Rattle.wire_packet.specs.Format.{one, four, eight, digits, Format, Spells}
-use Rattle.wire_packet.specs.Spelling.{pair, name_bytes, message, waiting_message}
-use Rattle.wire_packet.specs.Allowed.{IsPair, IsName, IsMessageValue}
+use Rattle.wire_packet.specs.Spelling.{pair, name_bytes, message}
+use Rattle.wire_packet.specs.Allowed.{IsName, IsMessageValue}
 use Rattle.wire_packet.proofs.InOrder.{AtHome, EachFrom}
-use Rattle.wire_packet.specs.Packets.{numbers, may_site, may_k, one_name, members, names, arguments, message_after, message_body, made}
+use Rattle.wire_packet.specs.Packets.{one_name, members, names, arguments, message_after, message_body, made}
 
 two : (m : ℕ) → ltb (suc (suc m)) 3 ≡ true → suc (suc m) ≡ 2
 two m t = let lt = ltb-true _ _ t in omega (arith, lt)

@@ -1,8 +1,7 @@
--- What is allowed is spelled by the format.
-use Rattle.std.proofs.Common.{◌≡◌, ℕ, zero, suc, ◌<◌, ◌^◌, Bool, true, false, List, [], ◌∷◌, ◌++◌, length, Option, Some, None, refl, sym, ap, subst, ◌∙◌, append_assoc, arith}
-use Rattle.std.specs.Prelude.{not, ◌&&◌}
+-- What is in order is spelled by the format of packets.
+use Rattle.std.proofs.Common.{ℕ, List, [], ◌++◌, length, Some, None, refl, sym, ap, subst, append_assoc, arith}
+use Rattle.std.specs.Prelude.{not}
 use Rattle.std.specs.List.{flat_map}
-use Rattle.chem_model.specs.Each.{Each}
 use Rattle.std.proofs.lemmas.List.{append-nil}
 use Rattle.chem_model.specs.declared.name.Loc.{Loc}
 use Rattle.chem_model.specs.declared.name.Name.{Name}
@@ -14,15 +13,14 @@ use Rattle.wire_packet.specs.declared.packet.Request.{Request}
 use Rattle.wire_packet.specs.ParcelFacts.{ParcelParts}
 use Rattle.wire_packet.specs.declared.parcel.Packet.{Packet}
 use Rattle.wire_packet.specs.declared.parcel.Packet.TheVariants as packet
-use Rattle.wire_packet.specs.Format.{one, four, eight, digits, Format, whole, Spells, WrongAt}
+use Rattle.wire_packet.specs.Format.{four, eight, digits, Format, whole, Spells}
 use Rattle.wire_packet.specs.Spelling.{pair, name_bytes, message, group, ask_bytes, request, parcel, spelling, waiting_message}
 use Rattle.wire_packet.specs.Allowed.{IsName}
-use Rattle.wire_packet.proofs.InOrder.{EachFrom, GroupAt, Waits, Asks, ParcelInOrder, PacketInOrder}
+use Rattle.wire_packet.proofs.InOrder.{GroupAt, Waits, Asks, ParcelInOrder, PacketInOrder}
 use Rattle.wire_packet.specs.Allowed.{IsAskValue}
-use Rattle.wire_packet.specs.ParcelFacts.{waiting_ids}
-use Rattle.wire_packet.specs.Packets.{made, waits, group_member, waiting_member, request_member, has, is_waiting, second, two_names, go, fail, one_ask, requested, full, then_requests, then_waiting, message_body, parcel_body, packets}
-use Rattle.wire_packet.proofs.Spelt.{name_spells, free, names_spell, members_spell, after_spells, body_spells, behind}
-use Rattle.wire_packet.proofs.Parcels.{joined}
+use Rattle.wire_packet.specs.Packets.{waits, group_member, waiting_member, request_member, is_waiting, second, two_names, go, fail, one_ask, requested, full, then_requests, then_waiting, message_body, parcel_body, packets}
+use Rattle.wire_packet.proofs.Messages.{name_spells, free, names_spell, members_spell, after_spells, body_spells, behind}
+use Rattle.wire_packet.proofs.ParcelsSpelt.{joined}
 
 module _ {A : Type 0} where
   group_spells : (l : Loc) (y : A) (front : List GroupInst) (next : GroupInst → Format A) (rest : List ℕ) (g : GroupInst) → GroupAt l g → Spells (next g) y rest

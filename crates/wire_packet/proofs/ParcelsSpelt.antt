@@ -1,13 +1,11 @@
--- What the format of parcels says and what their spelling says are the same.
-use Rattle.std.proofs.Common.{◌≡◌, ℕ, zero, suc, ◌+◌, ◌<◌, ◌^◌, Bool, true, false, ltb, List, [], ◌∷◌, ◌++◌, length, Option, Some, None, refl, sym, ap, subst, ◌∙◌, append_assoc, arith}
+-- What is spelled by the format of packets is in order, and has its spelling.
+use Rattle.std.proofs.Common.{◌≡◌, ℕ, zero, suc, Bool, true, false, List, [], ◌∷◌, ◌++◌, length, Some, None, refl, sym, ap, subst, ◌∙◌, append_assoc, arith}
 use Rattle.std.specs.Prelude.{not, ◌&&◌, nat_lt}
 use Rattle.std.specs.List.{flat_map}
-use Rattle.chem_model.specs.Each.{Each}
 use Rattle.std.proofs.lemmas.Bool.{ltb-true}
 use Rattle.std.proofs.lemmas.List.{append-nil}
 use Rattle.chem_model.specs.declared.name.Loc.{Loc}
 use Rattle.chem_model.specs.declared.name.Name.{Name}
-use Rattle.wire_packet.specs.MessageFacts.{MessageParts}
 use Rattle.wire_packet.specs.declared.packet.Waiting.{Waiting}
 use Rattle.wire_packet.specs.declared.packet.GroupInst.{GroupInst}
 use Rattle.wire_packet.specs.declared.packet.Ask.{Ask}
@@ -16,14 +14,13 @@ use Rattle.wire_packet.specs.declared.packet.Request.{Request}
 use Rattle.wire_packet.specs.ParcelFacts.{ParcelParts}
 use Rattle.wire_packet.specs.declared.parcel.Packet.{Packet}
 use Rattle.wire_packet.specs.declared.parcel.Packet.TheVariants as packet
-use Rattle.wire_packet.specs.Format.{one, four, eight, digits, Format, whole, Spells}
+use Rattle.wire_packet.specs.Format.{four, eight, digits, Format, whole, Spells}
 use Rattle.wire_packet.specs.Spelling.{pair, name_bytes, message, group, ask_bytes, request, parcel, spelling, waiting_message}
-use Rattle.wire_packet.specs.Allowed.{IsPair, IsName, IsMessageValue}
-use Rattle.wire_packet.proofs.InOrder.{AtHome, EachFrom, GroupAt, Waits, Asks, ParcelInOrder, PacketInOrder}
+use Rattle.wire_packet.specs.Allowed.{IsName}
+use Rattle.wire_packet.proofs.InOrder.{GroupAt, Waits, Asks, ParcelInOrder, PacketInOrder}
 use Rattle.wire_packet.specs.Allowed.{IsAskValue}
-use Rattle.wire_packet.specs.ParcelFacts.{waiting_ids}
-use Rattle.wire_packet.specs.Packets.{members, names, message_after, made, waits, group_member, waiting_member, request_member, group_list, waiting_list, request_list, has, is_waiting, may_request, last_id, second, two_names, go, fail, one_ask, requested, full, then_requests, then_waiting, parcel_body, is_ask, is_kind, packets}
-use Rattle.wire_packet.proofs.Spelt.{Begins, name_spelt, name_spells, free, names_spelt, names_spell, members_spelt, members_spell, after_spelt, after_spells, body_spelt, body_spells, behind}
+use Rattle.wire_packet.specs.Packets.{made, waits, group_member, waiting_member, request_member, is_waiting, second, two_names, go, fail, one_ask, requested, full, then_requests, then_waiting, parcel_body, is_ask, is_kind, packets}
+use Rattle.wire_packet.proofs.Messages.{Begins, name_spelt, names_spelt, members_spelt, after_spelt, body_spelt}
 
 right : (a b : Bool) → (a && b) ≡ true → b ≡ true
 right true b e = e
