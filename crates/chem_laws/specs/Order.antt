@@ -46,12 +46,14 @@ pub record HasSameParts (n m : Numbered) : Type 0 where
   pub rules : (r : NumberedRule) → rules_in n.rules r ≡ rules_in m.rules r
   pub atoms : (a : NumberedAtom) → atoms_in n.atoms a ≡ atoms_in m.atoms a
 
--- two traces that go on from one by the same two pieces, in either order
-pub record GoOnInEitherOrder (trace one other : List Out) : Type 0 where
+-- what e and f append to the trace of n is the same, whichever comes first
+pub record AppendInEitherOrder (n after_e after_f e_then_f f_then_e : Numbered) : Type 0 where
   pub e_outs : List Out
   pub f_outs : List Out
-  pub one_is : one ≡ (trace ++ e_outs) ++ f_outs
-  pub other_is : other ≡ (trace ++ f_outs) ++ e_outs
+  pub e_alone : after_e.trace ≡ n.trace ++ e_outs
+  pub f_alone : after_f.trace ≡ n.trace ++ f_outs
+  pub e_first : e_then_f.trace ≡ (n.trace ++ e_outs) ++ f_outs
+  pub f_first : f_then_e.trace ≡ (n.trace ++ f_outs) ++ e_outs
 
 -- after e the event f is possible and after f the event e, and the two results are equal but for
 -- the order of the observables that the two append
@@ -61,7 +63,7 @@ pub record InEitherOrder (n after_e after_f : Numbered) (e f : Event) : Type 0 w
   pub f_follows : apply after_e f ≡ Some e_then_f
   pub e_follows : apply after_f e ≡ Some f_then_e
   pub same : HasSameParts e_then_f f_then_e
-  pub traces : GoOnInEitherOrder n.trace e_then_f.trace f_then_e.trace
+  pub traces : AppendInEitherOrder n after_e after_f e_then_f f_then_e
 
 -- in a sound solution two reactions of rules under different roots can be made in either order
 abbrev pub ReactionsCommute : Type 0
