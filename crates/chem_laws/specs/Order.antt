@@ -76,7 +76,7 @@ ReactionsCommute =
 
 -- ---- what the reactions of one site look at
 
--- a location of the solution that stands under the root of site t, or is that root
+-- the root above the location is the one of site t
 abbrev pub IsUnder : Numbered → ℕ → Loc → Type 0
 IsUnder n t l = (root_above n l).site ≡ t
 
@@ -123,6 +123,15 @@ pub record Reacts
   pub found : AreFound n.atoms took gone
   pub makes : a ≡ body_made n rule names
   pub applies : apply n e ≡ Some m
+
+-- each reaction that is possible takes atoms that stand in the solution, and makes what its rule's
+-- body makes where it is poured
+abbrev pub ReactionsTakeAndMake : Type 0
+ReactionsTakeAndMake =
+    (n m : Numbered) (i : RuleId) (took : List AtomId) (r : NumberedRule)
+    → rule_at n.rules i ≡ Some r → apply n (React i took) ≡ Some m
+    → (gone : List NumberedAtom) × (a : Made)
+    × Reacts (root_above n r.loc).site n (React i took) gone a m
 
 -- such reactions, one after another: what goes and what is made is added up
 pub data ReactsAt (t : ℕ)

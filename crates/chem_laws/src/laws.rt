@@ -2,8 +2,8 @@ ghost use Rattle.chem_model.specs.Laws.{OpeningIsAStart, EventIsAReduction, Stuc
 ghost use Rattle.chem_model.specs.Laws.{ReplayIsARun};
 ghost use Rattle.chem_laws.specs.Within.{DeadIsWithin};
 ghost use Rattle.chem_laws.specs.Hosts.{RunsKeepRoots};
-ghost use Rattle.chem_laws.specs.Order.{ReactionsCommute, ReactionsStayAtHome};
-ghost use Rattle.chem_laws.specs.Order.{ReactionsAreLocal, SitesAtOnce};
+ghost use Rattle.chem_laws.specs.Order.{ReactionsCommute, ReactionsTakeAndMake};
+ghost use Rattle.chem_laws.specs.Order.{ReactionsStayAtHome, ReactionsAreLocal, SitesAtOnce};
 ghost use Rattle.chem_laws.specs.Twice.{NothingIsTakenTwice};
 
 /// A location is dead exactly where it is within a marked location. It does nothing.
@@ -47,6 +47,12 @@ pub fn replay_is_a_run()
 /// append. It does nothing.
 pub fn reactions_commute()
     ensures { ReactionsCommute }
+{}
+
+/// Each reaction that is possible takes atoms that stand in the solution, and makes what its rule's
+/// body makes where it is poured with the names received. It does nothing.
+pub fn reactions_take_and_make()
+    ensures { ReactionsTakeAndMake }
 {}
 
 /// Reactions of rules under the root of one site lead to a sound solution, and change what they
