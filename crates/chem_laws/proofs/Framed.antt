@@ -17,7 +17,7 @@ use Rattle.chem_model.specs.Numbered.{standing}
 use Rattle.chem_model.specs.Pour.{pour, pour_at}
 use Rattle.chem_model.specs.Apply.{same_atom, same_rule, rule_at, atom_at, without, without_all, received, received_at, both_received, received_all, react_received, react_rule, apply}
 use Rattle.chem_model.specs.Sound.{IsSound, IsRoot}
-use Rattle.chem_laws.specs.Order.{HasAll, AreFound, body_made}
+use Rattle.chem_laws.specs.Order.{HasAll, AreFound, body_made, Reacts, ReactionsTakeAndMake}
 use Rattle.chem_laws.proofs.Within.{same_loc_is}
 use Rattle.chem_laws.proofs.Places.{standing_left, live_parts, live_kept, root_is, root_loc}
 use Rattle.chem_laws.proofs.Taking.{same_atom_is, found-without}
@@ -100,6 +100,14 @@ gone_of atoms l (p ∷ ps) (i ∷ took) m e = go (received_at l p (atom_at atoms
         let from = received_from l p (atom_at atoms i) a c in
         let rest = ih u d in
         record { gone = from.0 ∷ rest.gone; found = (from.1, rest.found); at_l = (from.2, rest.at_l) }
+
+pub reactions_take_and_make : ReactionsTakeAndMake
+reactions_take_and_make n m i took r at_rule e =
+    let x = reaction n m i took r at_rule e in
+    let g = gone_of n.atoms r.loc r.pats took x.names x.receives in
+    let now : Reacts (root (standing n.places) r.loc).site n (event.React i took) g.gone (body_made n r x.names) m =
+    record { id = i; took = took; rule = r; names = x.names; is = refl; at_rule = at_rule; at_site = refl; receives = x.receives; found = g.found; makes = refl; applies = e } in
+    (g.gone, body_made n r x.names, now)
 
 -- ---- looking up in a list that grows
 

@@ -27,7 +27,7 @@ rules_append : (xs ys : List NumberedRule) → rule_pairs (xs ++ ys) ≡ rule_pa
 rules_append [] ys = refl
 rules_append (x ∷ xs) ys = ap (λ ps. (x.id.site, x.id.k) ∷ ps) (rules_append xs ys)
 
-atoms_append : (xs ys : List NumberedAtom) → atom_pairs (xs ++ ys) ≡ atom_pairs xs ++ atom_pairs ys
+pub atoms_append : (xs ys : List NumberedAtom) → atom_pairs (xs ++ ys) ≡ atom_pairs xs ++ atom_pairs ys
 atoms_append [] ys = refl
 atoms_append (x ∷ xs) ys = ap (λ ps. (x.id.site, x.id.k) ∷ ps) (atoms_append xs ys)
 

@@ -29,7 +29,7 @@ opening_seen p = open_seen (site_names p.sites) 0 p.sites (named_sites (counts_o
 
 -- ---- a journal of events from a sound solution
 
-nothing_replayed : (journal : List Event) (n : Numbered) → replay_from None journal ≡ Some n → ⊥
+pub nothing_replayed : (journal : List Event) (n : Numbered) → replay_from None journal ≡ Some n → ⊥
 nothing_replayed [] n e = cc
 nothing_replayed (x ∷ journal) n e = nothing_replayed journal n e
 

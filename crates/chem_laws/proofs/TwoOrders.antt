@@ -60,7 +60,7 @@ bag-without (b ∷ atoms) i a x e = go (same_atom b.id i) (bag-without atoms i a
     go true ih e' = let same : b ≡ a = cc in ap (λ (u : NumberedAtom). one atom.the_row.coded u x + bag atom.the_row.coded atoms x) same
     go false ih e' = omega (arith, ih e')
 
-still_there : (i : AtomId) (atoms : List NumberedAtom) (took : List AtomId) (gone : List NumberedAtom) → Each (λ (j : AtomId). same_atom i j ≡ false) took → AreFound atoms took gone → AreFound (without i atoms) took gone
+pub still_there : (i : AtomId) (atoms : List NumberedAtom) (took : List AtomId) (gone : List NumberedAtom) → Each (λ (j : AtomId). same_atom i j ≡ false) took → AreFound atoms took gone → AreFound (without i atoms) took gone
 still_there i atoms [] [] d f = tt
 still_there i atoms [] (a ∷ gone) d f = f
 still_there i atoms (j ∷ took) [] d f = f
@@ -232,7 +232,14 @@ module _ (law : EventIsAReduction) where
             rules = λ z. bag_swap rule.the_row.coded n.rules a.rules b.rules z;
             atoms = λ z. (let first = left r q i j took taken n1 n2 at_r at_q apart_qr x y z in let then = left q r j i taken took n2 n1 at_q at_r apart_rq y x z in omega arith);
           };
-          traces = record { e_outs = a.outs; f_outs = b.outs; one_is = refl; other_is = refl };
+          traces = record {
+            e_outs = a.outs;
+            f_outs = b.outs;
+            e_alone = ap (λ (k : Numbered). k.trace) (sym x.result);
+            f_alone = ap (λ (k : Numbered). k.trace) (sym y.result);
+            e_first = refl;
+            f_first = refl;
+          };
         }
       where
         -- no location is born twice

@@ -46,12 +46,14 @@ pub record HasSameParts (n m : Numbered) : Type 0 where
   pub rules : (r : NumberedRule) → rules_in n.rules r ≡ rules_in m.rules r
   pub atoms : (a : NumberedAtom) → atoms_in n.atoms a ≡ atoms_in m.atoms a
 
--- two traces that go on from one by the same two pieces, in either order
-pub record GoOnInEitherOrder (trace one other : List Out) : Type 0 where
+-- what e and f append to the trace of n is the same, whichever comes first
+pub record AppendInEitherOrder (n after_e after_f e_then_f f_then_e : Numbered) : Type 0 where
   pub e_outs : List Out
   pub f_outs : List Out
-  pub one_is : one ≡ (trace ++ e_outs) ++ f_outs
-  pub other_is : other ≡ (trace ++ f_outs) ++ e_outs
+  pub e_alone : after_e.trace ≡ n.trace ++ e_outs
+  pub f_alone : after_f.trace ≡ n.trace ++ f_outs
+  pub e_first : e_then_f.trace ≡ (n.trace ++ e_outs) ++ f_outs
+  pub f_first : f_then_e.trace ≡ (n.trace ++ f_outs) ++ e_outs
 
 -- after e the event f is possible and after f the event e, and the two results are equal but for
 -- the order of the observables that the two append
@@ -61,7 +63,7 @@ pub record InEitherOrder (n after_e after_f : Numbered) (e f : Event) : Type 0 w
   pub f_follows : apply after_e f ≡ Some e_then_f
   pub e_follows : apply after_f e ≡ Some f_then_e
   pub same : HasSameParts e_then_f f_then_e
-  pub traces : GoOnInEitherOrder n.trace e_then_f.trace f_then_e.trace
+  pub traces : AppendInEitherOrder n after_e after_f e_then_f f_then_e
 
 -- in a sound solution two reactions of rules under different roots can be made in either order
 abbrev pub ReactionsCommute : Type 0
@@ -74,7 +76,7 @@ ReactionsCommute =
 
 -- ---- what the reactions of one site look at
 
--- a location of the solution that stands under the root of site t, or is that root
+-- the root above the location is the one of site t
 abbrev pub IsUnder : Numbered → ℕ → Loc → Type 0
 IsUnder n t l = (root_above n l).site ≡ t
 
@@ -121,6 +123,15 @@ pub record Reacts
   pub found : AreFound n.atoms took gone
   pub makes : a ≡ body_made n rule names
   pub applies : apply n e ≡ Some m
+
+-- each reaction that is possible takes atoms that stand in the solution, and makes what its rule's
+-- body makes where it is poured
+abbrev pub ReactionsTakeAndMake : Type 0
+ReactionsTakeAndMake =
+    (n m : Numbered) (i : RuleId) (took : List AtomId) (r : NumberedRule)
+    → rule_at n.rules i ≡ Some r → apply n (React i took) ≡ Some m
+    → (gone : List NumberedAtom) × (a : Made)
+    × Reacts (root_above n r.loc).site n (React i took) gone a m
 
 -- such reactions, one after another: what goes and what is made is added up
 pub data ReactsAt (t : ℕ)

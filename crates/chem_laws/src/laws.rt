@@ -2,8 +2,9 @@ ghost use Rattle.chem_model.specs.Laws.{OpeningIsAStart, EventIsAReduction, Stuc
 ghost use Rattle.chem_model.specs.Laws.{ReplayIsARun};
 ghost use Rattle.chem_laws.specs.Within.{DeadIsWithin};
 ghost use Rattle.chem_laws.specs.Hosts.{RunsKeepRoots};
-ghost use Rattle.chem_laws.specs.Order.{ReactionsCommute, ReactionsStayAtHome};
-ghost use Rattle.chem_laws.specs.Order.{ReactionsAreLocal, SitesAtOnce};
+ghost use Rattle.chem_laws.specs.Order.{ReactionsCommute, ReactionsTakeAndMake};
+ghost use Rattle.chem_laws.specs.Order.{ReactionsStayAtHome, ReactionsAreLocal, SitesAtOnce};
+ghost use Rattle.chem_laws.specs.Twice.{NothingIsTakenTwice};
 
 /// A location is dead exactly where it is within a marked location. It does nothing.
 pub fn dead_is_within()
@@ -23,8 +24,8 @@ pub fn opening_is_a_start()
 {}
 
 /// Where a sound numbered solution has an event's effect, that is sound, and what the two stand for
-/// are one React, Go, Halt or Detect apart, as the event names it, followed by heating, Comm and Out
-/// alone. It does nothing.
+/// are one React, Go, Halt or Detect apart, as the event names it, followed by heating, Comm and
+/// Out alone. It does nothing.
 pub fn event_is_a_reduction()
     ensures { EventIsAReduction }
 {}
@@ -35,21 +36,27 @@ pub fn stuck_is_quiet()
     ensures { StuckIsQuiet }
 {}
 
-/// The solutions that the replay of a journal passes stand for a run of the machine, and the last of
-/// them is sound. It does nothing.
+/// The solutions that the replay of a journal passes stand for a run of the machine, and the last
+/// of them is sound. It does nothing.
 pub fn replay_is_a_run()
     ensures { ReplayIsARun }
 {}
 
 /// In a sound numbered solution two reactions of rules under different roots can be made in either
-/// order, and both orders lead to the same but for the order of the observables that the two append.
-/// It does nothing.
+/// order, and both orders lead to the same but for the order of the observables that the two
+/// append. It does nothing.
 pub fn reactions_commute()
     ensures { ReactionsCommute }
 {}
 
-/// Reactions of rules under the root of one site lead to a sound solution, and change what they take
-/// and make there and nothing under another root. It does nothing.
+/// Each reaction that is possible takes atoms that stand in the solution, and makes what its rule's
+/// body makes where it is poured with the names received. It does nothing.
+pub fn reactions_take_and_make()
+    ensures { ReactionsTakeAndMake }
+{}
+
+/// Reactions of rules under the root of one site lead to a sound solution, and change what they
+/// take and make there and nothing under another root. It does nothing.
 pub fn reactions_stay_at_home()
     ensures { ReactionsStayAtHome }
 {}
@@ -64,4 +71,10 @@ pub fn reactions_are_local()
 /// site, in the order of their numbers. It does nothing.
 pub fn sites_at_once()
     ensures { SitesAtOnce }
+{}
+
+/// In a journal that replays no two events are equal, and no atom is taken more than once: as a
+/// message of a reaction, or as the request of a move, a halt or a detection. It does nothing.
+pub fn nothing_is_taken_twice()
+    ensures { NothingIsTakenTwice }
 {}
