@@ -11,8 +11,8 @@ use Rattle.chem_model.specs.Numbered.{standing}
 use Rattle.chem_model.specs.Opening.{root_of, roots}
 use Rattle.chem_model.specs.Apply.{with_hosts, with_marks}
 use Rattle.loc_tree.specs.declared.tree.Spot.{Spot}
-use Rattle.loc_tree.specs.Tree.{Tree, spot, number_in, is_pair_of, is_root, is_alive, can_move, roots_from, unmarked_roots, with_birth, with_number, with_mark as with_fall, with_room, renumbered, marked as fallen, is_alive_in}
-use Rattle.loc_tree.specs.Places.{standing_in, places_in, IsTree, IsTreeOf}
+use Rattle.loc_tree.specs.Tree.{Tree, spot, number_in, is_pair_of, is_root, is_alive, can_move, roots_from, unmarked_roots, with_birth, with_number, with_mark as with_fall, renumbered, marked as fallen, is_alive_in}
+use Rattle.loc_tree.specs.Places.{standing_in, places_in, IsTree}
 use Rattle.loc_tree.specs.Laws.{born_under, RootsAreOpened, BirthFollows, MoveFollows, MarkFollows}
 use Rattle.loc_tree.proofs.Spots.{same_loc_is, same_loc_refl, same_loc_sym, root_is, lookup-change, lookup-birth, found_root, root_found}
 use Rattle.loc_tree.proofs.Standings.{standing_hosts, standing_marks, standing_birth}
@@ -211,11 +211,3 @@ module _ (t : Tree) (tree : IsTree t) (l : Loc) where
 
 pub mark_follows : MarkFollows
 mark_follows t placed of l = record { is = mark_is t of.is l; same = mark_same t of.is l placed of.same }
-
--- ---- room
-
-pub room_is : (t : Tree) (more : ℕ) → IsTree t → IsTree (with_room t more)
-room_is t more tree = record { rooted = tree.rooted; below = tree.below }
-
-pub room_follows : (t : Tree) (more : ℕ) (placed : List Placed) → IsTreeOf t placed → IsTreeOf (with_room t more) placed
-room_follows t more placed of = record { is = room_is t more of.is; same = of.same }

@@ -13,9 +13,6 @@ use Rattle.loc_tree.specs.Tree.{Tree, Entries, spot, is_pair_of, number_in, IsFr
 use Rattle.loc_tree.specs.Stored.{loc_at, is_below, IsNewest, AreNewest}
 use Rattle.loc_tree.proofs.Spots.{same_loc_is, same_loc_refl, lookup-birth, found_root, root_found}
 
-is_some_of : (o : Option ℕ) (i : ℕ) → o ≡ Some i → is_some o ≡ true
-is_some_of o i e = ap is_some e
-
 some_number : (o : Option Spot) → is_some (number_in o) ≡ is_some o
 some_number None = refl
 some_number (Some s) = refl

@@ -1,6 +1,6 @@
 -- The tree of a sound numbered solution.
-use Rattle.std.proofs.Common.{◌≡◌, ℕ, ◌<◌, ◌≤◌, Bool, true, false, cond, List, [], ◌∷◌, Option, Some, None, length, refl, sym, ap, ◌∙◌, arith, ◌&&◌, ◌==◌, eqb-true, eq-eqb, lt-ltb, inl, inr}
-use Rattle.std.specs.Prelude.{nat_lt, is_some}
+use Rattle.std.proofs.Common.{◌≡◌, ℕ, ◌<◌, Bool, true, false, cond, List, [], ◌∷◌, Option, Some, None, length, refl, sym, ap, ◌∙◌, arith, ◌==◌, eq-eqb, lt-ltb, inl, inr}
+use Rattle.std.specs.Prelude.{nat_lt}
 use Rattle.std.specs.Map.{lookup}
 use Rattle.std.proofs.lemmas.Bool.{and_from, cases_lt}
 use Rattle.chem_model.specs.declared.name.Loc.{Loc}
@@ -10,9 +10,9 @@ use Rattle.chem_model.specs.Each.{Each}
 use Rattle.chem_model.specs.Solution.{Standing, is_there, host_of, or_itself, same_loc}
 use Rattle.chem_model.specs.Numbered.{standing}
 use Rattle.chem_model.specs.Opening.{root_of}
-use Rattle.chem_model.specs.Sound.{IsSound, IsRoot, IsHosted}
+use Rattle.chem_model.specs.Sound.{IsSound, IsHosted}
 use Rattle.loc_tree.specs.declared.tree.Spot.{Spot}
-use Rattle.loc_tree.specs.Tree.{Tree, Entries, spot, number_in, is_pair_of, is_root}
+use Rattle.loc_tree.specs.Tree.{Tree, spot, number_in, is_pair_of, is_root}
 use Rattle.loc_tree.specs.Places.{host_in, standing_in, places_in, IsTree, IsTreeOf}
 use Rattle.loc_tree.specs.Laws.{spot_of, entries_of, tree_of, SoundHasTree, RootsAreSites}
 use Rattle.loc_tree.proofs.Spots.{same_loc_is, same_loc_sym, root_is}

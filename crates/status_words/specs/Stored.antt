@@ -1,5 +1,6 @@
 -- What a set keeps of its words. No public contract cites it.
-use Rattle.std.specs.Prelude.{◌≡◌, ℕ, zero, suc, ◌+◌, ◌^◌, ◌<◌, ◌≤◌, Bool, false, List, [], ◌∷◌, length, slice_index}
+use Rattle.std.specs.Prelude.{◌≡◌, ℕ, zero, suc, ◌+◌, ◌^◌, ◌<◌, ◌≤◌, Bool, false, List, [], ◌∷◌}
+use Rattle.std.specs.Prelude.{length, slice_index}
 use Rattle.status_words.specs.Words.{has_bit, number_of_words}
 
 -- whether each of so many numbers from this one on is in the set

@@ -1,5 +1,6 @@
 ghost use Rattle.std.specs.Prelude.{◌≡◌, ℕ, ◌++◌, ◌∷◌, [], ◌<◌, ◌↔◌, ◌+◌, ◌*◌, ◌/◌, true, false};
-ghost use Rattle.std.specs.Prelude.{length, slice_set, replicate, IfSome, IfNone, IfOk, OnOk, OnErr, IsTrue};
+ghost use Rattle.std.specs.Prelude.{length, slice_set, replicate, IfSome, IfNone};
+ghost use Rattle.std.specs.Prelude.{IfOk, OnOk, OnErr, IsTrue};
 ghost use Rattle.status_words.specs.Words.{has_bit, number_of_words, Covers, NoneFrom, IsNext};
 ghost use Rattle.status_words.specs.Stored.{AreWords};
 
@@ -45,7 +46,7 @@ impl Status {
     pub fn with_bits(alloc: Global, bits: u32) -> Result<Status, Memory>
         ensures { IfOk result (λ status. status ≡ replicate bits false) }
     {
-        let count = (bits as usize + 63) / 64;
+        let count = (bits as usize).div_ceil(64);
         let words = vec![in alloc; 0; count]?;
         Ok(Status { bits, words })
     }
@@ -57,7 +58,8 @@ impl Status {
         self.bits
     }
 
-    /// Makes the size larger by one. The new number isn't in the set.
+    /// Makes the size larger by one. The new number isn't in the set. A size of 2^32 - 1 grows no
+    /// more: that is answered as want of memory.
     pub fn push(&mut self, _alloc: Global) -> Result<(), Memory>
         ensures ok { OnOk result (self.new ≡ self.old ++ false ∷ []) }
         ensures err { OnErr result (self.new ≡ self.old) }
@@ -104,7 +106,7 @@ impl Status {
         Some(from + word.trailing_zeros())
     }
 
-    /// The least number of the set from this one on.
+    /// The least number of the set from this one on; `None` where there is none.
     pub fn next(&self, from: u32) -> Option<u32>
         ensures none { IfNone result (NoneFrom self.now from (length self.now)) }
         ensures some { IfSome result (λ i. IsNext self.now from i) }
@@ -121,7 +123,7 @@ impl Status {
         None
     }
 
-    /// Whether every number of the mask is in the set.
+    /// Whether every number of the mask, which is as many words as the set's, is in the set.
     pub fn covers(&self, mask: &[u64]) -> bool
         requires { length mask.now ≡ number_of_words (length self.now) }
         ensures { IsTrue result ↔ Covers self.now mask.now }
