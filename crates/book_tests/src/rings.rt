@@ -31,8 +31,9 @@ fn the_ring_of_3(rt: HostRuntime) -> Result<(), Fail> {
     expect_text(&rt, rt.alloc(), 3, RING_OF_3)
 }
 
-/// 15 bytes for the declaration, 10 times 78 and 54 times 88 for the lines of sites of one digit and of two, 38 for the
-/// agent without its 63 rules, 29 for each of these without its numbers, and 4 times 117 for their digits.
+/// 15 bytes for the declaration, 10 times 78 and 54 times 88 for the lines of sites of one digit
+/// and of two, 38 for the agent without its 63 rules, 29 for each of these without its numbers, and
+/// 4 times 117 for their digits.
 #[test]
 fn the_length_of_the_ring_of_64(rt: HostRuntime) -> Result<(), Fail> {
     let text = ring_text(rt.alloc(), 64)?;

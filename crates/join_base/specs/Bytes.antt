@@ -1,5 +1,6 @@
 -- What calls do to the bytes that a source has left and a sink holds, where those are told.
-use Rattle.std.specs.Prelude.{◌≡◌, ℕ, ◌≤◌, ◌<◌, List, [], ◌++◌, length, Option, None, Some, Result, IfOk, ◌↔◌}
+use Rattle.std.specs.Prelude.{◌≡◌, ℕ, ◌≤◌, ◌<◌, List, [], ◌++◌, length}
+use Rattle.std.specs.Prelude.{Option, None, Some, Result, IfOk, ◌↔◌}
 use Rattle.std.specs.Io.KnownBytes.{Appends, Consumes}
 
 -- where the bytes left are told, a read gives 0 bytes exactly where none are left

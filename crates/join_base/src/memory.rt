@@ -1,9 +1,12 @@
 // Sources and sinks in memory, which fail where they are told to.
-ghost use Rattle.std.specs.Prelude.{◌≡◌, ◌-◌, ◌<◌, ◌≤◌, ◌++◌, [], length, take, drop, min, Some, Contains, IsTrue, ◌↔◌, ◌⊎◌, IfOk, OnErr, IsErr};
+ghost use Rattle.std.specs.Prelude.{◌≡◌, ◌<◌, ◌≤◌, ◌++◌, length, take, drop, Some};
+ghost use Rattle.std.specs.Prelude.{Contains, IsTrue, ◌↔◌, IfOk, OnErr, IsErr};
 ghost use Rattle.std.specs.Io.{ReadsAtMost};
 ghost use Rattle.std.specs.Io.KnownBytes.{ReadConsumes, WriteAppends};
 ghost use Rattle.join_base.specs.Bytes.{EndsAsTold, AcceptsSome};
 ghost use Rattle.join_base.specs.Counts.{one_more, Rose};
+ghost use Rattle.join_base.specs.States.{new_source, source_failed, source_gave, given_count};
+ghost use Rattle.join_base.specs.States.{new_sink, sink_failed, sink_took, taken_count, IsToFail};
 
 use crate::fault::Failed;
 use crate::sink::Sink;
@@ -30,7 +33,13 @@ impl Model for MemSource {
 
     ghost Value = { SourceState };
 
-    ghost view = { λ s. record { left = drop s.at s.bytes; piece = s.piece; fails = s.fails; calls = s.calls; faults = s.faults } };
+    ghost view = { λ s. record {
+      left = drop s.at s.bytes;
+      piece = s.piece;
+      fails = s.fails;
+      calls = s.calls;
+      faults = s.faults;
+    } };
 
     ghost invariant = { λ s. (s.at ≤ length s.bytes) × (0 < s.piece) };
 }
@@ -40,7 +49,7 @@ impl MemSource {
     /// from 1, are in `fails` fail.
     pub fn new(bytes: Text, piece: u32, fails: Nums) -> MemSource
         requires { 0 < piece }
-        ensures { result ≡ record { left = bytes; piece = piece; fails = fails; calls = 0; faults = 0 } }
+        ensures { result ≡ new_source bytes piece fails }
     {
         MemSource {
             bytes,
@@ -68,13 +77,13 @@ impl Source for MemSource {
 
         // Only the calls that are to fail do, and nothing but the counts changes then.
         ensures fails { IsErr result ↔ Contains self.old.fails (one_more self.old.calls) }
-        ensures failed { OnErr result (self.new ≡ record self.old { calls = one_more self.old.calls; faults = one_more self.old.faults }) }
+        ensures failed { OnErr result (self.new ≡ source_failed self.old) }
         ensures untouched { OnErr result (buffer.new ≡ buffer.old) }
 
         // Each other call gives as many bytes as it can.
-        ensures count { IfOk result (λ n. n ≡ min (min self.old.piece (length buffer.old)) (length self.old.left)) }
+        ensures count { IfOk result (λ n. n ≡ given_count self.old (length buffer.old)) }
         ensures given { IfOk result (λ n. buffer.new ≡ take n self.old.left ++ drop n buffer.old) }
-        ensures next { IfOk result (λ n. self.new ≡ record self.old { left = drop n self.old.left; calls = one_more self.old.calls }) }
+        ensures next { IfOk result (λ n. self.new ≡ source_gave n self.old) }
     {
         self.calls = self.calls.saturating_add(1);
         if is_listed(self.fails.as_slice(), self.calls) {
@@ -113,9 +122,17 @@ impl Model for MemSink {
 
     ghost Value = { SinkState };
 
-    ghost view = { λ s. record { held = s.bytes.items; room = s.room; piece = s.piece; fails = s.fails; calls = s.calls; faults = s.faults } };
+    ghost view = { λ s. record {
+      held = s.bytes.items;
+      room = s.room;
+      piece = s.piece;
+      fails = s.fails;
+      calls = s.calls;
+      faults = s.faults;
+    } };
 
-    ghost invariant = { λ s. (vec_len s.bytes ≤ s.room) × (s.room ≤ vec_capacity s.bytes) × (0 < s.piece) };
+    ghost invariant = { λ s.
+        (vec_len s.bytes ≤ s.room) × (s.room ≤ vec_capacity s.bytes) × (0 < s.piece) };
 }
 
 impl MemSink {
@@ -123,7 +140,7 @@ impl MemSink {
     /// the calls whose numbers, from 1, are in `fails`. All its memory is taken here.
     pub fn new(alloc: Global, room: u32, piece: u32, fails: Nums) -> Result<MemSink, Memory>
         requires { 0 < piece }
-        ensures { IfOk result (λ sink. sink ≡ record { held = []; room = room; piece = piece; fails = fails; calls = 0; faults = 0 }) }
+        ensures { IfOk result (λ sink. sink ≡ new_sink room piece fails) }
     {
         Ok(MemSink {
             bytes: Vec::with_capacity(alloc, room as usize)?,
@@ -156,12 +173,12 @@ impl Sink for MemSink {
         ensures cause { OnErr result (Rose self.old.faults self.new.faults) }
 
         // A call fails where it is to, and where no room is left. Only the counts change then.
-        ensures fails { IsErr result ↔ (Contains self.old.fails (one_more self.old.calls) ⊎ (self.old.room ≤ length self.old.held)) }
-        ensures failed { OnErr result (self.new ≡ record self.old { calls = one_more self.old.calls; faults = one_more self.old.faults }) }
+        ensures fails { IsErr result ↔ IsToFail self.old }
+        ensures failed { OnErr result (self.new ≡ sink_failed self.old) }
 
         // Each other call takes as many bytes as it can.
-        ensures count { IfOk result (λ n. n ≡ min (min self.old.piece (length piece.now)) (self.old.room - length self.old.held)) }
-        ensures next { IfOk result (λ n. self.new ≡ record self.old { held = self.old.held ++ take n piece.now; calls = one_more self.old.calls }) }
+        ensures count { IfOk result (λ n. n ≡ taken_count self.old (length piece.now)) }
+        ensures next { IfOk result (λ n. self.new ≡ sink_took n piece.now self.old) }
     {
         self.calls = self.calls.saturating_add(1);
         let left = self.room as usize - self.bytes.len();

@@ -42,12 +42,16 @@ pub fn read_all<S: Source>(alloc: Global, source: &mut S, limit: u32) -> Result<
     ensures short { IfOk result (λ text. length text ≤ limit) }
 
     // `TooLong` comes after one byte more than the limit, and each other refusal before that.
-    ensures too_long { result ≡ Err ReadEnd.TooLong → TakesCount (S.left source.old) (S.left source.new) (limit + 1) }
-    ensures read_fault { result ≡ Err ReadEnd.ReadFault → TakesAtMost (S.left source.old) (S.left source.new) limit }
-    ensures memory { result ≡ Err ReadEnd.Memory → TakesAtMost (S.left source.old) (S.left source.new) limit }
+    ensures too_long { result ≡ Err ReadEnd.TooLong →
+        TakesCount (S.left source.old) (S.left source.new) (limit + 1) }
+    ensures read_fault { result ≡ Err ReadEnd.ReadFault →
+        TakesAtMost (S.left source.old) (S.left source.new) limit }
+    ensures memory { result ≡ Err ReadEnd.Memory →
+        TakesAtMost (S.left source.old) (S.left source.new) limit }
 
     ensures later { S.faults source.old ≤ S.faults source.new }
-    ensures cause { result ≡ Err ReadEnd.ReadFault → Rose (S.faults source.old) (S.faults source.new) }
+    ensures cause { result ≡ Err ReadEnd.ReadFault →
+        Rose (S.faults source.old) (S.faults source.new) }
 {
     let most = limit as usize;
     let mut text = Vec::new(alloc);

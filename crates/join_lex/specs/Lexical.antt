@@ -1,5 +1,7 @@
 -- What tokens stand for a text, and what its first lexical fault is.
-use Rattle.std.specs.Prelude.{◌≡◌, ◌≢◌, ◌⊎◌, ℕ, ◌+◌, ◌-◌, ◌≤◌, ◌<◌, Bool, false, IsTrue, List, [], ◌∷◌, ◌++◌, length, take, drop, Result, Err}
+use Rattle.std.specs.Prelude.{◌≡◌, ◌≢◌, ◌⊎◌, ℕ, ◌+◌, ◌-◌, ◌≤◌, ◌<◌, Bool, false, IsTrue}
+use Rattle.std.specs.Prelude.{List, [], ◌∷◌, ◌++◌, length, take, drop, Result, Ok, Err}
+use Rattle.std.specs.List.{All}
 use Rattle.join_base.specs.declared.fault.Kind.{Kind}
 use Rattle.join_base.specs.declared.fault.Kind.TheVariants as fault_kind
 use Rattle.join_base.specs.declared.fault.Front.{Front}
@@ -7,7 +9,8 @@ use Rattle.join_base.specs.declared.fault.Front.TheVariants as front
 use Rattle.join_lex.specs.declared.token.Kind2.{Kind2}
 use Rattle.join_lex.specs.declared.token.Kind2.TheVariants as kind
 use Rattle.join_lex.specs.declared.token.Token.{Token}
-use Rattle.join_lex.specs.Spelling.{Version, is_blank, is_hash, in_line, is_digit, in_word, sign_bytes, key_bytes, value_of, IsRun, IsAmong, IsIdentifier}
+use Rattle.join_lex.specs.Spelling.{Version, is_blank, is_hash, in_line, is_digit, in_word}
+use Rattle.join_lex.specs.Spelling.{sign_bytes, key_bytes, value_of, IsRun, IsAmong, IsIdentifier}
 use Rattle.join_lex.specs.Tokens.{TokensOfText}
 
 -- a piece of a text: a blank or a whole comment, or a token with its spelling
@@ -19,16 +22,20 @@ abbrev pub bytes_of : Piece → List ℕ
 bytes_of (Gap bytes) = bytes
 bytes_of (Word k word) = word
 
--- A run that ends before this rest could not be longer: the rest is empty, or its first byte doesn't pass.
+-- A run that ends before this rest could not be longer: the rest is empty, or its first byte
+-- doesn't pass.
 abbrev pub Stops : (ℕ → Bool) → List ℕ → Type 0
 Stops f [] = Unit {0}
 Stops f (b ∷ bs) = f b ≡ false
 
 -- The word before this rest is the spelling of such a token, and could not be longer.
 abbrev pub Spells : Version → Kind2 → List ℕ → List ℕ → Type 0
-Spells version (kind.Ident name) word rest = (name ≡ word) × IsIdentifier version word × Stops in_word rest
-Spells version (kind.Number n) word rest = (n ≡ value_of word) × IsRun is_digit is_digit word × Stops is_digit rest
-Spells version (kind.Key k) word rest = (word ≡ key_bytes k) × IsAmong version.keywords k × Stops in_word rest
+Spells version (kind.Ident name) word rest =
+    (name ≡ word) × IsIdentifier version word × Stops in_word rest
+Spells version (kind.Number n) word rest =
+    (n ≡ value_of word) × IsRun is_digit is_digit word × Stops is_digit rest
+Spells version (kind.Key k) word rest =
+    (word ≡ key_bytes k) × IsAmong version.keywords k × Stops in_word rest
 Spells version (kind.Sign s) word rest = word ≡ sign_bytes s
 
 -- a blank
@@ -56,14 +63,16 @@ IsSmall version (Word (kind.Sign s) word) = Unit {0}
 -- The text is these pieces in order, and the rest.
 abbrev pub Splits : Version → List Piece → List ℕ → List ℕ → Type 0
 Splits version [] text rest = text ≡ rest
-Splits version (p ∷ ps) text rest = (more : List ℕ) × Begins version p text more × IsSmall version p × Splits version ps more rest
+Splits version (p ∷ ps) text rest =
+    (more : List ℕ) × Begins version p text more × IsSmall version p × Splits version ps more rest
 
 -- the tokens among pieces of which the first stands at this place
 abbrev pub tokens_at : ℕ → List Piece → List Token
 tokens_at place [] = []
 tokens_at place (Gap bytes ∷ ps) = tokens_at (place + length bytes) ps
 tokens_at place (Word k word ∷ ps) =
-    record { kind = k; span = record { from = place; upto = place + length word } } ∷ tokens_at (place + length word) ps
+    record { kind = k; span = record { from = place; upto = place + length word } }
+    ∷ tokens_at (place + length word) ps
 
 -- The tokens stand for the text: it is pieces, and these are the tokens among them.
 pub record StandFor (version : Version) (tokens : List Token) (text : List ℕ) : Type 0 where
@@ -80,7 +89,13 @@ pub record AreTokensOf (version : Version) (t : TokensOfText) (text : List ℕ) 
 -- The bytes of the token's span are its spelling, and it could not be longer.
 abbrev pub IsSpelledAt : Version → List ℕ → Token → Type 0
 IsSpelledAt version text token =
-    Spells version token.kind (take (token.span.upto - token.span.from) (drop token.span.from text)) (drop token.span.upto text)
+    Spells version token.kind
+    (take (token.span.upto - token.span.from) (drop token.span.from text))
+    (drop token.span.upto text)
+
+-- Where these are the tokens of the text, each span holds its token's spelling.
+abbrev pub HoldSpellings : Version → List ℕ → TokensOfText → Type 0
+HoldSpellings version text t = AreTokensOf version t text → All (IsSpelledAt version text) t.list
 
 -- At the front of the rest stands a byte that begins neither blank, comment nor token.
 abbrev pub NoToken : Version → List ℕ → Type 0
@@ -89,17 +104,20 @@ NoToken version rest = (rest ≢ []) × ((p : Piece) (more : List ℕ) → Begin
 -- At the front of the rest stands a number above the bound.
 abbrev pub LargeNumber : Version → List ℕ → Type 0
 LargeNumber version rest =
-    (n : ℕ) × (word : List ℕ) × (more : List ℕ) × Begins version (Word (kind.Number n) word) rest more × (version.largest < n)
+    (n : ℕ) × (word : List ℕ) × (more : List ℕ)
+    × Begins version (Word (kind.Number n) word) rest more × (version.largest < n)
 
 -- Pieces stand before this place, and such a rest begins at it.
-pub record BreaksAt (version : Version) (Bad : List ℕ → Type 0) (place : ℕ) (text : List ℕ) : Type 0 where
+pub record BreaksAt (version : Version) (Bad : List ℕ → Type 0) (place : ℕ)
+    (text : List ℕ) : Type 0 where
   pub pieces : List Piece
   pub rest : List ℕ
   pub split : Splits version pieces text rest
   pub bad : Bad rest
   pub place_is : place + length rest ≡ length text
 
--- a lexical fault: a text that is too long, a byte that begins no token, or a number that is too large
+-- a lexical fault: a text that is too long, a byte that begins no token, or a number that is too
+-- large
 pub data Fault : Type 0 where
   too_long : Fault
   no_token : Fault
@@ -108,8 +126,10 @@ pub data Fault : Type 0 where
 -- The first lexical fault of the text is this one, at this place.
 abbrev pub IsFirstFault : Version → Fault → ℕ → List ℕ → Type 0
 IsFirstFault version too_long place text = (1048576 < length text) × (place ≡ 1048576)
-IsFirstFault version no_token place text = (length text ≤ 1048576) × BreaksAt version (NoToken version) place text
-IsFirstFault version large_number place text = (length text ≤ 1048576) × BreaksAt version (LargeNumber version) place text
+IsFirstFault version no_token place text =
+    (length text ≤ 1048576) × BreaksAt version (NoToken version) place text
+IsFirstFault version large_number place text =
+    (length text ≤ 1048576) × BreaksAt version (LargeNumber version) place text
 
 abbrev pub kind_of : Fault → Kind
 kind_of too_long = fault_kind.Lex1
@@ -118,20 +138,34 @@ kind_of large_number = fault_kind.Lex3
 
 -- The error names the first lexical fault of the text; want of memory names none.
 abbrev pub NamesFault : Version → Front → List ℕ → Type 0
-NamesFault version (front.Refused k place) text = (fault : Fault) × (k ≡ kind_of fault) × IsFirstFault version fault place text
+NamesFault version (front.Refused k place) text =
+    (fault : Fault) × (k ≡ kind_of fault) × IsFirstFault version fault place text
 NamesFault version front.Memory text = Unit {0}
 
 -- The result is this answer, or want of memory.
 abbrev pub IsOrMemory : {T : Type 0} → Result T Front → Result T Front → Type 0
 IsOrMemory answer result = (result ≡ answer) ⊎ (result ≡ Err front.Memory)
 
+-- The tokens of the text are answered where it has them, and its first fault where it has one, each
+-- but for want of memory.
+abbrev pub AnswersTokens : Version → List ℕ → Result TokensOfText Front → Type 0
+AnswersTokens version text result =
+    (t : TokensOfText) → AreTokensOf version t text → IsOrMemory (Ok t) result
+
+abbrev pub AnswersFault : Version → List ℕ → Result TokensOfText Front → Type 0
+AnswersFault version text result =
+    (fault : Fault) (place : ℕ) → IsFirstFault version fault place text
+    → IsOrMemory (Err (front.Refused (kind_of fault) place)) result
+
 -- A text has one list of tokens, or one first fault and its place, and never both.
 pub record HasOneOutcome (version : Version) (text : List ℕ) : Type 0 where
   pub some :
       ((t : TokensOfText) × AreTokensOf version t text) ⊎
       ((fault : Fault) × (place : ℕ) × IsFirstFault version fault place text)
-  pub one_list : (t u : TokensOfText) → AreTokensOf version t text → AreTokensOf version u text → t ≡ u
-  pub not_both : (t : TokensOfText) (fault : Fault) (place : ℕ) → AreTokensOf version t text → IsFirstFault version fault place text → ⊥
-  pub one_fault :
-      (one other : Fault) (place elsewhere : ℕ) → IsFirstFault version one place text → IsFirstFault version other elsewhere text →
-      (one ≡ other) × (place ≡ elsewhere)
+  pub one_list : (t u : TokensOfText)
+      → AreTokensOf version t text → AreTokensOf version u text → t ≡ u
+  pub not_both : (t : TokensOfText) (fault : Fault) (place : ℕ)
+      → AreTokensOf version t text → IsFirstFault version fault place text → ⊥
+  pub one_fault : (one other : Fault) (place elsewhere : ℕ)
+      → IsFirstFault version one place text → IsFirstFault version other elsewhere text
+      → (one ≡ other) × (place ≡ elsewhere)

@@ -1,5 +1,7 @@
--- The first piece of a text, computed as the private functions do; `proofs/ScanLaws` has that it is the piece with which the text begins.
-use Rattle.std.specs.Prelude.{◌≡◌, ℕ, ◌==◌, nat_le, List, [], ◌∷◌, take, Result, Ok, Err, Option, Some, None, if◌then◌else◌, slice_index}
+-- The first piece of a text, computed as the private functions do; `proofs/ScanLaws` has that it is
+-- the piece with which the text begins.
+use Rattle.std.specs.Prelude.{◌≡◌, ℕ, ◌==◌, nat_le, List, [], ◌∷◌, take, Result, Ok}
+use Rattle.std.specs.Prelude.{Err, Option, Some, None, if◌then◌else◌, slice_index}
 use Rattle.std.specs.Str.{bytes_eq}
 use Rattle.std.specs.List.{take_while}
 use Rattle.join_base.specs.declared.fault.Kind.{Kind}
@@ -11,7 +13,8 @@ use Rattle.join_lex.specs.declared.token.Sign.{Sign}
 use Rattle.join_lex.specs.declared.token.Sign.TheVariants as sign
 use Rattle.join_lex.specs.declared.token.Kind2.{Kind2}
 use Rattle.join_lex.specs.declared.token.Kind2.TheVariants as kind
-use Rattle.join_lex.specs.Spelling.{Version, key_bytes, is_blank, is_lower, in_word, is_digit, in_line, value_of}
+use Rattle.join_lex.specs.Spelling.{Version, key_bytes, is_blank, is_lower}
+use Rattle.join_lex.specs.Spelling.{in_word, is_digit, in_line, value_of}
 use Rattle.join_lex.specs.Lexical.{Piece, Gap, Word}
 
 -- the keyword that a word is
@@ -36,7 +39,8 @@ one_sign b =
 abbrev pub sign_at : List ℕ → Option (Sign × ℕ)
 sign_at [] = None
 sign_at (b ∷ []) = one_sign b
-sign_at (b ∷ c ∷ rest) = if b == 61 then (if c == 62 then Some (sign.Arrow, 2) else None) else one_sign b
+sign_at (b ∷ c ∷ rest) =
+    if b == 61 then (if c == 62 then Some (sign.Arrow, 2) else None) else one_sign b
 
 abbrev pub word_kind : List ℕ → Option Key → Kind2
 word_kind word (Some k) = kind.Key k
@@ -50,7 +54,9 @@ sign_piece text None = Err Lex2
 sign_piece text (Some s) = Ok (Word (kind.Sign s.0) (take s.1 text))
 
 abbrev pub number_piece : Version → List ℕ → Result Piece Kind
-number_piece version word = if nat_le (value_of word) version.largest then Ok (Word (kind.Number (value_of word)) word) else Err Lex3
+number_piece version word =
+    if nat_le (value_of word) version.largest then Ok (Word (kind.Number (value_of word)) word)
+    else Err Lex3
 
 abbrev pub scan_from : Version → ℕ → List ℕ → Result Piece Kind
 scan_from version b text =
@@ -70,10 +76,12 @@ piece_of text (Some k) len = Word k (take len text)
 
 -- The scan of the text, which begins at this place, ends in this error.
 abbrev pub ScanFails : Version → ℕ → List ℕ → Front → Type 0
-ScanFails version place text (front.Refused k where_at) = (where_at ≡ place) × (scan version text ≡ Err k)
+ScanFails version place text (front.Refused k where_at) =
+    (where_at ≡ place) × (scan version text ≡ Err k)
 ScanFails version place text front.Memory = Unit {0}
 
--- The scan of the text, which begins at this place, answers this: the kind of a token and how many bytes the piece has.
+-- The scan of the text, which begins at this place, answers this: the kind of a token and how many
+-- bytes the piece has.
 abbrev pub Scans : Version → ℕ → List ℕ → Result (Option Kind2 × ℕ) Front → Type 0
 Scans version place text (Ok found) = scan version text ≡ Ok (piece_of text found.0 found.1)
 Scans version place text (Err e) = ScanFails version place text e

@@ -1,5 +1,6 @@
 -- How keywords, signs, identifiers and numbers are spelled.
-use Rattle.std.specs.Prelude.{◌≡◌, ◌≢◌, ◌⊎◌, ℕ, ◌+◌, ◌*◌, ◌-◌, ◌≤◌, ◌||◌, ◌&&◌, ◌==◌, nat_le, not, Bool, IsTrue, List, [], ◌∷◌, codes, fold}
+use Rattle.std.specs.Prelude.{◌≡◌, ◌≢◌, ◌⊎◌, ℕ, ◌+◌, ◌*◌, ◌-◌, ◌≤◌, ◌||◌, ◌&&◌, ◌==◌}
+use Rattle.std.specs.Prelude.{nat_le, not, Bool, IsTrue, List, [], ◌∷◌, codes, fold}
 use Rattle.join_lex.specs.declared.token.Key.{Key}
 use Rattle.join_lex.specs.declared.token.Key.TheVariants as key
 use Rattle.join_lex.specs.declared.token.Sign.{Sign}
@@ -15,7 +16,9 @@ pub record Version : Type 0 where
 abbrev pub first_version : Version
 first_version = record {
   largest = 255;
-  keywords = key.Observe ∷ key.Site ∷ key.Def ∷ key.Inside ∷ key.And ∷ key.Go ∷ key.Fail ∷ key.Halt ∷ key.Void ∷ [];
+  keywords =
+      key.Observe ∷ key.Site ∷ key.Def ∷ key.Inside ∷ key.And ∷ key.Go ∷ key.Fail ∷ key.Halt
+      ∷ key.Void ∷ [];
 }
 
 -- space, tab, line feed and carriage return
@@ -88,7 +91,8 @@ IsAmong (j ∷ js) k = (k ≡ j) ⊎ IsAmong js k
 
 -- a word that is no keyword of this version
 abbrev pub IsIdentifier : Version → List ℕ → Type 0
-IsIdentifier version word = IsRun is_lower in_word word × ((k : Key) → IsAmong version.keywords k → word ≢ key_bytes k)
+IsIdentifier version word =
+    IsRun is_lower in_word word × ((k : Key) → IsAmong version.keywords k → word ≢ key_bytes k)
 
 -- a token that this version has
 abbrev pub IsOfVersion : Version → Kind2 → Type 0

@@ -1,5 +1,6 @@
 -- What one step of the lexer does, and what stands before a place.
-use Rattle.std.specs.Prelude.{◌≡◌, ℕ, ◌+◌, ◌<◌, ◌≤◌, List, [], ◌∷◌, ◌++◌, length, drop, Result, Ok, Err}
+use Rattle.std.specs.Prelude.{◌≡◌, ℕ, ◌+◌, ◌<◌, ◌≤◌, List, [], ◌∷◌}
+use Rattle.std.specs.Prelude.{◌++◌, length, drop, Result, Ok, Err}
 use Rattle.join_base.specs.declared.fault.Front.{Front}
 use Rattle.join_lex.specs.declared.token.Token.{Token}
 use Rattle.join_lex.specs.Spelling.{Version}
@@ -7,7 +8,8 @@ use Rattle.join_lex.specs.Lexical.{Piece, Begins, IsSmall, Splits, tokens_at, by
 use Rattle.join_lex.specs.Scan.{ScanFails}
 
 -- one piece further
-pub record StepsTo (version : Version) (text : List ℕ) (place upto : ℕ) (old new : List Token) : Type 0 where
+pub record StepsTo (version : Version) (text : List ℕ) (place upto : ℕ)
+    (old new : List Token) : Type 0 where
   pub piece : Piece
   pub begins : Begins version piece (drop place text) (drop upto text)
   pub small : IsSmall version piece
@@ -21,7 +23,8 @@ FailsAt version text place (Ok t) = Unit {0}
 FailsAt version text place (Err e) = ScanFails version place (drop place text) e
 
 -- the pieces up to a place, and the tokens among them
-pub record Passed (version : Version) (text : List ℕ) (place : ℕ) (tokens : List Token) : Type 0 where
+pub record Passed (version : Version) (text : List ℕ) (place : ℕ)
+    (tokens : List Token) : Type 0 where
   pub pieces : List Piece
   pub split : Splits version pieces text (drop place text)
   pub within : place ≤ length text

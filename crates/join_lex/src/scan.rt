@@ -1,7 +1,8 @@
 // The first piece of a text: a blank, a comment or a token.
 ghost use Rattle.std.specs.Prelude.{◌≡◌, ◌≢◌, ◌<◌, ◌≤◌, length, IfOk, IfSome, IfNone, min};
 ghost use Rattle.std.specs.List.{prefix_len};
-ghost use Rattle.join_lex.specs.Spelling.{first_version, in_word, is_digit, in_line, value_of, key_bytes};
+ghost use Rattle.join_lex.specs.Spelling.{first_version, in_word, is_digit};
+ghost use Rattle.join_lex.specs.Spelling.{in_line, value_of, key_bytes};
 ghost use Rattle.join_lex.specs.Scan.{sign_at, Scans};
 ghost use Rattle.join_lex.specs.declared.token.Key.{Key};
 
@@ -94,8 +95,8 @@ fn sign_of(bytes: &[u8]) -> Option<(Sign, usize)>
     }
 }
 
-/// The first piece of a text that isn't empty: what token it is, where it is one, and how many bytes it has.
-/// `place` is where the text stands; a fault is answered at it.
+/// The first piece of a text that isn't empty: what token it is, where it is one, and how many
+/// bytes it has. `place` is where the text stands; a fault is answered at it.
 pub fn scan(alloc: Global, text: &[u8], place: u32) -> Result<(Option<Kind2>, usize), Front>
     requires { 0 < length text.now }
     ensures scanned { Scans first_version place text.now result }

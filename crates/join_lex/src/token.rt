@@ -111,8 +111,9 @@ pub fn copy_tokens(alloc: Global, list: &TokenList) -> Result<TokenList, Memory>
 
 /// The tokens of a text, in order, and how many bytes the text has.
 ///
-/// Each such list keeps the facts of `AreTokens`: there are at most 1,048,576 tokens, their spans rise and end within the text,
-/// each identifier is one, and numbers are at most 255. Whoever writes one proves them, and whoever reads a field knows them.
+/// Each such list keeps the facts of `AreTokens`: there are at most 1,048,576 tokens, their spans
+/// rise and end within the text, each identifier is one, and numbers are at most 255. Whoever
+/// writes one proves them, and whoever reads a field knows them.
 #[derive(Drop)]
 pub struct Tokens {
     pub list: TokenList,

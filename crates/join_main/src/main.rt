@@ -1,4 +1,5 @@
-//! Runs a program of the distributed join calculus: reads its text from standard input and prints what it shows.
+//! Runs a program of the distributed join calculus: reads its text from standard input and prints
+//! what it shows.
 #![tactic(auto)]
 
 use join_base::{StdSink, StdSource};
@@ -6,7 +7,8 @@ use join_top::{OpenGate, run_join};
 use std::process::ExitCode;
 use std::{env, io};
 
-/// The status and the line for words that are no line. A word that isn't text never reaches the top call.
+/// The status and the line for words that are no line. A word that isn't text never reaches the top
+/// call.
 const USAGE: u8 = 2;
 
 const USAGE_LINE: &str = "usage: join MODE [N] [OPTIONS]";

@@ -1,5 +1,7 @@
--- The parser's twin: one token of lookahead and a stack of what is still expected. Private contracts and proofs cite it alone.
-use Rattle.std.specs.Prelude.{ℕ, ◌+◌, nat_le, nat_lt, not, Bool, true, false, List, [], ◌∷◌, ◌++◌, Option, Some, None, if◌then◌else◌, ◌&&◌, ◌==◌}
+-- The parser's twin: one token of lookahead and a stack of what is still expected. Private
+-- contracts and proofs cite it alone.
+use Rattle.std.specs.Prelude.{ℕ, ◌+◌, nat_le, nat_lt, not, Bool, true, false, List, []}
+use Rattle.std.specs.Prelude.{◌∷◌, ◌++◌, Option, Some, None, if◌then◌else◌, ◌&&◌, ◌==◌}
 use Rattle.join_base.specs.declared.fault.Kind.{Kind}
 use Rattle.join_base.specs.declared.fault.Kind.TheVariants.{Grammar1, Grammar2}
 use Rattle.join_lex.specs.declared.token.Key.{Key}
@@ -10,7 +12,9 @@ use Rattle.join_lex.specs.declared.token.Kind2.{Kind2}
 use Rattle.join_lex.specs.declared.token.Kind2.TheVariants as kind
 use Rattle.join_lex.specs.declared.token.Token.{Token}
 use Rattle.join_parse.specs.declared.bounds.Bounds.{Bounds}
-use Rattle.join_parse.specs.Begins.{Symbol, AName, AZero, ACount, ASite, AKey, ASign, CloseGroup, CloseSquare, EndDef, Program, Sites, Body, Defs, MoreDefs, DefRest, MorePatterns, Names, MoreNames, AProc, MoreProcs}
+use Rattle.join_parse.specs.Begins.{Symbol, AName, AZero, ACount, ASite, AKey, ASign, CloseGroup}
+use Rattle.join_parse.specs.Begins.{CloseSquare, EndDef, Program, Sites, Body, Defs, MoreDefs}
+use Rattle.join_parse.specs.Begins.{DefRest, MorePatterns, Names, MoreNames, AProc, MoreProcs}
 
 abbrev pub key_number : Key → ℕ
 key_number key.Observe = 0
@@ -65,8 +69,8 @@ is_count (kind.Number n) = nat_le n 255
 is_count (kind.Key j) = false
 is_count (kind.Sign t) = false
 
--- A token that is expected is taken, and these are expected in the symbol's place; or the symbol may be nothing, so the next one
--- is looked at; or the token is refused.
+-- A token that is expected is taken, and these are expected in the symbol's place; or the symbol
+-- may be nothing, so the next one is looked at; or the token is refused.
 pub data Move : Type 0 where
   Push : List Symbol → Move
   Pass : Move
@@ -84,22 +88,31 @@ step CloseGroup k = if is_sign sign.ParenRight k then Push [] else No
 step CloseSquare k = if is_sign sign.SquareRight k then Push [] else No
 step EndDef k = Pass
 step Program k =
-    if is_key key.Observe k then Push (AName ∷ ASign sign.Slash ∷ ACount ∷ ASign sign.Semicolon ∷ Program ∷ [])
+    if is_key key.Observe k
+    then Push (AName ∷ ASign sign.Slash ∷ ACount ∷ ASign sign.Semicolon ∷ Program ∷ [])
     else if is_key key.Site k then Push (AName ∷ Body false ∷ Sites ∷ [])
     else No
 step Sites k = if is_key key.Site k then Push (AName ∷ Body false ∷ Sites ∷ []) else Pass
-step (Body within) k = if is_sign sign.SquareLeft k then Push (Defs within ∷ ASign sign.Colon ∷ AProc ∷ CloseSquare ∷ []) else No
-step (Defs within) k = if is_key key.Void k then Push [] else if is_name k then Push (DefRest within ∷ MoreDefs within ∷ []) else No
-step (MoreDefs within) k = if is_key key.And k then Push (AName ∷ DefRest within ∷ MoreDefs within ∷ []) else Pass
+step (Body within) k =
+    if is_sign sign.SquareLeft k
+    then Push (Defs within ∷ ASign sign.Colon ∷ AProc ∷ CloseSquare ∷ []) else No
+step (Defs within) k =
+    if is_key key.Void k then Push []
+    else if is_name k then Push (DefRest within ∷ MoreDefs within ∷ []) else No
+step (MoreDefs within) k =
+    if is_key key.And k then Push (AName ∷ DefRest within ∷ MoreDefs within ∷ []) else Pass
 step (DefRest within) k =
     if is_sign sign.ParenLeft k then Push (Names ∷ MorePatterns ∷ AProc ∷ [])
-    else if not within && is_sign sign.SquareLeft k then Push (Defs true ∷ ASign sign.Colon ∷ AProc ∷ CloseSquare ∷ [])
+    else if not within && is_sign sign.SquareLeft k
+    then Push (Defs true ∷ ASign sign.Colon ∷ AProc ∷ CloseSquare ∷ [])
     else No
 step MorePatterns k =
     if is_sign sign.Arrow k then Push []
     else if is_sign sign.Bar k then Push (AName ∷ ASign sign.ParenLeft ∷ Names ∷ MorePatterns ∷ [])
     else No
-step Names k = if is_sign sign.ParenRight k then Push [] else if is_name k then Push (MoreNames 1 ∷ []) else No
+step Names k =
+    if is_sign sign.ParenRight k then Push []
+    else if is_name k then Push (MoreNames 1 ∷ []) else No
 step (MoreNames n) k =
     if is_sign sign.ParenRight k then Push []
     else if is_sign sign.Comma k && nat_lt n 255 then Push (AName ∷ MoreNames (n + 1) ∷ [])
@@ -108,9 +121,14 @@ step AProc k =
     if is_zero k then Push (MoreProcs ∷ [])
     else if is_name k then Push (ASign sign.ParenLeft ∷ Names ∷ MoreProcs ∷ [])
     else if is_sign sign.ParenLeft k then Push (AProc ∷ CloseGroup ∷ MoreProcs ∷ [])
-    else if is_key key.Halt k then Push (ASign sign.ParenLeft ∷ ASign sign.ParenRight ∷ MoreProcs ∷ [])
-    else if is_key key.Go k then Push (ASign sign.ParenLeft ∷ AName ∷ ASign sign.Comma ∷ AName ∷ ASign sign.ParenRight ∷ MoreProcs ∷ [])
-    else if is_key key.Fail k then Push (ASign sign.ParenLeft ∷ AName ∷ ASign sign.Comma ∷ AName ∷ ASign sign.ParenRight ∷ MoreProcs ∷ [])
+    else if is_key key.Halt k
+    then Push (ASign sign.ParenLeft ∷ ASign sign.ParenRight ∷ MoreProcs ∷ [])
+    else if is_key key.Go k
+    then Push (ASign sign.ParenLeft ∷ AName ∷ ASign sign.Comma ∷ AName
+    ∷ ASign sign.ParenRight ∷ MoreProcs ∷ [])
+    else if is_key key.Fail k
+    then Push (ASign sign.ParenLeft ∷ AName ∷ ASign sign.Comma ∷ AName
+    ∷ ASign sign.ParenRight ∷ MoreProcs ∷ [])
     else if is_key key.Def k then Push (Defs false ∷ AKey key.Inside ∷ AProc ∷ EndDef ∷ [])
     else No
 step MoreProcs k = if is_sign sign.Bar k then Push (AProc ∷ []) else Pass
@@ -156,7 +174,8 @@ pub data Outcome : Type 0 where
 
 abbrev pub next : Bounds → (List Symbol → Outcome) → ℕ → Option (List Symbol) → Outcome
 next b go place None = Stop Grammar1 place
-next b go place (Some stack) = if nat_le (level stack) b.levels then go stack else Stop Grammar2 place
+next b go place (Some stack) =
+    if nat_le (level stack) b.levels then go stack else Stop Grammar2 place
 
 unfoldable pub outcome : Bounds → List Token → List Symbol → Outcome
 outcome b [] stack = if may_end stack then Whole else Stop Grammar1 b.end

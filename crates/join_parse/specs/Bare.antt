@@ -7,7 +7,9 @@ use Rattle.join_parse.specs.declared.word.Word.{Word}
 use Rattle.join_parse.specs.declared.word.PatTree.{PatTree}
 use Rattle.join_parse.specs.declared.word.SeenTree.{SeenTree}
 use Rattle.join_parse.specs.declared.tree.PlaceTree.{PlaceTree}
-use Rattle.join_parse.specs.Source.{Process, Zero, Msg, Go, Fail, Halt, Group, Def, Processes, none, one_more, Definition, Rule, Place, Definitions, no_definition, and_also}
+use Rattle.join_parse.specs.Source.{Process, Zero, Msg, Go, Fail, Halt, Group, Def}
+use Rattle.join_parse.specs.Source.{Processes, none, one_more, Definition, Rule}
+use Rattle.join_parse.specs.Source.{Place, Definitions, no_definition, and_also}
 use Rattle.join_parse.specs.Grammar.{TreeOfText}
 use Rattle.join_parse.specs.Faults.{IsTreeOf}
 use Rattle.join_parse.specs.TreeFacts.{most_levels}
@@ -37,14 +39,20 @@ abbrev mutual
 
   pub bare_definition : Definition → Definition
   bare_definition (Rule pats ps) = Rule (map bare_pattern pats) (bare_processes ps)
-  bare_definition (Place opener name ds ps) = Place 0 (bare_word name) (bare_definitions ds) (bare_processes ps)
+  bare_definition (Place opener name ds ps) =
+      Place 0 (bare_word name) (bare_definitions ds) (bare_processes ps)
 
   pub bare_definitions : Definitions → Definitions
   bare_definitions no_definition = no_definition
   bare_definitions (and_also d ds) = and_also (bare_definition d) (bare_definitions ds)
 
 abbrev pub bare_place : PlaceTree → PlaceTree
-bare_place s = record { opener = 0; name = bare_word s.name; defs = map bare_definition s.defs; body = map bare_process s.body }
+bare_place s = record {
+  opener = 0;
+  name = bare_word s.name;
+  defs = map bare_definition s.defs;
+  body = map bare_process s.body;
+}
 
 abbrev pub bare : TreeOfText → TreeOfText
 bare t = record { seen = map bare_declaration t.seen; sites = map bare_place t.sites }

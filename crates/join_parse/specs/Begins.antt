@@ -32,28 +32,39 @@ pub data Symbol : Type 0 where
 
 -- the rules: a symbol and one of its alternatives
 pub data Alternative : Symbol → List Symbol → Type 0 where
-  observed : Alternative Program (AKey key.Observe ∷ AName ∷ ASign sign.Slash ∷ ACount ∷ ASign sign.Semicolon ∷ Program ∷ [])
+  observed : Alternative Program
+      (AKey key.Observe ∷ AName ∷ ASign sign.Slash ∷ ACount ∷ ASign sign.Semicolon ∷ Program ∷ [])
   first_site : Alternative Program (ASite ∷ AName ∷ Body false ∷ Sites ∷ [])
   last_site : Alternative Sites []
   next_site : Alternative Sites (ASite ∷ AName ∷ Body false ∷ Sites ∷ [])
-  body : (within : Bool) → Alternative (Body within) (ASign sign.SquareLeft ∷ Defs within ∷ ASign sign.Colon ∷ AProc ∷ CloseSquare ∷ [])
+  body : (within : Bool)
+      → Alternative (Body within)
+      (ASign sign.SquareLeft ∷ Defs within ∷ ASign sign.Colon ∷ AProc ∷ CloseSquare ∷ [])
   void : (within : Bool) → Alternative (Defs within) (AKey key.Void ∷ [])
-  first_definition : (within : Bool) → Alternative (Defs within) (AName ∷ DefRest within ∷ MoreDefs within ∷ [])
+  first_definition : (within : Bool)
+      → Alternative (Defs within) (AName ∷ DefRest within ∷ MoreDefs within ∷ [])
   last_definition : (within : Bool) → Alternative (MoreDefs within) []
-  next_definition : (within : Bool) → Alternative (MoreDefs within) (AKey key.And ∷ AName ∷ DefRest within ∷ MoreDefs within ∷ [])
-  rule : (within : Bool) → Alternative (DefRest within) (ASign sign.ParenLeft ∷ Names ∷ MorePatterns ∷ AProc ∷ [])
+  next_definition : (within : Bool)
+      → Alternative (MoreDefs within) (AKey key.And ∷ AName ∷ DefRest within ∷ MoreDefs within ∷ [])
+  rule : (within : Bool)
+      → Alternative (DefRest within) (ASign sign.ParenLeft ∷ Names ∷ MorePatterns ∷ AProc ∷ [])
   place : Alternative (DefRest false) (Body true ∷ [])
   last_pattern : Alternative MorePatterns (ASign sign.Arrow ∷ [])
-  next_pattern : Alternative MorePatterns (ASign sign.Bar ∷ AName ∷ ASign sign.ParenLeft ∷ Names ∷ MorePatterns ∷ [])
+  next_pattern : Alternative MorePatterns
+      (ASign sign.Bar ∷ AName ∷ ASign sign.ParenLeft ∷ Names ∷ MorePatterns ∷ [])
   no_name : Alternative Names (ASign sign.ParenRight ∷ [])
   first_name : Alternative Names (AName ∷ MoreNames 1 ∷ [])
   last_name : (n : ℕ) → Alternative (MoreNames n) (ASign sign.ParenRight ∷ [])
-  next_name : (n : ℕ) → n < 255 → Alternative (MoreNames n) (ASign sign.Comma ∷ AName ∷ MoreNames (n + 1) ∷ [])
+  next_name : (n : ℕ) → n < 255
+      → Alternative (MoreNames n) (ASign sign.Comma ∷ AName ∷ MoreNames (n + 1) ∷ [])
   zero : Alternative AProc (AZero ∷ MoreProcs ∷ [])
   message : Alternative AProc (AName ∷ ASign sign.ParenLeft ∷ Names ∷ MoreProcs ∷ [])
-  go : Alternative AProc (AKey key.Go ∷ ASign sign.ParenLeft ∷ AName ∷ ASign sign.Comma ∷ AName ∷ ASign sign.ParenRight ∷ MoreProcs ∷ [])
-  fail : Alternative AProc (AKey key.Fail ∷ ASign sign.ParenLeft ∷ AName ∷ ASign sign.Comma ∷ AName ∷ ASign sign.ParenRight ∷ MoreProcs ∷ [])
-  halt : Alternative AProc (AKey key.Halt ∷ ASign sign.ParenLeft ∷ ASign sign.ParenRight ∷ MoreProcs ∷ [])
+  go : Alternative AProc (AKey key.Go ∷ ASign sign.ParenLeft ∷ AName ∷ ASign sign.Comma ∷ AName
+      ∷ ASign sign.ParenRight ∷ MoreProcs ∷ [])
+  fail : Alternative AProc (AKey key.Fail ∷ ASign sign.ParenLeft ∷ AName ∷ ASign sign.Comma ∷ AName
+      ∷ ASign sign.ParenRight ∷ MoreProcs ∷ [])
+  halt : Alternative AProc
+      (AKey key.Halt ∷ ASign sign.ParenLeft ∷ ASign sign.ParenRight ∷ MoreProcs ∷ [])
   group : Alternative AProc (ASign sign.ParenLeft ∷ AProc ∷ CloseGroup ∷ MoreProcs ∷ [])
   def_in : Alternative AProc (AKey key.Def ∷ Defs false ∷ AKey key.Inside ∷ AProc ∷ EndDef ∷ [])
   last_process : Alternative MoreProcs []
@@ -71,12 +82,16 @@ pub data StandsFor : Symbol → Terminal → Type 0 where
   group_stands : StandsFor CloseGroup (a_sign sign.ParenRight)
   square_stands : StandsFor CloseSquare (a_sign sign.SquareRight)
 
--- Where the first symbols are expected, in order, these terminals lead to where the second are. The terminals may end at any
--- place in any rule.
+-- Where the first symbols are expected, in order, these terminals lead to where the second are. The
+-- terminals may end at any place in any rule.
 pub data Leads : List Symbol → List Terminal → List Symbol → Type 0 where
   ends : (stack : List Symbol) → Leads stack [] stack
-  takes : (s : Symbol) (t : Terminal) (stack : List Symbol) (ts : List Terminal) (after : List Symbol) → StandsFor s t → Leads stack ts after → Leads (s ∷ stack) (t ∷ ts) after
-  opens : (s : Symbol) (alternative stack : List Symbol) (ts : List Terminal) (after : List Symbol) → Alternative s alternative → Leads (alternative ++ stack) ts after → Leads (s ∷ stack) ts after
+  takes : (s : Symbol) (t : Terminal) (stack : List Symbol) (ts : List Terminal)
+      (after : List Symbol) → StandsFor s t → Leads stack ts after
+      → Leads (s ∷ stack) (t ∷ ts) after
+  opens : (s : Symbol) (alternative stack : List Symbol) (ts : List Terminal) (after : List Symbol)
+      → Alternative s alternative → Leads (alternative ++ stack) ts after
+      → Leads (s ∷ stack) ts after
 
 abbrev pub Begins : List Token → Type 0
 Begins tokens = (after : List Symbol) × Leads (Program ∷ []) (terminals tokens) after
@@ -93,12 +108,16 @@ completed CloseGroup rest = a_sign sign.ParenRight ∷ rest
 completed CloseSquare rest = a_sign sign.SquareRight ∷ rest
 completed EndDef rest = rest
 completed Program rest =
-    a_site 0 ∷ a_name (120 ∷ []) 0 ∷ a_sign sign.SquareLeft ∷ a_key key.Void ∷ a_sign sign.Colon ∷ a_number 0 ∷ a_sign sign.SquareRight ∷ rest
+    a_site 0 ∷ a_name (120 ∷ []) 0 ∷ a_sign sign.SquareLeft ∷ a_key key.Void ∷ a_sign sign.Colon
+    ∷ a_number 0 ∷ a_sign sign.SquareRight ∷ rest
 completed Sites rest = rest
-completed (Body within) rest = a_sign sign.SquareLeft ∷ a_key key.Void ∷ a_sign sign.Colon ∷ a_number 0 ∷ a_sign sign.SquareRight ∷ rest
+completed (Body within) rest =
+    a_sign sign.SquareLeft ∷ a_key key.Void ∷ a_sign sign.Colon ∷ a_number 0
+    ∷ a_sign sign.SquareRight ∷ rest
 completed (Defs within) rest = a_key key.Void ∷ rest
 completed (MoreDefs within) rest = rest
-completed (DefRest within) rest = a_sign sign.ParenLeft ∷ a_sign sign.ParenRight ∷ a_sign sign.Arrow ∷ a_number 0 ∷ rest
+completed (DefRest within) rest =
+    a_sign sign.ParenLeft ∷ a_sign sign.ParenRight ∷ a_sign sign.Arrow ∷ a_number 0 ∷ rest
 completed MorePatterns rest = a_sign sign.Arrow ∷ rest
 completed Names rest = a_sign sign.ParenRight ∷ rest
 completed (MoreNames n) rest = a_sign sign.ParenRight ∷ rest

@@ -3,7 +3,8 @@ use Rattle.std.specs.Prelude.{◌≤◌, ◌+◌, max, List, [], ◌∷◌}
 use Rattle.std.proofs.Common.{arith}
 use denote.Param.Weighed.{most}
 use Rattle.join_parse.specs.declared.tree.ProcNode.{ProcNode}
-use Rattle.join_parse.specs.declared.tree.ProcNode.TheVariants.{Zero, Msg, Go, Fail, Halt, Group, Def}
+use Rattle.join_parse.specs.declared.tree.ProcNode.TheVariants.{Zero, Msg, Go, Fail}
+use Rattle.join_parse.specs.declared.tree.ProcNode.TheVariants.{Halt, Group, Def}
 use Rattle.join_parse.specs.declared.tree.DefNode.{DefNode}
 use Rattle.join_parse.specs.declared.tree.DefNode.TheVariants.{Rule, Place}
 use Rattle.join_parse.specs.Source.{Process, Definition}
@@ -16,7 +17,8 @@ pub most_le-procs_depth : (ps : List Process) → most (λ p. process_depth p + 
 most_le-procs_depth [] = omega arith
 most_le-procs_depth (p ∷ ps) = omega (arith, most_le-procs_depth ps)
 
-pub most_le-defs_depth : (ds : List Definition) → most (λ d. definition_depth d + 1) ds ≤ defs_depth ds
+pub most_le-defs_depth : (ds : List Definition)
+    → most (λ d. definition_depth d + 1) ds ≤ defs_depth ds
 most_le-defs_depth [] = omega arith
 most_le-defs_depth (d ∷ ds) = omega (arith, most_le-defs_depth ds)
 
@@ -29,6 +31,7 @@ depth_le-process (Go b k) = omega arith
 depth_le-process (Fail b k) = omega arith
 depth_le-process Halt = omega arith
 
-pub depth_le-definition : (n : DefNode) → max (deep-DefNode n) 0 ≤ definition_depth (definition_of n)
+pub depth_le-definition : (n : DefNode)
+    → max (deep-DefNode n) 0 ≤ definition_depth (definition_of n)
 depth_le-definition (Rule ps p) = omega (arith, most_le-procs_depth p)
 depth_le-definition (Place p) = omega (arith, most_le-defs_depth p.defs, most_le-procs_depth p.body)

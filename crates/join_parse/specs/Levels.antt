@@ -4,7 +4,9 @@ use Rattle.join_parse.specs.declared.word.Word.{Word}
 use Rattle.join_parse.specs.declared.word.PatTree.{PatTree}
 use Rattle.join_parse.specs.declared.word.SeenTree.{SeenTree}
 use Rattle.join_parse.specs.declared.tree.PlaceTree.{PlaceTree}
-use Rattle.join_parse.specs.Source.{Process, Zero, Msg, Go, Fail, Halt, Group, Def, Processes, none, one_more, Definition, Rule, Place, Definitions, no_definition, and_also, processes, definitions}
+use Rattle.join_parse.specs.Source.{Process, Zero, Msg, Go, Fail, Halt, Group, Def, Processes}
+use Rattle.join_parse.specs.Source.{none, one_more, Definition, Rule, Place, Definitions}
+use Rattle.join_parse.specs.Source.{no_definition, and_also, processes, definitions}
 use Rattle.join_parse.specs.Grammar.{TreeOfText}
 
 -- The parentheses of arguments open no level.
@@ -21,7 +23,8 @@ applied_levels d ws rest = d ∷ d ∷ names_levels d ws rest
 
 abbrev pub more_patterns_levels : ℕ → List PatTree → List ℕ → List ℕ
 more_patterns_levels d [] rest = d ∷ rest
-more_patterns_levels d (p ∷ ps) rest = d ∷ applied_levels d p.params (more_patterns_levels d ps rest)
+more_patterns_levels d (p ∷ ps) rest =
+    d ∷ applied_levels d p.params (more_patterns_levels d ps rest)
 
 abbrev pub patterns_levels : ℕ → List PatTree → List ℕ → List ℕ
 patterns_levels d [] rest = d ∷ rest
@@ -30,8 +33,8 @@ patterns_levels d (p ∷ ps) rest = applied_levels d p.params (more_patterns_lev
 abbrev pub pair_levels : ℕ → List ℕ → List ℕ
 pair_levels d rest = d ∷ d ∷ d ∷ d ∷ d ∷ d ∷ rest
 
--- The `(` of a group, the `[` of a place and `def` open a level. The first two are closed by their bracket, and a `def`'s level
--- ends with its process.
+-- The `(` of a group, the `[` of a place and `def` open a level. The first two are closed by their
+-- bracket, and a `def`'s level ends with its process.
 abbrev mutual
   pub process_levels : Process → ℕ → List ℕ → List ℕ
   process_levels Zero d rest = d ∷ rest
@@ -40,7 +43,8 @@ abbrev mutual
   process_levels (Fail target cont) d rest = pair_levels d rest
   process_levels Halt d rest = d ∷ d ∷ d ∷ rest
   process_levels (Group ps) d rest = (1 + d) ∷ processes_levels ps (1 + d) (d ∷ rest)
-  process_levels (Def ds ps) d rest = (1 + d) ∷ definitions_levels ds (1 + d) ((1 + d) ∷ processes_levels ps (1 + d) rest)
+  process_levels (Def ds ps) d rest =
+      (1 + d) ∷ definitions_levels ds (1 + d) ((1 + d) ∷ processes_levels ps (1 + d) rest)
 
   pub processes_levels : Processes → ℕ → List ℕ → List ℕ
   processes_levels none d rest = rest
@@ -48,19 +52,23 @@ abbrev mutual
 
   pub more_processes_levels : Processes → ℕ → List ℕ → List ℕ
   more_processes_levels none d rest = rest
-  more_processes_levels (one_more p ps) d rest = d ∷ process_levels p d (more_processes_levels ps d rest)
+  more_processes_levels (one_more p ps) d rest =
+      d ∷ process_levels p d (more_processes_levels ps d rest)
 
   pub definition_levels : Definition → ℕ → List ℕ → List ℕ
   definition_levels (Rule pats ps) d rest = patterns_levels d pats (processes_levels ps d rest)
-  definition_levels (Place opener name ds ps) d rest = d ∷ (1 + d) ∷ definitions_levels ds (1 + d) ((1 + d) ∷ processes_levels ps (1 + d) (d ∷ rest))
+  definition_levels (Place opener name ds ps) d rest =
+      d ∷ (1 + d) ∷ definitions_levels ds (1 + d) ((1 + d) ∷ processes_levels ps (1 + d) (d ∷ rest))
 
   pub definitions_levels : Definitions → ℕ → List ℕ → List ℕ
   definitions_levels no_definition d rest = d ∷ rest
-  definitions_levels (and_also e ds) d rest = definition_levels e d (more_definitions_levels ds d rest)
+  definitions_levels (and_also e ds) d rest =
+      definition_levels e d (more_definitions_levels ds d rest)
 
   pub more_definitions_levels : Definitions → ℕ → List ℕ → List ℕ
   more_definitions_levels no_definition d rest = rest
-  more_definitions_levels (and_also e ds) d rest = d ∷ definition_levels e d (more_definitions_levels ds d rest)
+  more_definitions_levels (and_also e ds) d rest =
+      d ∷ definition_levels e d (more_definitions_levels ds d rest)
 
 abbrev pub declarations_levels : List SeenTree → List ℕ → List ℕ
 declarations_levels [] rest = rest
@@ -69,7 +77,10 @@ declarations_levels (d ∷ ds) rest = 0 ∷ 0 ∷ 0 ∷ 0 ∷ 0 ∷ declarations
 -- The `[` of a site opens a level, and its `]` closes it.
 abbrev pub sites_levels : List PlaceTree → List ℕ → List ℕ
 sites_levels [] rest = rest
-sites_levels (s ∷ ss) rest = 0 ∷ 0 ∷ 1 ∷ definitions_levels (definitions s.defs) 1 (1 ∷ processes_levels (processes s.body) 1 (0 ∷ sites_levels ss rest))
+sites_levels (s ∷ ss) rest =
+    0 ∷ 0 ∷ 1
+    ∷ definitions_levels (definitions s.defs) 1
+    (1 ∷ processes_levels (processes s.body) 1 (0 ∷ sites_levels ss rest))
 
 -- the level of each terminal of a tree's sentence
 abbrev pub levels : TreeOfText → List ℕ

@@ -9,6 +9,7 @@ pub mod Grammar
 pub mod Levels
 pub mod Begins
 pub mod Faults
+pub mod Laws
 pub mod Automaton
 pub mod Parsed
 pub mod TreeFacts

@@ -2,7 +2,8 @@
 use Rattle.join_parse.specs.Source.{Process, Definition, processes, definitions}
 use Rattle.join_parse.specs.Source as t
 use Rattle.join_parse.specs.declared.tree.ProcNode.{ProcNode}
-use Rattle.join_parse.specs.declared.tree.ProcNode.TheVariants.{Zero, Msg, Go, Fail, Halt, Group, Def}
+use Rattle.join_parse.specs.declared.tree.ProcNode.TheVariants.{Zero, Msg, Go, Fail}
+use Rattle.join_parse.specs.declared.tree.ProcNode.TheVariants.{Halt, Group, Def}
 use Rattle.join_parse.specs.declared.tree.DefNode.{DefNode}
 use Rattle.join_parse.specs.declared.tree.DefNode.TheVariants.{Rule, Place}
 

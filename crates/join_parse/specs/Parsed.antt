@@ -1,5 +1,7 @@
--- What a part of the parser answers, in the terms of its twin. Private contracts and proofs cite it alone.
-use Rattle.std.specs.Prelude.{Bool, false, ◌≡◌, ℕ, ◌≤◌, ◌<◌, List, [], ◌∷◌, ◌++◌, length, drop, Result, Ok, Err}
+-- What a part of the parser answers, in the terms of its twin. Private contracts and proofs cite it
+-- alone.
+use Rattle.std.specs.Prelude.{Bool, false, ◌≡◌, ℕ, ◌≤◌, ◌<◌, List, []}
+use Rattle.std.specs.Prelude.{◌∷◌, ◌++◌, length, drop, Result, Ok, Err}
 use Rattle.join_base.specs.declared.fault.Front.{Front}
 use Rattle.join_base.specs.declared.fault.Front.TheVariants.{Refused, Memory}
 use Rattle.join_lex.specs.declared.token.Key.{Key}
@@ -11,11 +13,18 @@ use Rattle.join_parse.specs.declared.word.Word.{Word}
 use Rattle.join_parse.specs.declared.word.PatTree.{PatTree}
 use Rattle.join_parse.specs.declared.word.SeenTree.{SeenTree}
 use Rattle.join_parse.specs.declared.tree.PlaceTree.{PlaceTree}
-use Rattle.join_parse.specs.Terminals.{Terminal, a_site, a_sign, terminals, named}
+use Rattle.join_parse.specs.Terminals.{Terminal, a_site, a_key, a_number, a_sign, terminals, named}
+use Rattle.join_parse.specs.Terminals.{key_terminal}
 use Rattle.join_lex.specs.declared.token.Sign.TheVariants as sign
-use Rattle.join_parse.specs.Source.{Process, Processes, one_more, Definition, Definitions, and_also, processes, definitions}
-use Rattle.join_parse.specs.Grammar.{of_process, of_processes, of_definition, of_definitions, more_definitions, of_declarations, of_sites, more_names, names, more_patterns, patterns, IsSome, AreShort, IsProcess, AreProcesses, IsDefinition, AreDefinitions, AreDeclarations, AreSites}
-use Rattle.join_parse.specs.Begins.{Symbol, ASite, AKey, Program}
+use Rattle.join_parse.specs.Source.{Process, Processes, one_more, Definition}
+use Rattle.join_parse.specs.Source.{Definitions, and_also, processes, definitions}
+use Rattle.join_parse.specs.Grammar.{of_process, of_processes, of_definition, of_definitions}
+use Rattle.join_parse.specs.Grammar.{more_definitions, of_declarations, of_sites, more_names}
+use Rattle.join_parse.specs.Grammar.{names, more_patterns, patterns, IsSome, AreShort}
+use Rattle.join_parse.specs.Grammar.{IsProcess, AreProcesses, IsDefinition, AreDefinitions}
+use Rattle.join_parse.specs.Grammar.{AreDeclarations, AreSites}
+use Rattle.join_parse.specs.Begins.{Symbol, ASite, AKey, AName, ACount, ASign}
+use Rattle.join_parse.specs.Begins.{Names, MorePatterns, Body, Sites, Program}
 use Rattle.join_parse.specs.Automaton.{is_key, is_sign, is_name, is_zero, level, Stop, outcome}
 
 -- the terminals from a token on
@@ -49,6 +58,36 @@ abbrev pub key_symbol : Key → Symbol
 key_symbol key.Site = ASite
 key_symbol k = AKey k
 
+-- the keyword that stands here
+abbrev pub key_here : Key → List Token → ℕ → Terminal
+key_here k ts at = key_terminal k (place_of 0 (drop at ts))
+
+-- from one token to another this terminal is all that is read
+abbrev pub SpellsOne : List Token → ℕ → Terminal → ℕ → Type 0
+SpellsOne ts at t upto = terms ts at ≡ t ∷ terms ts upto
+
+-- a join pattern, some of them, and the two names of a request
+abbrev pub a_pattern : List Symbol
+a_pattern = AName ∷ ASign sign.ParenLeft ∷ Names ∷ []
+
+abbrev pub some_patterns : List Symbol
+some_patterns = AName ∷ ASign sign.ParenLeft ∷ Names ∷ MorePatterns ∷ []
+
+abbrev pub a_pair : List Symbol
+a_pair =
+    ASign sign.ParenLeft ∷ AName ∷ ASign sign.Comma ∷ AName ∷ ASign sign.ParenRight ∷ []
+
+-- a declaration, a site, and some sites
+abbrev pub a_declaration : List Symbol
+a_declaration =
+    AKey key.Observe ∷ AName ∷ ASign sign.Slash ∷ ACount ∷ ASign sign.Semicolon ∷ []
+
+abbrev pub a_whole_site : List Symbol
+a_whole_site = ASite ∷ AName ∷ Body false ∷ []
+
+abbrev pub some_sites : List Symbol
+some_sites = ASite ∷ AName ∷ Body false ∷ Sites ∷ []
+
 -- how many levels are open behind what is read
 abbrev pub AtMost : ℕ → ℕ → Type 0
 AtMost limit d = d ≤ limit
@@ -58,19 +97,24 @@ Exactly depth d = d ≡ depth
 
 -- From one token to another these symbols become those, whatever is expected behind them.
 abbrev pub Runs : Bounds → (ℕ → Type 0) → List Token → ℕ → List Symbol → ℕ → List Symbol → Type 0
-Runs b P ts at ss upto more = (stack : List Symbol) → P (level stack) → outcome b (drop at ts) (ss ++ stack) ≡ outcome b (drop upto ts) (more ++ stack)
+Runs b P ts at ss upto more =
+    (stack : List Symbol) → P (level stack)
+    → outcome b (drop at ts) (ss ++ stack) ≡ outcome b (drop upto ts) (more ++ stack)
 
-pub record Reads (b : Bounds) (P : ℕ → Type 0) (ts : List Token) (at : ℕ) (ss : List Symbol) (upto : ℕ) (more : List Symbol) : Type 0 where
+pub record Reads (b : Bounds) (P : ℕ → Type 0) (ts : List Token) (at : ℕ) (ss : List Symbol)
+    (upto : ℕ) (more : List Symbol) : Type 0 where
   pub runs : Runs b P ts at ss upto more
   pub further : at < upto
   pub within : upto ≤ length ts
 
 -- The reading of these symbols stops so, whatever is expected behind them.
 abbrev pub Halts : Bounds → (ℕ → Type 0) → List Token → ℕ → List Symbol → Front → Type 0
-Halts b P ts at ss (Refused kind place) = (stack : List Symbol) → P (level stack) → outcome b (drop at ts) (ss ++ stack) ≡ Stop kind place
+Halts b P ts at ss (Refused kind place) =
+    (stack : List Symbol) → P (level stack) → outcome b (drop at ts) (ss ++ stack) ≡ Stop kind place
 Halts b P ts at ss Memory = Unit {0}
 
-abbrev pub Fails : {T : Type 0} → Bounds → (ℕ → Type 0) → List Token → ℕ → List Symbol → Result T Front → Type 0
+abbrev pub Fails : {T : Type 0} → Bounds → (ℕ → Type 0) → List Token → ℕ → List Symbol
+    → Result T Front → Type 0
 Fails b P ts at ss (Ok x) = Unit {0}
 Fails b P ts at ss (Err e) = Halts b P ts at ss e
 
@@ -81,16 +125,25 @@ IsStop b ts Memory = Unit {0}
 
 -- What was read so far begins a list, whatever comes behind it.
 abbrev pub ListedNames : List Token → ℕ → ℕ → List Word → Type 0
-ListedNames ts at end list = (ws : List Word) (rest : List Terminal) → terms ts end ≡ more_names ws rest → terms ts at ≡ names (list ++ ws) rest
+ListedNames ts at end list =
+    (ws : List Word) (rest : List Terminal) → terms ts end ≡ more_names ws rest
+    → terms ts at ≡ names (list ++ ws) rest
 
 abbrev pub ListedPatterns : List Token → ℕ → ℕ → List PatTree → Type 0
-ListedPatterns ts at end list = (ps : List PatTree) (rest : List Terminal) → AreShort ps → terms ts end ≡ more_patterns ps rest → IsSome (list ++ ps) × AreShort (list ++ ps) × (terms ts at ≡ patterns (list ++ ps) rest)
+ListedPatterns ts at end list =
+    (ps : List PatTree) (rest : List Terminal) → AreShort ps → terms ts end ≡ more_patterns ps rest
+    → IsSome (list ++ ps) × AreShort (list ++ ps) × (terms ts at ≡ patterns (list ++ ps) rest)
 
 abbrev pub ListedDeclarations : List Token → ℕ → ℕ → List SeenTree → Type 0
-ListedDeclarations ts at end list = (ds : List SeenTree) (rest : List Terminal) → AreDeclarations ds → terms ts end ≡ of_declarations ds rest → AreDeclarations (list ++ ds) × (terms ts at ≡ of_declarations (list ++ ds) rest)
+ListedDeclarations ts at end list =
+    (ds : List SeenTree) (rest : List Terminal) → AreDeclarations ds
+    → terms ts end ≡ of_declarations ds rest
+    → AreDeclarations (list ++ ds) × (terms ts at ≡ of_declarations (list ++ ds) rest)
 
 abbrev pub ListedSites : List Token → ℕ → ℕ → List PlaceTree → Type 0
-ListedSites ts at end list = (ss : List PlaceTree) (rest : List Terminal) → AreSites ss → terms ts end ≡ of_sites ss rest → AreSites (list ++ ss) × (terms ts at ≡ of_sites (list ++ ss) rest)
+ListedSites ts at end list =
+    (ss : List PlaceTree) (rest : List Terminal) → AreSites ss → terms ts end ≡ of_sites ss rest
+    → AreSites (list ++ ss) × (terms ts at ≡ of_sites (list ++ ss) rest)
 
 -- the processes, and then others
 abbrev pub joined : List Process → Processes → Processes
@@ -98,7 +151,9 @@ joined [] ps = ps
 joined (p ∷ list) ps = one_more p (joined list ps)
 
 abbrev pub ListedProcesses : List Token → ℕ → ℕ → List Process → Type 0
-ListedProcesses ts at end list = (ps : Processes) (rest : List Terminal) → AreProcesses ps → terms ts end ≡ of_processes ps rest → AreProcesses (joined list ps) × (terms ts at ≡ of_processes (joined list ps) rest)
+ListedProcesses ts at end list =
+    (ps : Processes) (rest : List Terminal) → AreProcesses ps → terms ts end ≡ of_processes ps rest
+    → AreProcesses (joined list ps) × (terms ts at ≡ of_processes (joined list ps) rest)
 
 -- the definitions, and then others
 abbrev pub also : List Definition → Definitions → Definitions
@@ -106,27 +161,42 @@ also [] ds = ds
 also (d ∷ list) ds = and_also d (also list ds)
 
 abbrev pub ListedDefinitions : List Token → ℕ → ℕ → Bool → List Definition → Type 0
-ListedDefinitions ts at end within list = (ds : Definitions) (rest : List Terminal) → AreDefinitions within ds → terms ts end ≡ more_definitions ds rest → AreDefinitions within (also list ds) × (terms ts at ≡ of_definitions (also list ds) rest)
+ListedDefinitions ts at end within list =
+    (ds : Definitions) (rest : List Terminal) → AreDefinitions within ds
+    → terms ts end ≡ more_definitions ds rest
+    → AreDefinitions within (also list ds) × (terms ts at ≡ of_definitions (also list ds) rest)
 
 -- The tokens from one place to another are this part.
+abbrev pub SpellsDeclaration : List Token → ℕ → SeenTree → ℕ → Type 0
+SpellsDeclaration ts at d upto =
+    terms ts at ≡ a_key key.Observe ∷ named d.name ∷ a_sign sign.Slash ∷ a_number d.count
+    ∷ a_sign sign.Semicolon ∷ terms ts upto
+
 abbrev pub SpellsProcess : List Token → ℕ → Process → ℕ → Type 0
 SpellsProcess ts at p upto = IsProcess p × (terms ts at ≡ of_process p (terms ts upto))
 
 abbrev pub SpellsProcesses : List Token → ℕ → List Process → ℕ → Type 0
-SpellsProcesses ts at ps upto = AreProcesses (processes ps) × (terms ts at ≡ of_processes (processes ps) (terms ts upto))
+SpellsProcesses ts at ps upto =
+    AreProcesses (processes ps) × (terms ts at ≡ of_processes (processes ps) (terms ts upto))
 
 abbrev pub SpellsDefinition : List Token → ℕ → Bool → Definition → ℕ → Type 0
-SpellsDefinition ts at within d upto = IsDefinition within d × (terms ts at ≡ of_definition d (terms ts upto))
+SpellsDefinition ts at within d upto =
+    IsDefinition within d × (terms ts at ≡ of_definition d (terms ts upto))
 
 abbrev pub SpellsDefinitions : List Token → ℕ → Bool → List Definition → ℕ → Type 0
-SpellsDefinitions ts at within ds upto = AreDefinitions within (definitions ds) × (terms ts at ≡ of_definitions (definitions ds) (terms ts upto))
+SpellsDefinitions ts at within ds upto =
+    AreDefinitions within (definitions ds)
+    × (terms ts at ≡ of_definitions (definitions ds) (terms ts upto))
 
 abbrev pub SpellsBody : List Token → ℕ → Bool → List Definition → List Process → ℕ → Type 0
 SpellsBody ts at within ds ps upto =
     AreDefinitions within (definitions ds) × AreProcesses (processes ps)
-    × (terms ts at ≡ a_sign sign.SquareLeft ∷ of_definitions (definitions ds) (a_sign sign.Colon ∷ of_processes (processes ps) (a_sign sign.SquareRight ∷ terms ts upto)))
+    × (terms ts at ≡ a_sign sign.SquareLeft ∷ of_definitions (definitions ds)
+    (a_sign sign.Colon ∷ of_processes (processes ps) (a_sign sign.SquareRight ∷ terms ts upto)))
 
 abbrev pub SpellsSite : List Token → ℕ → PlaceTree → ℕ → Type 0
 SpellsSite ts at s upto =
     AreDefinitions false (definitions s.defs) × AreProcesses (processes s.body)
-    × (terms ts at ≡ a_site s.opener ∷ named s.name ∷ a_sign sign.SquareLeft ∷ of_definitions (definitions s.defs) (a_sign sign.Colon ∷ of_processes (processes s.body) (a_sign sign.SquareRight ∷ terms ts upto)))
+    × (terms ts at ≡ a_site s.opener ∷ named s.name ∷ a_sign sign.SquareLeft
+    ∷ of_definitions (definitions s.defs) (a_sign sign.Colon ∷ of_processes (processes s.body)
+    (a_sign sign.SquareRight ∷ terms ts upto)))

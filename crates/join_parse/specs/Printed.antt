@@ -8,8 +8,11 @@ use Rattle.join_parse.specs.declared.word.Word.{Word}
 use Rattle.join_parse.specs.declared.word.PatTree.{PatTree}
 use Rattle.join_parse.specs.declared.word.SeenTree.{SeenTree}
 use Rattle.join_parse.specs.declared.tree.PlaceTree.{PlaceTree}
-use Rattle.join_parse.specs.Source.{Processes, Definitions, no_definition, and_also, processes, definitions}
-use Rattle.join_parse.specs.Grammar.{more_names, names, more_patterns, patterns, of_processes, more_processes, of_definition, of_definitions, more_definitions}
+use Rattle.join_parse.specs.Source.{Processes, Definitions, no_definition}
+use Rattle.join_parse.specs.Source.{and_also, processes, definitions}
+use Rattle.join_parse.specs.Grammar.{more_names, names, more_patterns, patterns}
+use Rattle.join_parse.specs.Grammar.{of_processes, more_processes, of_definition}
+use Rattle.join_parse.specs.Grammar.{of_definitions, more_definitions}
 
 -- how a terminal is spelled; numbers have no leading zeros
 abbrev pub spelling : Terminal → List ℕ
@@ -49,11 +52,16 @@ between true t rest = rest
 between false t rest = t ∷ rest
 
 abbrev pub one_declaration : SeenTree → List Terminal → List Terminal
-one_declaration d rest = a_key key.Observe ∷ named d.name ∷ a_sign sign.Slash ∷ a_number d.count ∷ a_sign sign.Semicolon ∷ rest
+one_declaration d rest =
+    a_key key.Observe ∷ named d.name ∷ a_sign sign.Slash ∷ a_number d.count ∷ a_sign sign.Semicolon
+    ∷ rest
 
 -- a site or place behind its opener
 abbrev pub of_place : PlaceTree → List Terminal → List Terminal
-of_place s rest = named s.name ∷ a_sign sign.SquareLeft ∷ of_definitions (definitions s.defs) (a_sign sign.Colon ∷ of_processes (processes s.body) (a_sign sign.SquareRight ∷ rest))
+of_place s rest =
+    named s.name ∷ a_sign sign.SquareLeft
+    ∷ of_definitions (definitions s.defs)
+    (a_sign sign.Colon ∷ of_processes (processes s.body) (a_sign sign.SquareRight ∷ rest))
 
 -- The members of a list that are left, of which the first may be the first of all.
 abbrev pub left_names : Bool → List Word → List Terminal → List Terminal

@@ -6,7 +6,9 @@ use Rattle.join_parse.specs.declared.word.Word.{Word}
 use Rattle.join_parse.specs.declared.word.PatTree.{PatTree}
 use Rattle.join_parse.specs.contracts.word.Word as word
 use Rattle.join_parse.specs.contracts.word.PatTree as pat
-use Rattle.join_parse.specs.Source.{Process, Zero, Msg, Go, Fail, Halt, Group, Def, Processes, none, one_more, Definition, Rule, Place, Definitions, no_definition, and_also}
+use Rattle.join_parse.specs.Source.{Process, Zero, Msg, Go, Fail, Halt, Group, Def}
+use Rattle.join_parse.specs.Source.{Processes, none, one_more, Definition, Rule}
+use Rattle.join_parse.specs.Source.{Place, Definitions, no_definition, and_also}
 
 abbrev head : Gv → Gv
 head gnil = gnil
@@ -46,7 +48,9 @@ abbrev mutual
 
   pub definition_code : Definition → Gv
   definition_code (Rule ps p) = gcons (gnum 0) (gcons (pats_code.code ps) (processes_code p))
-  definition_code (Place o a ds p) = gcons (gnum 1) (gcons (gcons (gnum o) (word_code.code a)) (gcons (definitions_code ds) (processes_code p)))
+  definition_code (Place o a ds p) =
+      gcons (gnum 1)
+      (gcons (gcons (gnum o) (word_code.code a)) (gcons (definitions_code ds) (processes_code p)))
 
   pub definitions_code : Definitions → Gv
   definitions_code no_definition = gnil
@@ -55,29 +59,43 @@ abbrev mutual
 mutual
   pub process_inj : (x y : Process) → process_code x ≡ process_code y → x ≡ y
   process_inj Zero Zero p = refl
-  process_inj (Msg x vs) (Msg y ws) p = λ i. Msg (word_code.inj x y (ap (λ g. head (tail g)) p) i) (words_code.inj vs ws (ap (λ g. tail (tail g)) p) i)
-  process_inj (Go x u) (Go y v) p = λ i. Go (word_code.inj x y (ap (λ g. head (tail g)) p) i) (word_code.inj u v (ap (λ g. tail (tail g)) p) i)
-  process_inj (Fail x u) (Fail y v) p = λ i. Fail (word_code.inj x y (ap (λ g. head (tail g)) p) i) (word_code.inj u v (ap (λ g. tail (tail g)) p) i)
+  process_inj (Msg x vs) (Msg y ws) p =
+      λ i. Msg (word_code.inj x y (ap (λ g. head (tail g)) p) i)
+      (words_code.inj vs ws (ap (λ g. tail (tail g)) p) i)
+  process_inj (Go x u) (Go y v) p =
+      λ i. Go (word_code.inj x y (ap (λ g. head (tail g)) p) i)
+      (word_code.inj u v (ap (λ g. tail (tail g)) p) i)
+  process_inj (Fail x u) (Fail y v) p =
+      λ i. Fail (word_code.inj x y (ap (λ g. head (tail g)) p) i)
+      (word_code.inj u v (ap (λ g. tail (tail g)) p) i)
   process_inj Halt Halt p = refl
   process_inj (Group ps) (Group qs) p = ap Group (processes_inj ps qs (ap tail p))
-  process_inj (Def ds a) (Def es b) p = λ i. Def (definitions_inj ds es (ap (λ g. head (tail g)) p) i) (processes_inj a b (ap (λ g. tail (tail g)) p) i)
+  process_inj (Def ds a) (Def es b) p =
+      λ i. Def (definitions_inj ds es (ap (λ g. head (tail g)) p) i)
+      (processes_inj a b (ap (λ g. tail (tail g)) p) i)
   process_inj _ _ p = absurd (apart _ _ (omega arith) p)
 
   pub processes_inj : (xs ys : Processes) → processes_code xs ≡ processes_code ys → xs ≡ ys
   processes_inj none none p = refl
-  processes_inj (one_more x xs) (one_more y ys) p = λ i. one_more (process_inj x y (ap head p) i) (processes_inj xs ys (ap tail p) i)
+  processes_inj (one_more x xs) (one_more y ys) p =
+      λ i. one_more (process_inj x y (ap head p) i) (processes_inj xs ys (ap tail p) i)
   processes_inj _ _ p = cc
 
   pub definition_inj : (x y : Definition) → definition_code x ≡ definition_code y → x ≡ y
-  definition_inj (Rule ps a) (Rule qs b) p = λ i. Rule (pats_code.inj ps qs (ap (λ g. head (tail g)) p) i) (processes_inj a b (ap (λ g. tail (tail g)) p) i)
+  definition_inj (Rule ps a) (Rule qs b) p =
+      λ i. Rule (pats_code.inj ps qs (ap (λ g. head (tail g)) p) i)
+      (processes_inj a b (ap (λ g. tail (tail g)) p) i)
   definition_inj (Place m x ds a) (Place n y es b) p =
       let o : m ≡ n = cc in
-      λ i. Place (o i) (word_code.inj x y (ap (λ g. tail (head (tail g))) p) i) (definitions_inj ds es (ap (λ g. head (tail (tail g))) p) i) (processes_inj a b (ap (λ g. tail (tail (tail g))) p) i)
+      λ i. Place (o i) (word_code.inj x y (ap (λ g. tail (head (tail g))) p) i)
+      (definitions_inj ds es (ap (λ g. head (tail (tail g))) p) i)
+      (processes_inj a b (ap (λ g. tail (tail (tail g))) p) i)
   definition_inj _ _ p = absurd (apart _ _ (omega arith) p)
 
   pub definitions_inj : (xs ys : Definitions) → definitions_code xs ≡ definitions_code ys → xs ≡ ys
   definitions_inj no_definition no_definition p = refl
-  definitions_inj (and_also x xs) (and_also y ys) p = λ i. and_also (definition_inj x y (ap head p) i) (definitions_inj xs ys (ap tail p) i)
+  definitions_inj (and_also x xs) (and_also y ys) p =
+      λ i. and_also (definition_inj x y (ap head p) i) (definitions_inj xs ys (ap tail p) i)
   definitions_inj _ _ p = cc
 
 abbrev pub coded_process : Coded Process

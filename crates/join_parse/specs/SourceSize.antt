@@ -1,6 +1,8 @@
 -- How deep a tree is.
 use Rattle.std.specs.Prelude.{ℕ, ◌+◌, max, List}
-use Rattle.join_parse.specs.Source.{Process, Zero, Msg, Go, Fail, Halt, Group, Def, Processes, none, one_more, Definition, Rule, Place, Definitions, no_definition, and_also, processes, definitions}
+use Rattle.join_parse.specs.Source.{Process, Zero, Msg, Go, Fail, Halt, Group, Def, Processes}
+use Rattle.join_parse.specs.Source.{none, one_more, Definition, Rule, Place, Definitions}
+use Rattle.join_parse.specs.Source.{no_definition, and_also, processes, definitions}
 
 abbrev mutual
   pub process_depth : Process → ℕ

@@ -8,7 +8,8 @@ use Rattle.join_lex.specs.declared.token.Kind2.TheVariants as kind
 use Rattle.join_lex.specs.declared.token.Token.{Token}
 use Rattle.join_parse.specs.declared.word.Word.{Word}
 
--- an identifier and its place, a number by its value, the keyword `site` and its place, another keyword, or a sign
+-- an identifier and its place, a number by its value, the keyword `site` and its place, another
+-- keyword, or a sign
 pub data Terminal : Type 0 where
   a_name : (text : List ℕ) (place : ℕ) → Terminal
   a_number : (value : ℕ) → Terminal

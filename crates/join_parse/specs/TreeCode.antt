@@ -9,5 +9,6 @@ use Rattle.join_parse.specs.Grammar.{TreeOfText}
 
 abbrev pub tree_code : Coded TreeOfText
 tree_code =
-    code_by (List SeenTree × List PlaceTree) (coded× (coded_list seen.the_row.coded) (coded_list place.the_row.coded))
+    code_by (List SeenTree × List PlaceTree)
+    (coded× (coded_list seen.the_row.coded) (coded_list place.the_row.coded))
     (λ t. (t.seen, t.sites)) (λ p. record { seen = p.0; sites = p.1 }) (λ _. refl)

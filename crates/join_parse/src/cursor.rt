@@ -1,12 +1,15 @@
 // The tokens one by one: what comes next, and the parts that are one token.
-ghost use Rattle.std.specs.Prelude.{◌≡◌, ◌∷◌, [], ◌+◌, ◌≤◌, ◌<◌, length, drop, IfOk, OnSome, MatchOption};
+ghost use Rattle.std.specs.Prelude.{◌≡◌, ◌∷◌, [], ◌+◌, ◌≤◌, ◌<◌, length};
+ghost use Rattle.std.specs.Prelude.{drop, IfOk, OnSome, MatchOption};
 ghost use Rattle.std.specs.Bool.{OnTrue};
 ghost use Rattle.join_base.specs.declared.fault.Front.TheVariants as front;
 ghost use Rattle.join_base.specs.declared.fault.Kind.TheVariants as fault;
-ghost use Rattle.join_parse.specs.Terminals.{a_number, a_sign, key_terminal, named};
+ghost use Rattle.join_parse.specs.Terminals.{a_number, a_sign, named};
 ghost use Rattle.join_parse.specs.Begins.{AName, ACount, ASign};
 ghost use Rattle.join_parse.specs.Automaton.{is_sign, is_key};
-ghost use Rattle.join_parse.specs.Parsed.{terms, next_is_sign, next_is_key, next_is_name, next_is_zero, place_of, key_symbol, AtMost, Reads, Fails};
+ghost use Rattle.join_parse.specs.Parsed.{next_is_sign, next_is_key, next_is_name, next_is_zero};
+ghost use Rattle.join_parse.specs.Parsed.{place_of, key_symbol, key_here};
+ghost use Rattle.join_parse.specs.Parsed.{SpellsOne, AtMost, Reads, Fails};
 
 use crate::bounds::Bounds;
 use crate::word::Word;
@@ -17,7 +20,8 @@ use std::alloc::Global;
 // The token at a place, where the tokens don't end before it.
 fn token_at(tokens: &[Token], at: usize) -> Option<&Token>
     ensures within { OnSome result (at + 1 ≤ length tokens.now) }
-    ensures token { MatchOption result (drop at tokens.now ≡ []) (λ t. drop at tokens.now ≡ t.now ∷ drop (at + 1) tokens.now) }
+    ensures token { MatchOption result (drop at tokens.now ≡ []) (λ t.
+        drop at tokens.now ≡ t.now ∷ drop (at + 1) tokens.now) }
 {
     tokens.get(at)
 }
@@ -43,7 +47,7 @@ fn is_key(kind: &Kind2, key: Key) -> bool
 pub fn is_sign_at(tokens: &[Token], at: usize, sign: Sign) -> bool
     ensures is { result ≡ next_is_sign sign (drop at tokens.now) }
     ensures within { OnTrue result (at + 1 ≤ length tokens.now) }
-    ensures spelled { OnTrue result (terms tokens.now at ≡ a_sign sign ∷ terms tokens.now (at + 1)) }
+    ensures spelled { OnTrue result (SpellsOne tokens.now at (a_sign sign) (at + 1)) }
 {
     match token_at(tokens, at) {
         None => false,
@@ -54,7 +58,8 @@ pub fn is_sign_at(tokens: &[Token], at: usize, sign: Sign) -> bool
 pub fn is_key_at(tokens: &[Token], at: usize, key: Key) -> bool
     ensures is { result ≡ next_is_key key (drop at tokens.now) }
     ensures within { OnTrue result (at + 1 ≤ length tokens.now) }
-    ensures spelled { OnTrue result (terms tokens.now at ≡ key_terminal key (place_of 0 (drop at tokens.now)) ∷ terms tokens.now (at + 1)) }
+    ensures spelled { OnTrue result (SpellsOne tokens.now at (key_here key tokens.now at)
+        (at + 1)) }
 {
     match token_at(tokens, at) {
         None => false,
@@ -74,7 +79,7 @@ pub fn is_name_at(tokens: &[Token], at: usize) -> bool
 pub fn is_zero_at(tokens: &[Token], at: usize) -> bool
     ensures is { result ≡ next_is_zero (drop at tokens.now) }
     ensures within { OnTrue result (at + 1 ≤ length tokens.now) }
-    ensures spelled { OnTrue result (terms tokens.now at ≡ a_number 0 ∷ terms tokens.now (at + 1)) }
+    ensures spelled { OnTrue result (SpellsOne tokens.now at (a_number 0) (at + 1)) }
 {
     match token_at(tokens, at) {
         None => false,
@@ -113,8 +118,9 @@ pub fn too_deep(tokens: &[Token], b: Bounds, at: usize) -> Front
 }
 
 pub fn sign(tokens: &[Token], b: Bounds, at: usize, sign: Sign) -> Result<usize, Front>
-    ensures reads { IfOk result (λ upto. Reads b (AtMost b.levels) tokens.now at (ASign sign ∷ []) upto []) }
-    ensures spelled { IfOk result (λ upto. terms tokens.now at ≡ a_sign sign ∷ terms tokens.now upto) }
+    ensures reads { IfOk result (λ upto.
+        Reads b (AtMost b.levels) tokens.now at (ASign sign ∷ []) upto []) }
+    ensures spelled { IfOk result (λ upto. SpellsOne tokens.now at (a_sign sign) upto) }
     ensures fails { Fails b (AtMost b.levels) tokens.now at (ASign sign ∷ []) result }
 {
     if is_sign_at(tokens, at, sign) {
@@ -125,8 +131,10 @@ pub fn sign(tokens: &[Token], b: Bounds, at: usize, sign: Sign) -> Result<usize,
 }
 
 pub fn key(tokens: &[Token], b: Bounds, at: usize, key: Key) -> Result<usize, Front>
-    ensures reads { IfOk result (λ upto. Reads b (AtMost b.levels) tokens.now at (key_symbol key ∷ []) upto []) }
-    ensures spelled { IfOk result (λ upto. terms tokens.now at ≡ key_terminal key (place_of 0 (drop at tokens.now)) ∷ terms tokens.now upto) }
+    ensures reads { IfOk result (λ upto.
+        Reads b (AtMost b.levels) tokens.now at (key_symbol key ∷ []) upto []) }
+    ensures spelled { IfOk result (λ upto.
+        SpellsOne tokens.now at (key_here key tokens.now at) upto) }
     ensures fails { Fails b (AtMost b.levels) tokens.now at (key_symbol key ∷ []) result }
 {
     if is_key_at(tokens, at, key) {
@@ -138,7 +146,7 @@ pub fn key(tokens: &[Token], b: Bounds, at: usize, key: Key) -> Result<usize, Fr
 
 pub fn word(alloc: Global, tokens: &[Token], b: Bounds, at: usize) -> Result<(Word, usize), Front>
     ensures reads { IfOk result (λ r. Reads b (AtMost b.levels) tokens.now at (AName ∷ []) r.1 []) }
-    ensures spelled { IfOk result (λ r. terms tokens.now at ≡ named r.0 ∷ terms tokens.now r.1) }
+    ensures spelled { IfOk result (λ r. SpellsOne tokens.now at (named r.0) r.1) }
     ensures next { IfOk result (λ r. r.1 ≡ at + 1) }
     ensures fails { Fails b (AtMost b.levels) tokens.now at (AName ∷ []) result }
 {
@@ -154,8 +162,9 @@ pub fn word(alloc: Global, tokens: &[Token], b: Bounds, at: usize) -> Result<(Wo
 }
 
 pub fn count(tokens: &[Token], b: Bounds, at: usize) -> Result<(u32, usize), Front>
-    ensures reads { IfOk result (λ r. Reads b (AtMost b.levels) tokens.now at (ACount ∷ []) r.1 []) }
-    ensures spelled { IfOk result (λ r. terms tokens.now at ≡ a_number r.0 ∷ terms tokens.now r.1) }
+    ensures reads { IfOk result (λ r.
+        Reads b (AtMost b.levels) tokens.now at (ACount ∷ []) r.1 []) }
+    ensures spelled { IfOk result (λ r. SpellsOne tokens.now at (a_number r.0) r.1) }
     ensures small { IfOk result (λ r. r.0 ≤ 255) }
     ensures fails { Fails b (AtMost b.levels) tokens.now at (ACount ∷ []) result }
 {

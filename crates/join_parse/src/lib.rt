@@ -1,4 +1,5 @@
-//! The tree of a text's tokens, the first token after which no sentence goes on, and the text of a tree.
+//! The tree of a text's tokens, the first token after which no sentence goes on, and the text of a
+//! tree.
 #![tactic(auto)]
 
 mod bounds;

@@ -1,9 +1,9 @@
 // Identifiers between parentheses, join patterns, and the two names of a request.
 ghost use Rattle.std.specs.Prelude.{◌≡◌, ◌∷◌, [], ◌≤◌, length, IfOk};
-ghost use Rattle.join_lex.specs.declared.token.Sign.TheVariants as paren;
 ghost use Rattle.join_parse.specs.Grammar.{names, applied, patterns, pair, IsSome, AreShort};
-ghost use Rattle.join_parse.specs.Begins.{AName, ASign, Names, MorePatterns};
-ghost use Rattle.join_parse.specs.Parsed.{terms, AtMost, Reads, Fails};
+ghost use Rattle.join_parse.specs.Begins.{Names};
+ghost use Rattle.join_parse.specs.Parsed.{terms, a_pattern, some_patterns};
+ghost use Rattle.join_parse.specs.Parsed.{a_pair, AtMost, Reads, Fails};
 
 use crate::bounds::Bounds;
 use crate::cursor::{is_sign_at, sign, word};
@@ -43,10 +43,11 @@ pub fn pattern(
     b: Bounds,
     at: usize,
 ) -> Result<(PatTree, usize), Front>
-    ensures reads { IfOk result (λ r. Reads b (AtMost b.levels) tokens.now at (AName ∷ ASign paren.ParenLeft ∷ Names ∷ []) r.1 []) }
+    ensures reads { IfOk result (λ r. Reads b (AtMost b.levels) tokens.now at a_pattern r.1 []) }
     ensures few { IfOk result (λ r. length r.0.params ≤ 255) }
-    ensures spelled { IfOk result (λ r. terms tokens.now at ≡ applied r.0.on r.0.params (terms tokens.now r.1)) }
-    ensures fails { Fails b (AtMost b.levels) tokens.now at (AName ∷ ASign paren.ParenLeft ∷ Names ∷ []) result }
+    ensures spelled { IfOk result (λ r.
+        terms tokens.now at ≡ applied r.0.on r.0.params (terms tokens.now r.1)) }
+    ensures fails { Fails b (AtMost b.levels) tokens.now at a_pattern result }
 {
     let (on, upto) = word(alloc, tokens, b, at)?;
     let upto = sign(tokens, b, upto, Sign::ParenLeft)?;
@@ -61,11 +62,12 @@ pub fn patterns(
     b: Bounds,
     at: usize,
 ) -> Result<(PatTrees, usize), Front>
-    ensures reads { IfOk result (λ r. Reads b (AtMost b.levels) tokens.now at (AName ∷ ASign paren.ParenLeft ∷ Names ∷ MorePatterns ∷ []) r.1 []) }
+    ensures reads { IfOk result (λ r.
+        Reads b (AtMost b.levels) tokens.now at some_patterns r.1 []) }
     ensures some { IfOk result (λ r. IsSome r.0) }
     ensures short { IfOk result (λ r. AreShort r.0) }
     ensures spelled { IfOk result (λ r. terms tokens.now at ≡ patterns r.0 (terms tokens.now r.1)) }
-    ensures fails { Fails b (AtMost b.levels) tokens.now at (AName ∷ ASign paren.ParenLeft ∷ Names ∷ MorePatterns ∷ []) result }
+    ensures fails { Fails b (AtMost b.levels) tokens.now at some_patterns result }
 {
     let mut list = Items::new(alloc);
     let (first, upto) = pattern(alloc, tokens, b, at)?;
@@ -87,9 +89,9 @@ pub fn pair(
     b: Bounds,
     at: usize,
 ) -> Result<(Word, Word, usize), Front>
-    ensures reads { IfOk result (λ r. Reads b (AtMost b.levels) tokens.now at (ASign paren.ParenLeft ∷ AName ∷ ASign paren.Comma ∷ AName ∷ ASign paren.ParenRight ∷ []) r.2 []) }
+    ensures reads { IfOk result (λ r. Reads b (AtMost b.levels) tokens.now at a_pair r.2 []) }
     ensures spelled { IfOk result (λ r. terms tokens.now at ≡ pair r.0 r.1 (terms tokens.now r.2)) }
-    ensures fails { Fails b (AtMost b.levels) tokens.now at (ASign paren.ParenLeft ∷ AName ∷ ASign paren.Comma ∷ AName ∷ ASign paren.ParenRight ∷ []) result }
+    ensures fails { Fails b (AtMost b.levels) tokens.now at a_pair result }
 {
     let upto = sign(tokens, b, at, Sign::ParenLeft)?;
     let (one, upto) = word(alloc, tokens, b, upto)?;

@@ -2,10 +2,13 @@
 ghost use Rattle.std.specs.Prelude.{◌≡◌, ◌∷◌, ◌++◌, ◌≤◌, length, IfOk, OnOk};
 ghost use Rattle.join_parse.specs.Terminals.{a_number, a_key, a_site, a_sign, named, key_terminal};
 ghost use Rattle.join_parse.specs.Source.{processes, definitions};
-ghost use Rattle.join_parse.specs.Grammar.{names, applied, pair, patterns, of_process, of_processes, of_definition, of_definitions, of_declarations, of_sites, sentence};
+ghost use Rattle.join_parse.specs.Grammar.{names, applied, pair, patterns, of_process};
+ghost use Rattle.join_parse.specs.Grammar.{of_processes, of_definition, of_definitions};
+ghost use Rattle.join_parse.specs.Grammar.{of_declarations, of_sites, sentence};
 ghost use Rattle.join_parse.specs.TreeFacts.{IsTree};
 ghost use Rattle.join_parse.specs.Bare.{ReadsAs};
-ghost use Rattle.join_parse.specs.Printed.{printed, gap, between, one_declaration, of_place, Prints};
+ghost use Rattle.join_parse.specs.Printed.{printed, gap, between};
+ghost use Rattle.join_parse.specs.Printed.{one_declaration, of_place, Prints};
 ghost use Rattle.join_lex.specs.declared.token.Key.TheVariants as word;
 ghost use Rattle.join_lex.specs.Spelling.{key_bytes, sign_bytes};
 
@@ -265,7 +268,8 @@ fn put_declarations(alloc: Global, out: &mut Text, list: &SeenTrees) -> Result<(
 }
 
 fn put_site(alloc: Global, out: &mut Text, site: &PlaceTree) -> Result<(), Memory>
-    ensures { OnOk result (Prints out.old out.new (λ rest. a_site site.now.opener ∷ of_place site.now rest)) }
+    ensures { OnOk result (Prints out.old out.new (λ rest.
+        a_site site.now.opener ∷ of_place site.now rest)) }
 {
     put_key(out, Key::Site)?;
     put_place(alloc, out, site)
@@ -292,9 +296,9 @@ fn text_of(alloc: Global, tree: &Tree) -> Result<Text, Memory>
     Ok(text)
 }
 
-/// The tokens of a tree in order, joined by single spaces and followed by a line feed. An empty list of definitions prints
-/// `none`, the inert process `0`, and counts without leading zeros. A text of at most 1,048,576 bytes reads as the same tree again,
-/// its places put aside.
+/// The tokens of a tree in order, joined by single spaces and followed by a line feed. An empty
+/// list of definitions prints `none`, the inert process `0`, and counts without leading zeros. A
+/// text of at most 1,048,576 bytes reads as the same tree again, its places put aside.
 pub fn print_tree(alloc: Global, tree: &Tree) -> Result<Text, Memory>
     ensures text { IfOk result (λ text. text ≡ printed (sentence tree.now)) }
     ensures again { IfOk result (λ text. length text ≤ 1048576 → ReadsAs text tree.now) }

@@ -1,11 +1,15 @@
 // Processes and definitions.
-ghost use Rattle.std.specs.Prelude.{◌≡◌, ◌∷◌, [], ◌+◌, ◌≤◌, ◌&&◌, not, true, false, length, drop, IfOk};
+ghost use Rattle.std.specs.Prelude.{◌≡◌, ◌∷◌, [], ◌+◌, ◌≤◌, ◌&&◌, not};
+ghost use Rattle.std.specs.Prelude.{true, false, length, drop, IfOk};
 ghost use Rattle.join_lex.specs.declared.token.Key.TheVariants as word;
 ghost use Rattle.join_lex.specs.declared.token.Sign.TheVariants as paren;
 ghost use Rattle.join_parse.specs.Terminals.{a_key, a_sign};
 ghost use Rattle.join_parse.specs.Grammar.{IsSimple};
-ghost use Rattle.join_parse.specs.Begins.{AName, ASign, Body, Defs, DefRest, Names, MorePatterns, AProc, MoreProcs};
-ghost use Rattle.join_parse.specs.Parsed.{terms, next_is_sign, next_is_key, Exactly, Reads, Fails, SpellsProcess, SpellsProcesses, SpellsDefinition, SpellsDefinitions, SpellsBody};
+ghost use Rattle.join_parse.specs.Begins.{AName, ASign, Body, Defs, DefRest};
+ghost use Rattle.join_parse.specs.Begins.{Names, MorePatterns, AProc, MoreProcs};
+ghost use Rattle.join_parse.specs.Parsed.{terms, next_is_sign, next_is_key, Exactly};
+ghost use Rattle.join_parse.specs.Parsed.{Reads, Fails, SpellsProcess, SpellsProcesses};
+ghost use Rattle.join_parse.specs.Parsed.{SpellsDefinition, SpellsDefinitions, SpellsBody};
 
 use crate::bounds::Bounds;
 use crate::cursor::{
@@ -58,7 +62,8 @@ fn simple(
 ) -> Result<(ProcTree, usize), Front>
     requires shallow { depth ≤ b.levels }
     requires other { next_is_key word.Def (drop at tokens.now) ≡ false }
-    ensures reads { IfOk result (λ r. Reads b (Exactly depth) tokens.now at (AProc ∷ []) r.1 (MoreProcs ∷ [])) }
+    ensures reads { IfOk result (λ r.
+        Reads b (Exactly depth) tokens.now at (AProc ∷ []) r.1 (MoreProcs ∷ [])) }
     ensures simple { IfOk result (λ r. IsSimple r.0) }
     ensures spelled { IfOk result (λ r. SpellsProcess tokens.now at r.0 r.1) }
     ensures fails { Fails b (Exactly depth) tokens.now at (AProc ∷ []) result }
@@ -102,7 +107,8 @@ fn group(
     requires paren { next_is_sign paren.ParenLeft (drop at tokens.now) ≡ true }
     requires within { at + 1 ≤ length tokens.now }
     requires spelled { terms tokens.now at ≡ a_sign paren.ParenLeft ∷ terms tokens.now (at + 1) }
-    ensures reads { IfOk result (λ r. Reads b (Exactly depth) tokens.now at (AProc ∷ []) r.1 (MoreProcs ∷ [])) }
+    ensures reads { IfOk result (λ r.
+        Reads b (Exactly depth) tokens.now at (AProc ∷ []) r.1 (MoreProcs ∷ [])) }
     ensures simple { IfOk result (λ r. IsSimple r.0) }
     ensures spelled { IfOk result (λ r. SpellsProcess tokens.now at r.0 r.1) }
     ensures fails { Fails b (Exactly depth) tokens.now at (AProc ∷ []) result }
@@ -153,7 +159,8 @@ fn definitions(
 ) -> Result<(DefTrees, usize), Front>
     requires shallow { depth ≤ b.levels }
     requires short { at ≤ length tokens.now }
-    ensures reads { IfOk result (λ r. Reads b (Exactly depth) tokens.now at (Defs within ∷ []) r.1 []) }
+    ensures reads { IfOk result (λ r.
+        Reads b (Exactly depth) tokens.now at (Defs within ∷ []) r.1 []) }
     ensures spelled { IfOk result (λ r. SpellsDefinitions tokens.now at within r.0 r.1) }
     ensures fails { Fails b (Exactly depth) tokens.now at (Defs within ∷ []) result }
 {
@@ -191,7 +198,8 @@ fn definition(
 ) -> Result<(DefTree, usize), Front>
     requires shallow { depth ≤ b.levels }
     requires short { at ≤ length tokens.now }
-    ensures reads { IfOk result (λ r. Reads b (Exactly depth) tokens.now at (AName ∷ DefRest within ∷ []) r.1 []) }
+    ensures reads { IfOk result (λ r.
+        Reads b (Exactly depth) tokens.now at (AName ∷ DefRest within ∷ []) r.1 []) }
     ensures spelled { IfOk result (λ r. SpellsDefinition tokens.now at within r.0 r.1) }
     ensures fails { Fails b (Exactly depth) tokens.now at (AName ∷ DefRest within ∷ []) result }
 {
@@ -211,10 +219,12 @@ fn rule(
     at: usize,
 ) -> Result<(DefTree, usize), Front>
     requires shallow { depth ≤ b.levels }
-    ensures reads { IfOk result (λ r. Reads b (Exactly depth) tokens.now at (AName ∷ ASign paren.ParenLeft ∷ Names ∷ MorePatterns ∷ AProc ∷ []) r.1 []) }
+    ensures reads { IfOk result (λ r. Reads b (Exactly depth) tokens.now at
+        (AName ∷ ASign paren.ParenLeft ∷ Names ∷ MorePatterns ∷ AProc ∷ []) r.1 []) }
     ensures spelled { IfOk result (λ r. SpellsDefinition tokens.now at false r.0 r.1) }
     ensures spelled_within { IfOk result (λ r. SpellsDefinition tokens.now at true r.0 r.1) }
-    ensures fails { Fails b (Exactly depth) tokens.now at (AName ∷ ASign paren.ParenLeft ∷ Names ∷ MorePatterns ∷ AProc ∷ []) result }
+    ensures fails { Fails b (Exactly depth) tokens.now at
+        (AName ∷ ASign paren.ParenLeft ∷ Names ∷ MorePatterns ∷ AProc ∷ []) result }
 {
     let (pats, upto) = patterns(alloc, tokens, b, at)?;
     let (body, upto) = processes(alloc, tokens, b, depth, upto)?;
@@ -231,7 +241,8 @@ fn place(
     at: usize,
 ) -> Result<(DefTree, usize), Front>
     requires shallow { depth ≤ b.levels }
-    ensures reads { IfOk result (λ r. Reads b (Exactly depth) tokens.now at (AName ∷ Body true ∷ []) r.1 []) }
+    ensures reads { IfOk result (λ r.
+        Reads b (Exactly depth) tokens.now at (AName ∷ Body true ∷ []) r.1 []) }
     ensures spelled { IfOk result (λ r. SpellsDefinition tokens.now at false r.0 r.1) }
     ensures fails { Fails b (Exactly depth) tokens.now at (AName ∷ Body true ∷ []) result }
 {
@@ -257,7 +268,8 @@ pub fn body(
     within: bool,
 ) -> Result<(DefTrees, ProcTrees, usize), Front>
     requires shallow { depth ≤ b.levels }
-    ensures reads { IfOk result (λ r. Reads b (Exactly depth) tokens.now at (Body within ∷ []) r.2 []) }
+    ensures reads { IfOk result (λ r.
+        Reads b (Exactly depth) tokens.now at (Body within ∷ []) r.2 []) }
     ensures spelled { IfOk result (λ r. SpellsBody tokens.now at within r.0 r.1 r.2) }
     ensures fails { Fails b (Exactly depth) tokens.now at (Body within ∷ []) result }
 {

@@ -1,11 +1,12 @@
 // Declarations, sites, and the whole text.
 ghost use Rattle.std.specs.Prelude.{◌≡◌, ◌∷◌, [], ◌≤◌, false, length, drop, IfOk};
 ghost use Rattle.join_lex.specs.declared.token.Key.TheVariants as word;
-ghost use Rattle.join_lex.specs.declared.token.Sign.TheVariants as paren;
-ghost use Rattle.join_parse.specs.Terminals.{a_key, a_number, a_sign, named};
-ghost use Rattle.join_parse.specs.Grammar.{of_declarations, of_sites, AreDeclarations, AreSites, IsSome};
-ghost use Rattle.join_parse.specs.Begins.{AName, ACount, ASite, AKey, ASign, Body, Program, Sites};
-ghost use Rattle.join_parse.specs.Parsed.{terms, next_is_key, AtMost, Exactly, Runs, Reads, Fails, SpellsSite};
+ghost use Rattle.join_parse.specs.Grammar.{of_declarations, of_sites};
+ghost use Rattle.join_parse.specs.Grammar.{AreDeclarations, AreSites, IsSome};
+ghost use Rattle.join_parse.specs.Begins.{Program};
+ghost use Rattle.join_parse.specs.Parsed.{terms, next_is_key, AtMost, Exactly};
+ghost use Rattle.join_parse.specs.Parsed.{a_declaration, a_whole_site, some_sites};
+ghost use Rattle.join_parse.specs.Parsed.{Runs, Reads, Fails, SpellsDeclaration, SpellsSite};
 
 use crate::bounds::Bounds;
 use crate::cursor::{count, is_key_at, key, place_at, sign, word};
@@ -24,10 +25,11 @@ fn declaration(
     b: Bounds,
     at: usize,
 ) -> Result<(SeenTree, usize), Front>
-    ensures reads { IfOk result (λ r. Reads b (AtMost b.levels) tokens.now at (AKey word.Observe ∷ AName ∷ ASign paren.Slash ∷ ACount ∷ ASign paren.Semicolon ∷ []) r.1 []) }
+    ensures reads { IfOk result (λ r.
+        Reads b (AtMost b.levels) tokens.now at a_declaration r.1 []) }
     ensures small { IfOk result (λ r. r.0.count ≤ 255) }
-    ensures spelled { IfOk result (λ r. terms tokens.now at ≡ a_key word.Observe ∷ named r.0.name ∷ a_sign paren.Slash ∷ a_number r.0.count ∷ a_sign paren.Semicolon ∷ terms tokens.now r.1) }
-    ensures fails { Fails b (AtMost b.levels) tokens.now at (AKey word.Observe ∷ AName ∷ ASign paren.Slash ∷ ACount ∷ ASign paren.Semicolon ∷ []) result }
+    ensures spelled { IfOk result (λ r. SpellsDeclaration tokens.now at r.0 r.1) }
+    ensures fails { Fails b (AtMost b.levels) tokens.now at a_declaration result }
 {
     let upto = key(tokens, b, at, Key::Observe)?;
     let (name, upto) = word(alloc, tokens, b, upto)?;
@@ -39,11 +41,13 @@ fn declaration(
 
 // { observe }
 pub fn declarations(alloc: Global, tokens: &[Token], b: Bounds) -> Result<(SeenTrees, usize), Front>
-    ensures runs { IfOk result (λ r. Runs b (AtMost b.levels) tokens.now 0 (Program ∷ []) r.1 (Program ∷ [])) }
+    ensures runs { IfOk result (λ r.
+        Runs b (AtMost b.levels) tokens.now 0 (Program ∷ []) r.1 (Program ∷ [])) }
     ensures within { IfOk result (λ r. r.1 ≤ length tokens.now) }
     ensures all { IfOk result (λ r. next_is_key word.Observe (drop r.1 tokens.now) ≡ false) }
     ensures small { IfOk result (λ r. AreDeclarations r.0) }
-    ensures spelled { IfOk result (λ r. terms tokens.now 0 ≡ of_declarations r.0 (terms tokens.now r.1)) }
+    ensures spelled { IfOk result (λ r.
+        terms tokens.now 0 ≡ of_declarations r.0 (terms tokens.now r.1)) }
     ensures fails { Fails b (AtMost b.levels) tokens.now 0 (Program ∷ []) result }
 {
     let mut list = Items::new(alloc);
@@ -58,9 +62,9 @@ pub fn declarations(alloc: Global, tokens: &[Token], b: Bounds) -> Result<(SeenT
 
 // "site" ident "[" defs ":" proc "]"
 fn site(alloc: Global, tokens: &[Token], b: Bounds, at: usize) -> Result<(PlaceTree, usize), Front>
-    ensures reads { IfOk result (λ r. Reads b (Exactly 0) tokens.now at (ASite ∷ AName ∷ Body false ∷ []) r.1 []) }
+    ensures reads { IfOk result (λ r. Reads b (Exactly 0) tokens.now at a_whole_site r.1 []) }
     ensures spelled { IfOk result (λ r. SpellsSite tokens.now at r.0 r.1) }
-    ensures fails { Fails b (Exactly 0) tokens.now at (ASite ∷ AName ∷ Body false ∷ []) result }
+    ensures fails { Fails b (Exactly 0) tokens.now at a_whole_site result }
 {
     let opener = place_at(tokens, 0, at);
     let upto = key(tokens, b, at, Key::Site)?;
@@ -82,11 +86,11 @@ pub fn sites(
     b: Bounds,
     at: usize,
 ) -> Result<(PlaceTrees, usize), Front>
-    ensures reads { IfOk result (λ r. Reads b (Exactly 0) tokens.now at (ASite ∷ AName ∷ Body false ∷ Sites ∷ []) r.1 []) }
+    ensures reads { IfOk result (λ r. Reads b (Exactly 0) tokens.now at some_sites r.1 []) }
     ensures some { IfOk result (λ r. IsSome r.0) }
     ensures sites { IfOk result (λ r. AreSites r.0) }
     ensures spelled { IfOk result (λ r. terms tokens.now at ≡ of_sites r.0 (terms tokens.now r.1)) }
-    ensures fails { Fails b (Exactly 0) tokens.now at (ASite ∷ AName ∷ Body false ∷ Sites ∷ []) result }
+    ensures fails { Fails b (Exactly 0) tokens.now at some_sites result }
 {
     let mut list = Items::new(alloc);
     let (first, upto) = site(alloc, tokens, b, at)?;

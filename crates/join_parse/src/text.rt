@@ -9,8 +9,9 @@ use std::marker::Model;
 
 /// The tree of a text: its declarations of observed names, and its sites.
 ///
-/// Each tree keeps the facts of `IsTree`: it is one of the grammar, at most 200 levels deep, its names are identifiers, and its
-/// sentence has at most 1,048,576 tokens. Whoever writes one proves them, and whoever reads a field knows them.
+/// Each tree keeps the facts of `IsTree`: it is one of the grammar, at most 200 levels deep, its
+/// names are identifiers, and its sentence has at most 1,048,576 tokens. Whoever writes one proves
+/// them, and whoever reads a field knows them.
 #[derive(Drop)]
 pub struct Tree {
     pub seen: SeenTrees,

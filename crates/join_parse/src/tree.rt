@@ -51,8 +51,8 @@ pub enum DefNode {
     Place(PlaceTree),
 }
 
-/// A site, or a place within one: its name, its definitions and its process. `opener` is the place of the keyword `site`,
-/// or of the place's name.
+/// A site, or a place within one: its name, its definitions and its process. `opener` is the place
+/// of the keyword `site`, or of the place's name.
 #[cycle(tree)]
 #[derive(Drop)]
 pub struct PlaceTree {
@@ -232,7 +232,8 @@ impl DefTree {
     }
 
     pub fn place(place: PlaceTree) -> DefTree
-        ensures { result ≡ t.Place place.opener place.name (definitions place.defs) (processes place.body) }
+        ensures { result
+            ≡ t.Place place.opener place.name (definitions place.defs) (processes place.body) }
     {
         DefTree {
             node: DefNode::Place(place),

@@ -1,5 +1,5 @@
 -- What a run on one thread leaves.
-use Rattle.std.proofs.Common.{◌≡◌, ℕ, ◌≤◌, List, [], Bool, true, false, Some, refl, sym, subst, arith, length, IsTrue, ◌⊎◌, inl, inr, ◌↔◌}
+use Rattle.std.proofs.Common.{◌≡◌, ℕ, ◌≤◌, List, [], Bool, true, false, Option, Some, None, refl, sym, ap, ◌∙◌, subst, arith, length, IsTrue, ◌⊎◌, inl, inr, ◌↔◌}
 use Rattle.chem_model.specs.declared.event.Event.{Event}
 use Rattle.chem_model.specs.declared.numbered.Numbered.{Numbered}
 use Rattle.chem_model.specs.ProgramFacts.{ProgramTerms}
@@ -9,13 +9,19 @@ use Rattle.chem_model.specs.Runs.{IsRun}
 use Rattle.chem_model.specs.Apply.{states}
 use Rattle.chem_model.specs.Laws.{erase_all}
 use Rattle.trace_history.specs.Kept.{Kept, solution}
-use Rattle.trace_history.specs.Book.{OnSolution, IsStuck, IsQuiet, Replays}
+use Rattle.trace_history.specs.Book.{IsStuck, IsQuiet, Replays}
 use Rattle.site_runner.specs.Run.{RunsOn}
 use Rattle.site_runner.specs.Schedule.{IsSchedule, spent, stuck, first, ScheduleOf}
 use Rattle.trace_text.specs.declared.text.Ending.{Ending}
 use Rattle.join_words.specs.declared.answer.Asked.{Asked}
-use Rattle.join_top.specs.Printed.{IsWhole}
-use Rattle.join_top.specs.RunJoin.{ending_of, EndsAs, IsEnded}
+use Rattle.trace_text.specs.declared.text.Ending.TheVariants.{Quiescent, Stopped}
+use Rattle.join_top.specs.declared.run.Kept.{Kept as Left}
+use Rattle.join_top.specs.declared.top.Ended.{Ended}
+use Rattle.site_runner.specs.declared.one_thread.How.{How}
+use Rattle.join_top.specs.Task.{Words, task, ring_asked, text_of}
+use Rattle.join_top.specs.Text.{IsProgramOfText}
+use Rattle.join_top.specs.RunJoin.{OnTold, has_run, EndsAs, IsRunAsked, Keeps, GoesWith}
+use Rattle.join_top.specs.Ran.{ending_of, IsEnded, IsWholeOfBook}
 
 pub schedule_within : (budget : ℕ) (n : Numbered) (from : ℕ) (journal : List Event) → IsSchedule budget n from journal → length journal ≤ budget
 schedule_within budget n from journal spent = omega arith
@@ -25,15 +31,15 @@ schedule_within budget n from journal (first h a more) = omega (arith, schedule_
 same_solution : (k : Kept) (n m : Numbered) → solution k ≡ Some n → solution k ≡ Some m → n ≡ m
 same_solution k n m e f = cc
 
--- how a book is that a run has left
-pub ended : (a : Asked) (source : List ℕ) (start k : Kept) (quiet : Bool) (ending : Ending) (text : List ℕ)
+-- what a book leaves at the end of a run
+pub ended : (a : Asked) (source : List ℕ) (start k : Kept) (how : How) (quiet : Bool) (ending : Ending) (text : List ℕ)
     → RunsOn start a.budget k → start.journal ≡ [] → ScheduleOf start.program a.budget k.journal
     → Replays k → IsRun k.program (erase_all (states k.program k.journal))
     → (IsTrue quiet ↔ IsStuck k) → (IsTrue quiet ↔ IsQuiet k)
     → ending ≡ ending_of quiet
-    → OnSolution k (λ n. IsWhole a source k.program k.journal n ending text)
-    → IsEnded a source k.program k.journal text ending
-ended a source start k quiet ending text runs none schedule replays run stuck_is quiet_is ends whole =
+    → IsWholeOfBook a source k ending text
+    → IsEnded a source (record { program = k.program; journal = k.journal; how = how }) text ending
+ended a source start k how quiet ending text runs none schedule replays run stuck_is quiet_is ends whole =
     let n = replays.0 in
     let planned : ScheduleOf k.program a.budget k.journal = subst (λ (p : ProgramTerms). ScheduleOf p a.budget k.journal) (sym runs.program) schedule in
     record {
@@ -53,3 +59,45 @@ ended a source start k quiet ending text runs none schedule replays run stuck_is
       (λ q. let t : quiet ≡ true = quiet_is.1 (λ m f. subst (λ (x : Numbered). Quiet x.seen (erase x)) (same_solution k n m e f) q) in cc),
       not_spent h runs.ends,
     )
+
+-- ---- what the top call says of it
+
+on_told : (told : Option (List ℕ)) (source : List ℕ) (P : List ℕ → Type 0) → OnTold told (λ t. t ≡ source) → P source → OnTold told P
+on_told None source P e p = tt
+on_told (Some text) source P e p = subst P (sym e) p
+
+module _ (words : Words) (told : Option (List ℕ)) (a : Asked) (source : List ℕ) (kept : Left) (text : List ℕ) (ending : Ending)
+    (is_asked : task words ≡ Some a) (ring : ring_asked words ≡ a.ring) (is_source : OnTold (text_of a.ring told) (λ t. t ≡ source))
+    (is_program : IsProgramOfText source kept.program) (e : IsEnded a source kept text ending) where
+  source_run : OnTold (text_of (ring_asked words) told) (λ t. t ≡ source)
+  source_run = subst (λ (r : Option ℕ). OnTold (text_of r told) (λ t. t ≡ source)) (sym ring) is_source
+
+  pub run_asked : IsRunAsked words told kept
+  run_asked = record {
+    asked = a;
+    solution = e.solution;
+    ending = ending;
+    is_asked = is_asked;
+    is_program = on_told _ source _ source_run is_program;
+    is_run = e.is_run;
+    ends = e.ends;
+  }
+
+-- the statuses of a run that is kept
+pub is_run_status : (status : ℕ) (ending : Ending) → GoesWith status ending → true ≡ has_run status
+is_run_status status Quiescent (inl e) = ap has_run (sym e)
+is_run_status status Quiescent (inr e) = ap has_run (sym e)
+is_run_status status Stopped (inl e) = ap has_run (sym e)
+is_run_status status Stopped (inr e) = ap has_run (sym e)
+
+pub no_usage : (status : ℕ) (ending : Ending) → GoesWith status ending → status ≡ 2 → ⊥
+no_usage status ending goes e = let run : has_run 2 ≡ true = ap has_run (sym e) ∙ sym (is_run_status status ending goes) in cc
+
+pub keeps : (words : Words) (told : Option (List ℕ)) (it : Ended) (status : ℕ) (kept : Left) (ending : Ending)
+    → it ≡ record { status = status; kept = Some kept } → GoesWith status ending → IsRunAsked words told kept → Keeps words told it
+keeps words told it status kept ending e goes run =
+    let at : Keeps words told (record { status = status; kept = Some kept }) = record {
+      exactly = is_run_status status ending goes;
+      run = run;
+    } in
+    subst (Keeps words told) (sym e) at

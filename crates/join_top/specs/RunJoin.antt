@@ -1,5 +1,8 @@
--- The clauses of the top call.
-use Rattle.std.specs.Prelude.{◌≡◌, ◌⊎◌, ℕ, ◌≤◌, List, [], length, Bool, true, false, Option, Some, None, if◌then◌else◌, codes, ◌==◌, ◌||◌}
+-- The clauses of the top call. They see a source by the bytes that it has left, and a sink by those
+-- that it holds, where these are told; and both by the count of their faults.
+use Rattle.std.specs.Prelude.{◌≡◌, ◌⊎◌, ℕ, ◌≤◌, List, [], length, Bool, true}
+use Rattle.std.specs.Prelude.{Option, Some, None, is_some, IfSome}
+use Rattle.std.specs.Prelude.{if◌then◌else◌, codes, ◌==◌, ◌||◌}
 use Rattle.std.specs.Io.KnownBytes.{Appends, IsAtEnd}
 use Rattle.join_base.specs.Bytes.{TakesCount, TakesAtMost, GainsPrefix}
 use Rattle.join_base.specs.Counts.{Rose}
@@ -16,7 +19,9 @@ use Rattle.site_runner.specs.Schedule.{ScheduleOf}
 use Rattle.trace_text.specs.declared.text.Ending.{Ending}
 use Rattle.trace_text.specs.declared.text.Ending.TheVariants.{Quiescent, Stopped}
 use Rattle.join_words.specs.declared.answer.Asked.{Asked}
-use Rattle.join_top.specs.Task.{text_run}
+use Rattle.join_top.specs.declared.run.Kept.{Kept}
+use Rattle.join_top.specs.declared.top.Ended.{Ended}
+use Rattle.join_top.specs.Task.{Words, task, ring_asked, text_run, ReadOrRing}
 use Rattle.join_top.specs.Text.{IsRefusal, IsProgramOfText, refusal_line}
 use Rattle.join_top.specs.Printed.{IsWhole}
 
@@ -24,6 +29,17 @@ use Rattle.join_top.specs.Printed.{IsWhole}
 pub record ComesExactly (status code : ℕ) (fact : Type 0) : Type 0 where
   pub only : status ≡ code → fact
   pub always : fact → (status ≡ code) ⊎ (status ≡ 6)
+
+-- the statuses at which there was a run: its text was written, or a write failed
+abbrev pub has_run : ℕ → Bool
+has_run status = (status == 0) || (status == 4) || (status == 5)
+
+-- what holds of the bytes, where they are told
+abbrev pub OnTold : Option (List ℕ) → (List ℕ → Type 0) → Type 0
+OnTold None P = Unit {0}
+OnTold (Some text) P = P text
+
+-- ---- what is read
 
 -- the source was read to its end, and had at most 1,048,576 bytes
 abbrev pub IsReadToEnd : Option (List ℕ) → Option (List ℕ) → Type 0
@@ -33,65 +49,41 @@ IsReadToEnd old new = TakesAtMost old new 1048576 × IsAtEnd new
 abbrev pub IsReadOrTooLong : Option (List ℕ) → Option (List ℕ) → Type 0
 IsReadOrTooLong old new = IsReadToEnd old new ⊎ TakesCount old new 1048577
 
--- what holds of the bytes, where they are told
-abbrev pub OnTold : Option (List ℕ) → (List ℕ → Type 0) → Type 0
-OnTold None P = Unit {0}
-OnTold (Some text) P = P text
+-- how far a source is read, by the status
+pub record IsReadAt (S : Type 0) (status : ℕ) (left : S → Option (List ℕ))
+    (old new : S) : Type 0 where
+  pub usage : status ≡ 2 → new ≡ old
+  pub run : has_run status ≡ true → IsReadToEnd (left old) (left new)
+  pub refused : status ≡ 1 → IsReadOrTooLong (left old) (left new)
+  pub cut_short : (status ≡ 3) ⊎ (status ≡ 6) → TakesAtMost (left old) (left new) 1048576
 
--- the statuses at which there was a run: its text was written, or a write failed
-abbrev pub has_run : ℕ → Bool
-has_run status = (status == 0) || (status == 4) || (status == 5)
+-- the source is read so, and where the words ask for a ring it is unread
+abbrev pub Reads : {S : Type 0} → Words → (status : ℕ)
+    → (left : S → Option (List ℕ)) → (old new : S) → Type 0
+Reads {S} words status left old new =
+    ReadOrRing (ring_asked words) (IsReadAt S status left old new) (new ≡ old)
 
--- ---- the run
+-- ---- what is written on the sink of errors
 
--- the journal replays from the program to a solution, and the solutions that the replay passes stand for a run of the machine; it has at most so many
--- events, and is the schedule of a run on one thread
-pub record IsRunOf (budget : ℕ) (p : ProgramTerms) (journal : List Event) (n : Numbered) : Type 0 where
-  pub replays : replay p journal ≡ Some n
-  pub run : IsRun p (erase_all (states p journal))
-  pub within : length journal ≤ budget
-  pub schedule : ScheduleOf p budget journal
+-- a sink gained exactly a text, or a prefix of it where its count of faults rose
+abbrev pub Gains : {K : Type 0} → (held : K → Option (List ℕ)) → (faults : K → ℕ)
+    → (old new : K) → (text : List ℕ) → Type 0
+Gains held faults old new text =
+    Appends (held old) (held new) text ⊎
+    (GainsPrefix (held old) (held new) text × Rose (faults old) (faults new))
 
--- how a run ended by whether the machine is quiet
-abbrev pub ending_of : Bool → Ending
-ending_of true = Quiescent
-ending_of false = Stopped
+-- the text has this refusal, where it is told, and its line is gained
+pub record IsRefused (told : Option (List ℕ)) (gains : List ℕ → Type 0) : Type 0 where
+  pub kind : Kind
+  pub place : ℕ
+  pub refusal : OnTold told (λ text. IsRefusal text kind place)
+  pub line : gains (refusal_line kind place)
 
--- how the run ended: the machine is quiet on the solution, or it isn't and the budget is spent
-abbrev pub EndsAs : ℕ → List Event → Numbered → Ending → Type 0
-EndsAs budget journal n Quiescent = Quiet n.seen (erase n)
-EndsAs budget journal n Stopped = (Quiet n.seen (erase n) → ⊥) × (length journal ≡ budget)
-
--- a run that was asked for of the program of this source, which has ended so, and its whole text
-pub record IsEnded (a : Asked) (source : List ℕ) (p : ProgramTerms) (journal : List Event) (text : List ℕ) (ending : Ending) : Type 0 where
-  pub solution : Numbered
-  pub is_run : IsRunOf a.budget p journal solution
-  pub ends : EndsAs a.budget journal solution ending
-  pub whole : IsWhole a source p journal solution ending text
-
--- the statuses that go with an ending: 0 with a quiet one, 5 with a stopped one, 4 with either
-abbrev pub GoesWith : ℕ → Ending → Type 0
-GoesWith status Quiescent = (status ≡ 0) ⊎ (status ≡ 4)
-GoesWith status Stopped = (status ≡ 5) ⊎ (status ≡ 4)
-
--- the sink gained the whole text at 0 and at 5, and at 4 a prefix of it
-abbrev pub IsWritten : ℕ → List ℕ → Option (List ℕ) → Option (List ℕ) → Type 0
-IsWritten status text old new = ((status ≡ 4) × GainsPrefix old new text) ⊎ Appends old new text
-
--- what was kept of the run that was asked for, where the source told its bytes so, and what was written of its text
-pub record IsKept (asked : Option Asked) (told : Option (List ℕ)) (status : ℕ) (p : ProgramTerms) (journal : List Event) (old new : Option (List ℕ)) : Type 0 where
-  pub task : Asked
-  pub source : List ℕ
-  pub text : List ℕ
-  pub ending : Ending
-  pub is_asked : asked ≡ Some task
-  pub is_source : OnTold (text_run task.ring told) (λ t. t ≡ source)
-  pub is_program : IsProgramOfText source p
-  pub is_ended : IsEnded task source p journal text ending
-  pub status_is : GoesWith status ending
-  pub written : IsWritten status text old new
-
--- ---- what is written
+-- at 1 the text that was to be run is refused, and the sink of errors gained the refusal's line
+abbrev pub Refuses : {E : Type 0} → Words → (told : Option (List ℕ)) → Ended
+    → (held : E → Option (List ℕ)) → (faults : E → ℕ) → (old new : E) → Type 0
+Refuses words told ended held faults old new =
+    ended.status ≡ 1 → IsRefused (text_run words told) (Gains held faults old new)
 
 -- the line on the sink of errors that goes with a status; that of a refused text names its refusal
 abbrev pub line_of : ℕ → List ℕ
@@ -101,13 +93,77 @@ line_of status =
     (if status == 4 then codes "write fault\n" else
     (if status == 6 then codes "out of memory\n" else [])))
 
--- a sink gained exactly a text, or a prefix of it where its count of faults rose
-abbrev pub Gains : Option (List ℕ) → Option (List ℕ) → ℕ → ℕ → List ℕ → Type 0
-Gains old new faults_old faults_new text = Appends old new text ⊎ (GainsPrefix old new text × Rose faults_old faults_new)
+-- the sink of errors gained the line of the status; at 0 and at 5 it is as it was
+pub record IsLineAt (E : Type 0) (status : ℕ) (held : E → Option (List ℕ)) (faults : E → ℕ)
+    (old new : E) : Type 0 where
+  pub line : (status ≡ 1) ⊎ Gains held faults old new (line_of status)
+  pub untouched : (status ≡ 0) ⊎ (status ≡ 5) → new ≡ old
 
--- the text has this refusal, where it is told, and the sink gained its line
-pub record IsRefusedWith (told : Option (List ℕ)) (old new : Option (List ℕ)) (faults_old faults_new : ℕ) : Type 0 where
-  pub kind : Kind
-  pub place : ℕ
-  pub refusal : OnTold told (λ text. IsRefusal text kind place)
-  pub line : Gains old new faults_old faults_new (refusal_line kind place)
+abbrev pub GainsLine : {E : Type 0} → (status : ℕ)
+    → (held : E → Option (List ℕ)) → (faults : E → ℕ) → (old new : E) → Type 0
+GainsLine {E} status held faults old new = IsLineAt E status held faults old new
+
+-- ---- the run
+
+-- the journal replays from the program to a solution, and the solutions that the replay passes
+-- stand for a run of the machine; it has at most so many events, and is the schedule of a run on
+-- one thread
+pub record IsRunOf (budget : ℕ) (p : ProgramTerms) (journal : List Event)
+    (n : Numbered) : Type 0 where
+  pub replays : replay p journal ≡ Some n
+  pub run : IsRun p (erase_all (states p journal))
+  pub within : length journal ≤ budget
+  pub schedule : ScheduleOf p budget journal
+
+-- how the run ended: the machine is quiet on the solution, or it isn't and the budget is spent
+abbrev pub EndsAs : ℕ → List Event → Numbered → Ending → Type 0
+EndsAs budget journal n Quiescent = Quiet n.seen (erase n)
+EndsAs budget journal n Stopped = (Quiet n.seen (erase n) → ⊥) × (length journal ≡ budget)
+
+-- the run that the words ask for, of the program of the text that is run
+pub record IsRunAsked (words : Words) (told : Option (List ℕ)) (kept : Kept) : Type 0 where
+  pub asked : Asked
+  pub solution : Numbered
+  pub ending : Ending
+  pub is_asked : task words ≡ Some asked
+  pub is_program : OnTold (text_run words told) (λ text. IsProgramOfText text kept.program)
+  pub is_run : IsRunOf asked.budget kept.program kept.journal solution
+  pub ends : EndsAs asked.budget kept.journal solution ending
+
+-- a run is kept exactly where there was one, and it is the one that was asked for
+pub record Keeps (words : Words) (told : Option (List ℕ)) (ended : Ended) : Type 0 where
+  pub exactly : is_some ended.kept ≡ has_run ended.status
+  pub run : IfSome ended.kept (IsRunAsked words told)
+
+-- ---- what is written of it
+
+-- the statuses that go with an ending: 0 with a quiet one, 5 with a stopped one, 4 with either
+abbrev pub GoesWith : ℕ → Ending → Type 0
+GoesWith status Quiescent = (status ≡ 0) ⊎ (status ≡ 4)
+GoesWith status Stopped = (status ≡ 5) ⊎ (status ≡ 4)
+
+-- the whole text of the run that is kept, where it ended by the status
+pub record IsTextOf (words : Words) (told : Option (List ℕ)) (status : ℕ) (kept : Kept)
+    (text : List ℕ) : Type 0 where
+  pub asked : Asked
+  pub source : List ℕ
+  pub solution : Numbered
+  pub ending : Ending
+  pub is_asked : task words ≡ Some asked
+  pub is_source : OnTold (text_run words told) (λ t. t ≡ source)
+  pub is_program : IsProgramOfText source kept.program
+  pub replays : replay kept.program kept.journal ≡ Some solution
+  pub ends : EndsAs asked.budget kept.journal solution ending
+  pub status_is : GoesWith status ending
+  pub whole : IsWhole asked source kept.program kept.journal solution ending text
+
+-- the sink gained the text, or at 4 a prefix of it
+abbrev pub IsWritten : ℕ → List ℕ → Option (List ℕ) → Option (List ℕ) → Type 0
+IsWritten status text old new = ((status ≡ 4) × GainsPrefix old new text) ⊎ Appends old new text
+
+-- where a run is kept, the sink gained its whole text, or at 4 a prefix of it
+abbrev pub WritesWhole : {K : Type 0} → Words → (told : Option (List ℕ)) → Ended
+    → (held : K → Option (List ℕ)) → (old new : K) → Type 0
+WritesWhole words told ended held old new = IfSome ended.kept (λ kept.
+    (text : List ℕ) × IsTextOf words told ended.status kept text
+    × IsWritten ended.status text (held old) (held new))

@@ -1,7 +1,10 @@
 -- What a text is: a program, or a refusal of a kind at a place.
 use Rattle.std.specs.Prelude.{◌≡◌, ℕ, ◌++◌, ◌⊎◌, List, codes, decimal}
 use Rattle.join_base.specs.declared.fault.Kind.{Kind}
-use Rattle.join_base.specs.declared.fault.Kind.TheVariants.{Lex1, Lex2, Lex3, Grammar1, Grammar2, Scope1, Scope2, Scope3, Scope4, Scope5, Scope6, Arity1, Arity2, Arity3, Arity4}
+use Rattle.join_base.specs.declared.fault.Kind.TheVariants.{Lex1, Lex2, Lex3, Grammar1, Grammar2}
+use Rattle.join_base.specs.declared.fault.Kind.TheVariants.{Scope1, Scope2, Scope3, Scope4}
+use Rattle.join_base.specs.declared.fault.Kind.TheVariants.{Scope5, Scope6}
+use Rattle.join_base.specs.declared.fault.Kind.TheVariants.{Arity1, Arity2, Arity3, Arity4}
 use Rattle.join_base.specs.declared.fault.Front.{Front}
 use Rattle.join_base.specs.declared.fault.Front.TheVariants as front
 use Rattle.join_lex.specs.Spelling.{first_version}
@@ -15,14 +18,15 @@ use Rattle.scope_check.specs.Checked.{IsProgramOf}
 use Rattle.scope_check.specs.Checked as scope
 use Rattle.chem_model.specs.ProgramFacts.{ProgramTerms}
 
--- the refusal of a text: its first lexical fault; else the first token of its tokens after which no sentence goes on; else the first fault of scope
--- or arity of their tree
+-- the refusal of a text: its first lexical fault; else the first token of its tokens after which no
+-- sentence goes on; else the first fault of scope or arity of their tree
 pub data IsRefusal (text : List ℕ) (kind : Kind) (place : ℕ) : Type 0 where
   lexical : NamesFault first_version (front.Refused kind place) text → IsRefusal text kind place
   grammatical : (t : TokensOfText) → AreTokensOf first_version t text
       → grammar.IsRefusedAs most_levels t.length t.list (front.Refused kind place)
       → IsRefusal text kind place
-  of_the_tree : (t : TokensOfText) (tree : TreeOfText) → AreTokensOf first_version t text → IsTreeOf most_levels t.list tree
+  of_the_tree : (t : TokensOfText) (tree : TreeOfText) → AreTokensOf first_version t text
+      → IsTreeOf most_levels t.list tree
       → scope.IsRefusedAs tree (front.Refused kind place)
       → IsRefusal text kind place
 
@@ -41,10 +45,14 @@ NamesRefusal text front.Memory = Unit {0}
 
 -- a text has one program or one refusal, and never both
 pub record HasOneOutcome (text : List ℕ) : Type 0 where
-  pub some : ((p : ProgramTerms) × IsProgramOfText text p) ⊎ ((kind : Kind) × (place : ℕ) × IsRefusal text kind place)
-  pub one_program : (p q : ProgramTerms) → IsProgramOfText text p → IsProgramOfText text q → p ≡ q
-  pub never_both : (p : ProgramTerms) (kind : Kind) (place : ℕ) → IsProgramOfText text p → IsRefusal text kind place → ⊥
-  pub one_refusal : (kind kind' : Kind) (place place' : ℕ) → IsRefusal text kind place → IsRefusal text kind' place' → (kind ≡ kind') × (place ≡ place')
+  pub some : ((p : ProgramTerms) × IsProgramOfText text p)
+      ⊎ ((kind : Kind) × (place : ℕ) × IsRefusal text kind place)
+  pub one_program : (p q : ProgramTerms)
+      → IsProgramOfText text p → IsProgramOfText text q → p ≡ q
+  pub never_both : (p : ProgramTerms) (kind : Kind) (place : ℕ)
+      → IsProgramOfText text p → IsRefusal text kind place → ⊥
+  pub one_refusal : (kind kind' : Kind) (place place' : ℕ)
+      → IsRefusal text kind place → IsRefusal text kind' place' → (kind ≡ kind') × (place ≡ place')
 
 -- ---- the line of a refusal
 

@@ -8,7 +8,8 @@ pub enum Phase {
     Done,
 }
 
-/// What a worker of a run on threads passes in each turn, so that tests can hold it there. Workers are numbered from 1.
+/// What a worker of a run on threads passes in each turn, so that tests can hold it there. Workers
+/// are numbered from 1.
 pub trait Gate: Sync {
     fn pass(&self, worker: u32, turn: u64, phase: Phase);
 }

@@ -1,8 +1,7 @@
 // The whole text of a run.
 ghost use Rattle.std.specs.Prelude.{◌≡◌, ◌≤◌, length, IfOk};
-ghost use Rattle.trace_history.specs.Book.{OnSolution};
-ghost use Rattle.join_top.specs.Task.{WhereRead};
-ghost use Rattle.join_top.specs.Printed.{counts_text, IsWhole};
+ghost use Rattle.join_top.specs.Printed.{counts_text};
+ghost use Rattle.join_top.specs.Ran.{WhereRead, IsWholeOfBook};
 
 use chem_model::{Items, Memory, Text};
 use join_words::Asked;
@@ -10,7 +9,8 @@ use std::alloc::Global;
 use trace_history::Book;
 use trace_text::{Ending, log_bytes, push_all, push_ending, push_number, trace_bytes};
 
-/// What is printed of a run: of a ring its counts, and else its log where that is asked for, or its trace.
+/// What is printed of a run: of a ring its counts, and else its log where that is asked for, or its
+/// trace.
 pub fn printed(
     alloc: Global,
     asked: &Asked,
@@ -21,7 +21,7 @@ pub fn printed(
     requires source { WhereRead asked.now.ring (length source.now ≤ 1048576) }
     requires budget { asked.now.budget ≤ 1000000 }
     requires events { length book.now.journal ≤ asked.now.budget }
-    ensures { IfOk result (λ text. OnSolution book.now (λ n. IsWhole asked.now source.now book.now.program book.now.journal n ending text)) }
+    ensures { IfOk result (IsWholeOfBook asked.now source.now book.now ending) }
 {
     match asked.ring {
         Some(_) => {

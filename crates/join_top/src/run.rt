@@ -1,7 +1,6 @@
 //! A run on one thread, from its program to its text.
 ghost use Rattle.std.specs.Prelude.{◌≡◌, ◌≤◌, length, IfOk};
-ghost use Rattle.join_top.specs.Task.{WhereRead};
-ghost use Rattle.join_top.specs.RunJoin.{ending_of, IsEnded};
+ghost use Rattle.join_top.specs.Ran.{WhereRead, ending_of, IsEnded};
 
 use crate::printed::printed;
 use chem_model::{Journal, Memory, Program, Text};
@@ -43,7 +42,7 @@ pub fn run(alloc: Global, asked: &Asked, source: &[u8], program: &Program) -> Re
     requires source { WhereRead asked.now.ring (length source.now ≤ 1048576) }
     requires budget { asked.now.budget ≤ 1000000 }
     ensures program { IfOk result (λ ran. ran.kept.program ≡ program.now) }
-    ensures ended { IfOk result (λ ran. IsEnded asked.now source.now ran.kept.program ran.kept.journal ran.text ran.ending) }
+    ensures ended { IfOk result (λ ran. IsEnded asked.now source.now ran.kept ran.text ran.ending) }
     ensures how { IfOk result (λ ran. ran.kept.how ≡ How.Alone) }
 {
     let book = Book::start(alloc, program)?;

@@ -1,6 +1,7 @@
 //! The program of a text, or its refusal.
 ghost use Rattle.std.specs.Prelude.{◌≡◌, ◌++◌, ℕ, List, IfOk, IfErr};
-ghost use Rattle.join_top.specs.Text.{IsProgramOfText, NamesRefusal, HasOneOutcome, kind_text, refusal_line};
+ghost use Rattle.join_top.specs.Text.{IsProgramOfText, NamesRefusal, HasOneOutcome};
+ghost use Rattle.join_top.specs.Text.{kind_text, refusal_line};
 
 use chem_model::{Items, Memory, Program, Text};
 use join_base::{Front, Kind};
@@ -10,7 +11,8 @@ use scope_check::check;
 use std::alloc::Global;
 use trace_text::{push_all, push_number};
 
-/// The program of a text, or its first fault: the lexical one, else the grammar's, else that of scope or arity.
+/// The program of a text, or its first fault: the lexical one, else the grammar's, else that of
+/// scope or arity.
 pub fn program_of(alloc: Global, text: &[u8]) -> Result<Program, Front>
     ensures program { IfOk result (λ program. IsProgramOfText text.now program) }
     ensures refusal { IfErr result (λ front. NamesRefusal text.now front) }

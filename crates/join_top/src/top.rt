@@ -1,14 +1,12 @@
 //! The top call.
-ghost use Rattle.std.specs.Prelude.{◌≡◌, ◌⊎◌, ◌≤◌, map, string_bytes, is_some, IfSome, IfOk, true, false, []};
-ghost use Rattle.join_base.specs.Bytes.{TakesAtMost, GainsPrefix};
-ghost use Rattle.std.specs.Io.KnownBytes.{Appends};
+ghost use Rattle.std.specs.Prelude.{◌≡◌, ◌⊎◌, ◌≤◌, IfSome, true, false, []};
 ghost use Rattle.join_base.specs.Counts.{Rose};
-ghost use Rattle.join_words.specs.Asks.{asked};
-ghost use Rattle.site_runner.specs.declared.one_thread.How.TheVariants.{Alone};
 ghost use Rattle.join_base.specs.declared.fault.Kind.TheVariants as kind;
-ghost use Rattle.join_top.specs.Task.{task, ring_of, text_run, WhereRead, WhereRing};
-ghost use Rattle.join_top.specs.Text.{IsProgramOfText, NamesRefusal, refusal_line as line_of_refusal};
-ghost use Rattle.join_top.specs.RunJoin.{ComesExactly, IsReadToEnd, IsReadOrTooLong, OnTold, has_run, IsEnded, GoesWith, IsWritten, IsKept, IsRefusedWith, line_of, Gains};
+ghost use Rattle.site_runner.specs.declared.one_thread.How.TheVariants.{Alone};
+ghost use Rattle.join_top.specs.Task.{task};
+ghost use Rattle.join_top.specs.Text.{refusal_line as line_of_refusal};
+ghost use Rattle.join_top.specs.RunJoin.{ComesExactly, Reads, Refuses, Keeps, WritesWhole};
+ghost use Rattle.join_top.specs.RunJoin.{GainsLine, Gains, line_of, has_run, GoesWith, IsWritten};
 
 use crate::gate::Gate;
 use crate::run::{Kept, Ran, run};
@@ -39,8 +37,8 @@ pub struct Ended {
     pub kept: Option<Kept>,
 }
 
-/// Does all that the program does, from its words and the bytes of its source to the bytes on `out` and `err`. Only
-/// workers on threads pass the gate, and there are none yet.
+/// Does all that the program does, from its words and the bytes of its source to the bytes on `out`
+/// and `err`. Only workers on threads pass the gate, and there are none yet.
 ///
 /// | status | comes |
 /// |---|---|
@@ -61,27 +59,21 @@ pub fn run_join<S: Source, K: Sink, E: Sink, G: Gate>(
 ) -> Ended
     ensures known { result.status ≤ 6 }
 
-    ensures usage { ComesExactly result.status 2 (task (map string_bytes words.now) ≡ None) }
-    ensures unread { result.status ≡ 2 → source.new ≡ source.old }
-    ensures unread_with_gen { WhereRing (ring_of (asked (map string_bytes words.now))) (source.new ≡ source.old) }
+    ensures usage { ComesExactly result.status 2 (task words.now ≡ None) }
 
     ensures read_fault { result.status ≡ 3 → Rose (S.faults source.old) (S.faults source.new) }
-    ensures reads_all { has_run result.status ≡ true → WhereRead (ring_of (task (map string_bytes words.now))) (IsReadToEnd (S.left source.old) (S.left source.new)) }
-    ensures reads_refused { result.status ≡ 1 → WhereRead (ring_of (task (map string_bytes words.now))) (IsReadOrTooLong (S.left source.old) (S.left source.new)) }
-    ensures reads_partly { (result.status ≡ 3) ⊎ (result.status ≡ 6) → WhereRead (ring_of (task (map string_bytes words.now))) (TakesAtMost (S.left source.old) (S.left source.new) 1048576) }
+    ensures reads_all { Reads words.now result.status S.left source.old source.new }
 
-    ensures refusal { result.status ≡ 1 → IsRefusedWith (text_run (ring_of (task (map string_bytes words.now))) (S.left source.old)) (E.held err.old) (E.held err.new) (E.faults err.old) (E.faults err.new) }
-    ensures accepted { IfSome result.kept (λ kept. OnTold (text_run (ring_of (task (map string_bytes words.now))) (S.left source.old)) (λ text. IsProgramOfText text kept.program)) }
+    ensures refusal { Refuses words.now (S.left source.old) result E.held E.faults err.old err.new }
 
-    ensures kept { is_some result.kept ≡ has_run result.status }
-    ensures run { IfSome result.kept (λ kept. IsKept (task (map string_bytes words.now)) (S.left source.old) result.status kept.program kept.journal (K.held out.old) (K.held out.new)) }
+    ensures kept { Keeps words.now (S.left source.old) result }
     ensures how { IfSome result.kept (λ kept. kept.how ≡ Alone) }
 
+    ensures whole_text { WritesWhole words.now (S.left source.old) result K.held out.old out.new }
     ensures write_fault { result.status ≡ 4 → Rose (K.faults out.old) (K.faults out.new) }
     ensures out_untouched { has_run result.status ≡ false → out.new ≡ out.old }
 
-    ensures err_line { (result.status ≡ 1) ⊎ Gains (E.held err.old) (E.held err.new) (E.faults err.old) (E.faults err.new) (line_of result.status) }
-    ensures err_untouched { has_run result.status ≡ true → (result.status ≡ 4) ⊎ (err.new ≡ err.old) }
+    ensures err_line { GainsLine result.status E.held E.faults err.old err.new }
 {
     let asked = match task(alloc, words) {
         Ok(Some(asked)) => asked,
@@ -125,7 +117,7 @@ fn write_text<K: Sink>(out: &mut K, ran: &Ran) -> u8
 
 /// Writes a line on `err`. Where that fails, the status stays.
 fn write_line<E: Sink>(err: &mut E, line: &[u8])
-    ensures gains { Gains (E.held err.old) (E.held err.new) (E.faults err.old) (E.faults err.new) line.now }
+    ensures gains { Gains E.held E.faults err.old err.new line.now }
     ensures untouched { line.now ≡ [] → err.new ≡ err.old }
 {
     let _ = write_piece(err, line);
@@ -134,7 +126,7 @@ fn write_line<E: Sink>(err: &mut E, line: &[u8])
 /// Writes the line of a text that is too long, which takes no memory.
 fn refuse_long<E: Sink>(err: &mut E) -> Ended
     ensures ended { result ≡ record { status = 1; kept = None } }
-    ensures line { Gains (E.held err.old) (E.held err.new) (E.faults err.old) (E.faults err.new) (line_of_refusal kind.Lex1 1048576) }
+    ensures line { Gains E.held E.faults err.old err.new (line_of_refusal kind.Lex1 1048576) }
 {
     write_line(err, b"lex 1 at 1048576\n");
     Ended {
@@ -147,8 +139,9 @@ fn refuse_long<E: Sink>(err: &mut E) -> Ended
 fn refuse<E: Sink>(alloc: Global, err: &mut E, kind: Kind, place: u32) -> Ended
     ensures kept { result.kept ≡ None }
     ensures status { (result.status ≡ 1) ⊎ (result.status ≡ 6) }
-    ensures line { result.status ≡ 1 → Gains (E.held err.old) (E.held err.new) (E.faults err.old) (E.faults err.new) (line_of_refusal kind place) }
-    ensures memory { result.status ≡ 6 → Gains (E.held err.old) (E.held err.new) (E.faults err.old) (E.faults err.new) (line_of 6) }
+    ensures line { result.status ≡ 1 →
+        Gains E.held E.faults err.old err.new (line_of_refusal kind place) }
+    ensures memory { result.status ≡ 6 → Gains E.held E.faults err.old err.new (line_of 6) }
 {
     match refusal_line(alloc, kind, place) {
         Err(_) => end(err, OUT_OF_MEMORY, None),
@@ -165,7 +158,7 @@ fn refuse<E: Sink>(alloc: Global, err: &mut E, kind: Kind, place: u32) -> Ended
 /// Writes the line that goes with a status.
 fn end<E: Sink>(err: &mut E, status: u8, kept: Option<Kept>) -> Ended
     ensures ended { result ≡ record { status = status; kept = kept } }
-    ensures line { Gains (E.held err.old) (E.held err.new) (E.faults err.old) (E.faults err.new) (line_of status) }
+    ensures line { Gains E.held E.faults err.old err.new (line_of status) }
     ensures untouched { line_of status ≡ [] → err.new ≡ err.old }
 {
     write_line(err, line(status));

@@ -1,5 +1,6 @@
 -- The command that the kit's parser is given, and what is taken from its matches.
-use Rattle.std.specs.Prelude.{◌≡◌, true, List, Option, Some, None, codes, option_map, Result, Ok, Err}
+use Rattle.std.specs.Prelude.{◌≡◌, true, List, Option, Some, None}
+use Rattle.std.specs.Prelude.{codes, option_map, Result, Ok, Err}
 use Rattle.clap.specs.Words.{App, Rule, new_app, new_rule, with_rule}
 use Rattle.clap.specs.declared.builder.ArgAction.TheVariants.{SetTrue}
 use Rattle.join_words.specs.Line.{Line, Plain, Text, line_of, none, one, two}
@@ -22,7 +23,9 @@ flagged id = record (new_rule id) { long = Some id; action = Some SetTrue }
 
 -- a command without parts
 abbrev pub bare : App
-bare = record (new_app (codes "join")) { top = record (new_app (codes "join")).top { no_binary_name = true; disable_help_flag = true } }
+bare = record (new_app (codes "join")) {
+  top = record (new_app (codes "join")).top { no_binary_name = true; disable_help_flag = true };
+}
 
 abbrev pub line_app : App
 line_app = with_rule (with_rule (with_rule (with_rule (with_rule (with_rule bare

@@ -1,6 +1,7 @@
 -- The parts of a command line: its words are read in order, one rule a word.
 use Rattle.std.specs.Prelude.{◌==◌, ◌&&◌, ℕ, Bool, true, false, not, List, [], ◌∷◌, Option}
-use Rattle.std.specs.Prelude.{Some, None, is_some, if◌then◌else◌, codes, option_map, option_and_then}
+use Rattle.std.specs.Prelude.{Some, None, is_some, if◌then◌else◌}
+use Rattle.std.specs.Prelude.{codes, option_map, option_and_then}
 use Rattle.std.specs.Str.{bytes_eq}
 
 abbrev pub Text : Type 0

@@ -5,8 +5,8 @@ use chem_model::Memory;
 use std::alloc::{AllocError, AllocFailed, Global};
 use thiserror::Error;
 
-/// Who runs a program: one thread that works the sites one after another, the threads in rounds, or the threads
-/// freely.
+/// Who runs a program: one thread that works the sites one after another, the threads in rounds, or
+/// the threads freely.
 #[derive(Clone, Copy, Debug, PartialEq, Eq)]
 pub enum By {
     Alone,
@@ -28,7 +28,8 @@ impl By {
 pub struct Asked {
     /// Who runs the program.
     pub by: By,
-    /// The number of sites of the ring that is generated and run, 1 to 64. Without it the program is read.
+    /// The number of sites of the ring that is generated and run, 1 to 64. Without it the program
+    /// is read.
     pub ring: Option<u32>,
     /// The most events that the run may have, 0 to 1,000,000.
     pub budget: u32,

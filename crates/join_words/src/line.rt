@@ -53,7 +53,8 @@ fn end_of(error: &Error) -> WordEnd
 
 /// The words as texts, in their order.
 pub fn texts_of<'a>(alloc: Global, words: &'a [String]) -> Result<Vec<&'a str>, AllocError>
-    ensures same { IfOk result (λ texts. map (λ s. s.now) texts.items ≡ map string_bytes words.entry.now) }
+    ensures same { IfOk result (λ texts.
+        map (λ s. s.now) texts.items ≡ map string_bytes words.entry.now) }
     ensures utf8 { IfOk result (λ texts. All IsUtf8 (map (λ s. s.now) texts.items)) }
 {
     let mut texts = Vec::new(alloc);

@@ -85,9 +85,10 @@ fn asked_of(given: &LineTexts) -> Option<Asked>
 /// gen N [--by alone|rounds|run] [--budget B] [--workers W]
 /// ```
 ///
-/// The options stand anywhere, each at most once, and with their value in the next word or after `=` in the same one. After
-/// the word `--` every word is a plain word. A number is 1 to 7 decimal digits. B is 0 to 1,000,000, and 100,000 where it
-/// isn't given; W is 1 to 16, and 4 where it isn't given; N is 1 to 64. `--by` is `alone` where it isn't given.
+/// The options stand anywhere, each at most once, and with their value in the next word or after
+/// `=` in the same one. After the word `--` every word is a plain word. A number is 1 to 7 decimal
+/// digits. B is 0 to 1,000,000, and 100,000 where it isn't given; W is 1 to 16, and 4 where it
+/// isn't given; N is 1 to 64. `--by` is `alone` where it isn't given.
 ///
 /// `Form` comes exactly where the words aren't of this form, and `Memory` only for want of memory.
 pub fn read_words(alloc: Global, words: &[String]) -> Result<Asked, WordEnd>

@@ -1,5 +1,6 @@
 ghost use Rattle.std.specs.Prelude.{◌≡◌, ◌<◌, ◌≤◌, ◌%◌, ◌++◌, decimal, IfOk, OnOk};
-ghost use Rattle.ring_source.specs.Ring.{go_text, rule_text, rules_text, agent_text, agent_at, messages_text, message_text, site_text, ring_text};
+ghost use Rattle.ring_source.specs.Ring.{go_text, rule_text, rules_text, agent_text, agent_at};
+ghost use Rattle.ring_source.specs.Ring.{messages_text, message_text, site_text, ring_text};
 
 use chem_model::{Items, Memory, Text};
 use std::alloc::Global;
@@ -10,8 +11,9 @@ const MESSAGES: u32 = 8;
 
 /// The text of the ring of n sites, of which there are 1 to 64.
 ///
-/// Each site has a rule and eight messages that wait for it. The first has an agent besides, which goes round the ring:
-/// at each site that it comes to it emits that site's name, and it stops when it is back at the first.
+/// Each site has a rule and eight messages that wait for it. The first has an agent besides, which
+/// goes round the ring: at each site that it comes to it emits that site's name, and it stops when
+/// it is back at the first.
 pub fn ring_text(alloc: Global, n: u32) -> Result<Text, Memory>
     requires { (1 ≤ n) × (n ≤ 64) }
     ensures { IfOk result (λ text. text ≡ ring_text n) }

@@ -1,14 +1,18 @@
 -- Blocks, parameter lists, and what a spelling is resolved to.
-use Rattle.std.specs.Prelude.{ℕ, ◌+◌, List, [], ◌∷◌, ◌++◌, Option, Some, None, length, if◌then◌else◌}
+use Rattle.std.specs.Prelude.{ℕ, ◌+◌, List, [], ◌∷◌, ◌++◌, Option}
+use Rattle.std.specs.Prelude.{Some, None, length, if◌then◌else◌}
 use Rattle.std.specs.Str.{bytes_eq}
 use Rattle.join_parse.specs.declared.word.Word.{Word}
 use Rattle.join_parse.specs.declared.word.PatTree.{PatTree}
 use Rattle.join_parse.specs.declared.word.SeenTree.{SeenTree}
 use Rattle.join_parse.specs.declared.tree.PlaceTree.{PlaceTree}
-use Rattle.join_parse.specs.Source.{Process, Zero, Msg, Go, Fail, Halt, Group, Def, Processes, none, one_more, Definition, Rule, Place, Definitions, no_definition, and_also, processes, definitions}
+use Rattle.join_parse.specs.Source.{Process, Zero, Msg, Go, Fail, Halt, Group, Def, Processes}
+use Rattle.join_parse.specs.Source.{none, one_more, Definition, Rule, Place, Definitions}
+use Rattle.join_parse.specs.Source.{no_definition, and_also, processes, definitions}
 use Rattle.join_parse.specs.Grammar.{TreeOfText}
 use Rattle.scope_names.specs.declared.scope.Sort.{Sort}
-use Rattle.scope_names.specs.declared.scope.Sort.TheVariants.{Channel, Location, Observed, Parameter}
+use Rattle.scope_names.specs.declared.scope.Sort.TheVariants.{Channel, Location}
+use Rattle.scope_names.specs.declared.scope.Sort.TheVariants.{Observed, Parameter}
 
 -- an occurrence that defines: a word, and what it makes of the spelling
 abbrev pub Defining : Type 0

@@ -26,12 +26,16 @@ pub record IsProgramOf (t : TreeOfText) (p : ProgramTerms) : Type 0 where
 
 -- The tree's first fault is of this kind at this place.
 abbrev pub IsRefusedAs : TreeOfText → Front → Type 0
-IsRefusedAs t (Refused kind place) = IsFirst (IsFault most_sites no_literals t) (Some (record { kind = kind; place = place }))
+IsRefusedAs t (Refused kind place) =
+    IsFirst (IsFault most_sites no_literals t) (Some (record { kind = kind; place = place }))
 IsRefusedAs t Memory = Unit {0}
 
 -- A tree has one program or one first fault, and never both.
 pub record OneOutcome (t : TreeOfText) : Type 0 where
-  pub some : ((p : ProgramTerms) × IsProgramOf t p) ⊎ ((f : Fault) × IsFirst (IsFault most_sites no_literals t) (Some f))
+  pub some : ((p : ProgramTerms) × IsProgramOf t p)
+      ⊎ ((f : Fault) × IsFirst (IsFault most_sites no_literals t) (Some f))
   pub one_program : (p q : ProgramTerms) → IsProgramOf t p → IsProgramOf t q → p ≡ q
-  pub one_fault : (f g : Fault) → IsFirst (IsFault most_sites no_literals t) (Some f) → IsFirst (IsFault most_sites no_literals t) (Some g) → f ≡ g
-  pub never_both : (p : ProgramTerms) (f : Fault) → IsProgramOf t p → IsFirst (IsFault most_sites no_literals t) (Some f) → ⊥
+  pub one_fault : (f g : Fault) → IsFirst (IsFault most_sites no_literals t) (Some f)
+      → IsFirst (IsFault most_sites no_literals t) (Some g) → f ≡ g
+  pub never_both : (p : ProgramTerms) (f : Fault) → IsProgramOf t p
+      → IsFirst (IsFault most_sites no_literals t) (Some f) → ⊥

@@ -1,19 +1,25 @@
 -- A list with the members of the set of faults: what the walks note, in their order.
-use Rattle.std.specs.Prelude.{ℕ, ◌==◌, Bool, List, [], ◌∷◌, ◌++◌, Option, Some, None, drop, if◌then◌else◌}
+use Rattle.std.specs.Prelude.{ℕ, ◌==◌, Bool, List, [], ◌∷◌, ◌++◌}
+use Rattle.std.specs.Prelude.{Option, Some, None, drop, if◌then◌else◌}
 use Rattle.std.specs.List.{list_any}
 use Rattle.std.specs.Str.{bytes_eq}
 use Rattle.join_base.specs.declared.fault.Kind.{Kind}
-use Rattle.join_base.specs.declared.fault.Kind.TheVariants.{Scope1, Scope2, Scope3, Scope4, Scope5, Scope6, Arity1, Arity2, Arity3, Arity4}
+use Rattle.join_base.specs.declared.fault.Kind.TheVariants.{Scope1, Scope2, Scope3, Scope4, Scope5}
+use Rattle.join_base.specs.declared.fault.Kind.TheVariants.{Scope6, Arity1, Arity2, Arity3, Arity4}
 use Rattle.join_parse.specs.declared.word.Word.{Word}
 use Rattle.join_parse.specs.declared.word.PatTree.{PatTree}
 use Rattle.join_parse.specs.declared.tree.PlaceTree.{PlaceTree}
-use Rattle.join_parse.specs.Source.{Process, Zero, Msg, Go, Fail, Halt, Group, Def, Processes, none, one_more, Definition, Rule, Place, Definitions, no_definition, and_also}
+use Rattle.join_parse.specs.Source.{Process, Zero, Msg, Go, Fail, Halt, Group, Def}
+use Rattle.join_parse.specs.Source.{Processes, none, one_more, Definition, Rule}
+use Rattle.join_parse.specs.Source.{Place, Definitions, no_definition, and_also}
 use Rattle.join_parse.specs.Grammar.{TreeOfText}
 use Rattle.chem_model.specs.declared.name.Ref.{Ref}
 use Rattle.scope_names.specs.declared.scope.Sort.{Sort}
-use Rattle.scope_names.specs.declared.scope.Sort.TheVariants.{Channel, Location, Observed, Parameter}
+use Rattle.scope_names.specs.declared.scope.Sort.TheVariants.{Channel, Location}
+use Rattle.scope_names.specs.declared.scope.Sort.TheVariants.{Observed, Parameter}
 use Rattle.scope_check.specs.declared.fault.Fault.{Fault}
-use Rattle.scope_check.specs.Blocks.{Defining, params, block, sites_of, outermost, first_in, Resolved, resolve}
+use Rattle.scope_check.specs.Blocks.{Defining, params, block, sites_of}
+use Rattle.scope_check.specs.Blocks.{outermost, first_in, Resolved, resolve}
 use Rattle.scope_check.specs.Uses.{Manner, called, headed, sent, Use, uses_of}
 use Rattle.scope_check.specs.Faults.{ons}
 
@@ -50,7 +56,8 @@ use_faults (u ∷ us) = used_by u.manner u.word (resolve u.around u.word.text) +
 
 -- a defining occurrence after the first one of its spelling in its block
 abbrev pub clash : (first : Sort) → Word → Sort → List Fault
-clash (Channel m at) w (Channel n here) = unless (m == n) (fault Arity2 w) ++ unless (at == here) (fault Scope2 w)
+clash (Channel m at) w (Channel n here) =
+    unless (m == n) (fault Arity2 w) ++ unless (at == here) (fault Scope2 w)
 clash first w later = fault Scope3 w
 
 abbrev pub clash_if : Option Sort → Word → Sort → List Fault
@@ -59,7 +66,8 @@ clash_if (Some first) w later = clash first w later
 
 abbrev pub clashes : (before names : List Defining) → List Fault
 clashes before [] = []
-clashes before (d ∷ ds) = clash_if (first_in d.0.text before) d.0 d.1 ++ clashes (before ++ d ∷ []) ds
+clashes before (d ∷ ds) =
+    clash_if (first_in d.0.text before) d.0 d.1 ++ clashes (before ++ d ∷ []) ds
 
 -- a word with the spelling of an earlier one of the list
 abbrev pub is_spelled_in : List ℕ → List Word → Bool
@@ -70,7 +78,8 @@ repeated_if there kind w = if there then fault kind w else []
 
 abbrev pub repeats : Kind → (before words : List Word) → List Fault
 repeats kind before [] = []
-repeats kind before (w ∷ ws) = repeated_if (is_spelled_in w.text before) kind w ++ repeats kind (before ++ w ∷ []) ws
+repeats kind before (w ∷ ws) =
+    repeated_if (is_spelled_in w.text before) kind w ++ repeats kind (before ++ w ∷ []) ws
 
 abbrev pub pattern_faults : List PatTree → List Fault
 pattern_faults pats = repeats Scope5 [] (ons pats) ++ repeats Scope4 [] (params pats)
@@ -106,4 +115,5 @@ many [] = []
 many (s ∷ ss) = record { kind = Scope6; place = s.opener } ∷ many ss
 
 abbrev pub fault_list : (limit : ℕ) (literal : Word → Option Ref) → TreeOfText → List Fault
-fault_list limit literal t = many (drop limit t.sites) ++ (declared_faults t ++ use_faults (uses_of literal t))
+fault_list limit literal t =
+    many (drop limit t.sites) ++ (declared_faults t ++ use_faults (uses_of literal t))

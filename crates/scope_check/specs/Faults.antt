@@ -1,22 +1,27 @@
 -- The set of faults of scope and arity of a tree.
-use Rattle.std.specs.Prelude.{◌≡◌, ◌≢◌, ℕ, ◌≤◌, ◌⊎◌, List, [], ◌∷◌, ◌++◌, Option, Some, None, length}
+use Rattle.std.specs.Prelude.{◌≡◌, ◌≢◌, ℕ, ◌≤◌, ◌⊎◌, List, [], ◌∷◌}
+use Rattle.std.specs.Prelude.{◌++◌, Option, Some, None, length}
 use Rattle.join_base.specs.declared.fault.Kind.{Kind}
-use Rattle.join_base.specs.declared.fault.Kind.TheVariants.{Scope1, Scope2, Scope3, Scope4, Scope5, Scope6, Arity1, Arity2, Arity3, Arity4}
+use Rattle.join_base.specs.declared.fault.Kind.TheVariants.{Scope1, Scope2, Scope3, Scope4, Scope5}
+use Rattle.join_base.specs.declared.fault.Kind.TheVariants.{Scope6, Arity1, Arity2, Arity3, Arity4}
 use Rattle.join_parse.specs.declared.word.Word.{Word}
 use Rattle.join_parse.specs.declared.word.PatTree.{PatTree}
 use Rattle.join_parse.specs.declared.tree.PlaceTree.{PlaceTree}
 use Rattle.join_parse.specs.Grammar.{TreeOfText}
 use Rattle.chem_model.specs.declared.name.Ref.{Ref}
 use Rattle.scope_names.specs.declared.scope.Sort.{Sort}
-use Rattle.scope_names.specs.declared.scope.Sort.TheVariants.{Channel, Location, Observed, Parameter}
+use Rattle.scope_names.specs.declared.scope.Sort.TheVariants.{Channel, Location}
+use Rattle.scope_names.specs.declared.scope.Sort.TheVariants.{Observed, Parameter}
 use Rattle.scope_check.specs.declared.fault.Fault.{Fault}
 use Rattle.scope_check.specs.Blocks.{Defining, params, first_in, Resolved, resolve}
-use Rattle.scope_check.specs.Uses.{Manner, called, headed, sent, Use, uses_of, Declared, a_block, a_join, declared_of}
+use Rattle.scope_check.specs.Uses.{Manner, called, headed, sent, Use, uses_of}
+use Rattle.scope_check.specs.Uses.{Declared, a_block, a_join, declared_of}
 
 pub data Member {A : Type 0} (x : A) (xs : List A) : Type 0 where
   stands : (before after : List A) → xs ≡ before ++ x ∷ after → Member x xs
 
--- A known channel or observed name is called with another count, or a known location is called. A parameter has neither kind nor count.
+-- A known channel or observed name is called with another count, or a known location is called. A
+-- parameter has neither kind nor count.
 abbrev pub WrongCall : ℕ → Sort → Kind → Type 0
 WrongCall n (Channel m at) k = (k ≡ Arity1) × (m ≢ n)
 WrongCall n (Observed m i) k = (k ≡ Arity1) × (m ≢ n)
@@ -35,7 +40,8 @@ WrongAs (called n) sort k = WrongCall n sort k
 WrongAs headed sort k = WrongHead sort k
 WrongAs sent sort k = ⊥
 
--- what is wrong with a use, by what its spelling is resolved to: an unknown name, or a known one that may not stand so
+-- what is wrong with a use, by what its spelling is resolved to: an unknown name, or a known one
+-- that may not stand so
 abbrev pub WrongBy : Manner → Option Resolved → Kind → Type 0
 WrongBy m None k = k ≡ Scope1
 WrongBy m (Some r) k = WrongAs m r.sort k
@@ -47,7 +53,8 @@ pub record WrongUse (u : Use) (f : Fault) : Type 0 where
 -- A later pattern of a channel has another count or stands at another location than the first one,
 -- or not both occurrences are channels of patterns.
 abbrev pub WrongAfter : (first later : Sort) → Kind → Type 0
-WrongAfter (Channel m at) (Channel n here) k = ((k ≡ Arity2) × (m ≢ n)) ⊎ ((k ≡ Scope2) × (at ≢ here))
+WrongAfter (Channel m at) (Channel n here) k =
+    ((k ≡ Arity2) × (m ≢ n)) ⊎ ((k ≡ Scope2) × (at ≢ here))
 WrongAfter first later k = k ≡ Scope3
 
 -- a defining occurrence that isn't the first one of its spelling in its block
@@ -92,8 +99,11 @@ pub record WrongSite (limit : ℕ) (sites : List PlaceTree) (f : Fault) : Type 0
   pub here : f.place ≡ site.opener
   pub wrong : f.kind ≡ Scope6
 
--- The faults of a tree in which there may be this many sites, and an argument that isn't a name stands for this.
-pub data IsFault (limit : ℕ) (literal : Word → Option Ref) (t : TreeOfText) (f : Fault) : Type 0 where
+-- The faults of a tree in which there may be this many sites, and an argument that isn't a name
+-- stands for this.
+pub data IsFault (limit : ℕ) (literal : Word → Option Ref) (t : TreeOfText)
+    (f : Fault) : Type 0 where
   of_use : (u : Use) → Member u (uses_of literal t) → WrongUse u f → IsFault limit literal t f
-  of_declared : (d : Declared) → Member d (declared_of t) → WrongDeclared d f → IsFault limit literal t f
+  of_declared : (d : Declared) → Member d (declared_of t) → WrongDeclared d f
+      → IsFault limit literal t f
   of_site : WrongSite limit t.sites f → IsFault limit literal t f

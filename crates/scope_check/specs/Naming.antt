@@ -1,12 +1,18 @@
--- What the first walk computes: the tables of all scopes, each binder with its number, and the spellings in the order of the numbers. Private to the code.
+-- What the first walk computes: the tables of all scopes, each binder with its number, and the
+-- spellings in the order of the numbers. Private to the code.
 use Rattle.std.specs.Prelude.{ℕ, ◌+◌, Bool, true, false, List, [], ◌∷◌, ◌++◌, length, is_some}
 use Rattle.join_parse.specs.declared.word.Word.{Word}
 use Rattle.join_parse.specs.declared.word.PatTree.{PatTree}
-use Rattle.join_parse.specs.Source.{Process, Zero, Msg, Go, Fail, Halt, Group, Def, Processes, none, one_more, Definition, Rule, Place, Definitions, no_definition, and_also}
+use Rattle.join_parse.specs.declared.tree.PlaceTree.{PlaceTree}
+use Rattle.join_parse.specs.Source.{Process, Zero, Msg, Go, Fail, Halt, Group, Def}
+use Rattle.join_parse.specs.Source.{Processes, none, one_more, Definition, Rule}
+use Rattle.join_parse.specs.Source.{Place, Definitions, no_definition, and_also}
+use Rattle.scope_names.specs.declared.scope.Entry.{Entry}
 use Rattle.scope_names.specs.declared.scope.Sort.{Sort}
-use Rattle.scope_names.specs.declared.scope.Sort.TheVariants.{Channel, Location, Observed, Parameter}
+use Rattle.scope_names.specs.declared.scope.Sort.TheVariants.{Channel, Location}
+use Rattle.scope_names.specs.declared.scope.Sort.TheVariants.{Observed, Parameter}
 use Rattle.scope_names.specs.Frames.{in_frame}
-use Rattle.scope_check.specs.Blocks.{Defining, places_of}
+use Rattle.scope_check.specs.Blocks.{Defining, places_of, sites_of}
 use Rattle.scope_check.specs.Twin.{Table}
 
 pub record Named : Type 0 where
@@ -28,7 +34,9 @@ spells_as Parameter spell text = spell ++ text ∷ []
 
 abbrev pub name_if : Bool → List (List ℕ) → Table → Word → Sort → Named
 name_if true spell table w sort = record { table = table; spell = spell }
-name_if false spell table w sort = record { table = table ++ (w.text, record { sort = sort; binder = numbered_as sort (length spell) }) ∷ []; spell = spells_as sort spell w.text }
+name_if false spell table w sort =
+    let entry : Entry = record { sort = sort; binder = numbered_as sort (length spell) } in
+    record { table = table ++ (w.text, entry) ∷ []; spell = spells_as sort spell w.text }
 
 -- a word that isn't in the table yet takes the next number
 abbrev pub name_one : List (List ℕ) → Table → Word → Sort → Named
@@ -36,7 +44,8 @@ name_one spell table w sort = name_if (is_some (in_frame w.text table)) spell ta
 
 abbrev pub name_words : List (List ℕ) → Table → List Word → Named
 name_words spell table [] = record { table = table; spell = spell }
-name_words spell table (w ∷ ws) = let a = name_one spell table w Parameter in name_words a.spell a.table ws
+name_words spell table (w ∷ ws) =
+    let a = name_one spell table w Parameter in name_words a.spell a.table ws
 
 -- all names of a block
 abbrev pub name_all : List (List ℕ) → Table → List Defining → Named
@@ -101,3 +110,11 @@ abbrev mutual
       let a = walk_one at place spell own d in
       let b = walk_level at (place + places_of d) a.spell a.own ds in
       record { own = b.own; tables = a.tables ++ b.tables; spell = b.spell }
+
+-- the names of the outermost block, and what is named within the sites after them
+abbrev pub outermost : List Defining → Named
+outermost names = name_all [] [] names
+
+abbrev pub walk_sites : List Defining → List PlaceTree → Level
+walk_sites names sites =
+    walk_level 0 1 (outermost names).spell (outermost names).table (sites_of sites)

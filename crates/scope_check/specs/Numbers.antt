@@ -4,9 +4,12 @@ use Rattle.std.specs.List.{list_any}
 use Rattle.std.specs.Str.{bytes_eq}
 use Rattle.join_parse.specs.declared.word.Word.{Word}
 use Rattle.join_parse.specs.declared.word.PatTree.{PatTree}
-use Rattle.join_parse.specs.Source.{Process, Zero, Msg, Go, Fail, Halt, Group, Def, Processes, none, one_more, Definition, Rule, Place, Definitions, no_definition, and_also}
+use Rattle.join_parse.specs.Source.{Process, Zero, Msg, Go, Fail, Halt, Group, Def}
+use Rattle.join_parse.specs.Source.{Processes, none, one_more, Definition, Rule}
+use Rattle.join_parse.specs.Source.{Place, Definitions, no_definition, and_also}
 use Rattle.join_parse.specs.Grammar.{TreeOfText}
-use Rattle.scope_check.specs.Blocks.{Defining, block, sites_of, observed_from, scopes_in, scopes_in_def, scopes_in_defs}
+use Rattle.scope_check.specs.Blocks.{Defining, block, sites_of, observed_from}
+use Rattle.scope_check.specs.Blocks.{scopes_in, scopes_in_def, scopes_in_defs}
 
 -- a binder is a spelling in a scope
 pub record Binder : Type 0 where
@@ -34,7 +37,8 @@ abbrev mutual
   in_process k (Fail b c) = []
   in_process k Halt = []
   in_process k (Group ps) = in_processes k ps
-  in_process k (Def ds ps) = in_definitions k (k + 1) ds ++ in_processes (k + 1 + scopes_in_defs ds) ps
+  in_process k (Def ds ps) =
+      in_definitions k (k + 1) ds ++ in_processes (k + 1 + scopes_in_defs ds) ps
 
   pub in_processes : ℕ → Processes → List Binder
   in_processes k none = []
@@ -42,11 +46,13 @@ abbrev mutual
 
   pub in_definition : (own k : ℕ) → Definition → List Binder
   in_definition own k (Rule pats body) = in_patterns own k pats ++ in_processes (k + 1) body
-  in_definition own k (Place o a ds body) = binder own a ∷ in_definitions own k ds ++ in_processes (k + scopes_in_defs ds) body
+  in_definition own k (Place o a ds body) =
+      binder own a ∷ in_definitions own k ds ++ in_processes (k + scopes_in_defs ds) body
 
   pub in_definitions : (own k : ℕ) → Definitions → List Binder
   in_definitions own k no_definition = []
-  in_definitions own k (and_also d ds) = in_definition own k d ++ in_definitions own (k + scopes_in_def d) ds
+  in_definitions own k (and_also d ds) =
+      in_definition own k d ++ in_definitions own (k + scopes_in_def d) ds
 
 abbrev pub is_same : Binder → Binder → Bool
 is_same a b = a.scope == b.scope && bytes_eq a.text b.text
@@ -54,7 +60,9 @@ is_same a b = a.scope == b.scope && bytes_eq a.text b.text
 -- the members of a list that do not stand before, each once
 abbrev pub firsts_after : (before list : List Binder) → List Binder
 firsts_after before [] = []
-firsts_after before (b ∷ bs) = if list_any (is_same b) before then firsts_after (before ++ b ∷ []) bs else b ∷ firsts_after (before ++ b ∷ []) bs
+firsts_after before (b ∷ bs) =
+    if list_any (is_same b) before then firsts_after (before ++ b ∷ []) bs
+    else b ∷ firsts_after (before ++ b ∷ []) bs
 
 -- the binders of a list of defining occurrences of a scope
 abbrev pub keys : ℕ → List Defining → List Binder
@@ -70,8 +78,8 @@ site_names t = keys 0 (block (sites_of t.sites))
 abbrev pub all_binding : TreeOfText → List Binder
 all_binding t = in_definitions 0 1 (sites_of t.sites)
 
--- The names that the sites define, in the order of their first defining occurrences: a spelling that is first declared as an
--- observed name is none.
+-- The names that the sites define, in the order of their first defining occurrences: a spelling
+-- that is first declared as an observed name is none.
 abbrev pub site_level : TreeOfText → List Binder
 site_level t = firsts_after (observed t) (site_names t)
 

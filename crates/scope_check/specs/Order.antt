@@ -1,7 +1,10 @@
 -- The first of a set of faults: the least place, and at one place the kind that stands first.
-use Rattle.std.specs.Prelude.{◌≡◌, ℕ, ◌<◌, ◌≤◌, ◌⊎◌, ◌==◌, ◌||◌, ◌&&◌, nat_lt, List, Option, Some, None, if◌then◌else◌, fold}
+use Rattle.std.specs.Prelude.{◌≡◌, ℕ, ◌<◌, ◌≤◌, ◌⊎◌, ◌==◌, ◌||◌, ◌&&◌, nat_lt}
+use Rattle.std.specs.Prelude.{List, Option, Some, None, if◌then◌else◌, fold}
 use Rattle.join_base.specs.declared.fault.Kind.{Kind}
-use Rattle.join_base.specs.declared.fault.Kind.TheVariants.{Lex1, Lex2, Lex3, Grammar1, Grammar2, Scope1, Scope2, Scope3, Scope4, Scope5, Scope6, Arity1, Arity2, Arity3, Arity4}
+use Rattle.join_base.specs.declared.fault.Kind.TheVariants.{Lex1, Lex2, Lex3, Grammar1, Grammar2}
+use Rattle.join_base.specs.declared.fault.Kind.TheVariants.{Scope1, Scope2, Scope3, Scope4, Scope5}
+use Rattle.join_base.specs.declared.fault.Kind.TheVariants.{Scope6, Arity1, Arity2, Arity3, Arity4}
 use Rattle.scope_check.specs.declared.fault.Fault.{Fault}
 
 -- the order of the kinds
@@ -33,7 +36,9 @@ IsFirst faults (Some f) = faults f × ((g : Fault) → faults g → IsSooner f g
 -- the sooner of what is kept and one more
 abbrev pub sooner : Option Fault → Fault → Option Fault
 sooner None g = Some g
-sooner (Some f) g = if nat_lt g.place f.place || (g.place == f.place && nat_lt (rank g.kind) (rank f.kind)) then Some g else Some f
+sooner (Some f) g =
+    if nat_lt g.place f.place || (g.place == f.place && nat_lt (rank g.kind) (rank f.kind))
+    then Some g else Some f
 
 abbrev pub first_of : Option Fault → List Fault → Option Fault
 first_of o fs = fold sooner o fs

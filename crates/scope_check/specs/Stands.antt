@@ -14,14 +14,18 @@ use Rattle.chem_model.specs.declared.name.Name.TheVariants as name
 use Rattle.chem_model.specs.declared.name.Pat.{Pat}
 use Rattle.chem_model.specs.Process as t
 use Rattle.scope_names.specs.declared.scope.Sort.{Sort}
-use Rattle.scope_names.specs.declared.scope.Sort.TheVariants.{Channel, Location, Observed, Parameter}
+use Rattle.scope_names.specs.declared.scope.Sort.TheVariants.{Channel, Location}
+use Rattle.scope_names.specs.declared.scope.Sort.TheVariants.{Observed, Parameter}
 use Rattle.chem_model.specs.declared.program.SeenDecl.{SeenDecl}
 use Rattle.chem_model.specs.declared.program.SiteTerm.{SiteTerm}
 use Rattle.chem_model.specs.ProgramFacts.{ProgramTerms}
-use Rattle.scope_check.specs.Blocks.{block, params, parameters, outermost, Scope, Resolved, resolve, open_at, scopes_in, scopes_in_all, scopes_in_def, scopes_in_defs}
+use Rattle.scope_check.specs.Blocks.{block, params, parameters, outermost, Scope}
+use Rattle.scope_check.specs.Blocks.{Resolved, resolve, open_at, scopes_in}
+use Rattle.scope_check.specs.Blocks.{scopes_in_all, scopes_in_def, scopes_in_defs}
 use Rattle.scope_check.specs.Numbers.{Binder, binder, binders, site_level, index_of}
 
--- A list of one process stands for that process, and any other list for the parallel composition of its members.
+-- A list of one process stands for that process, and any other list for the parallel composition of
+-- its members.
 abbrev pub together : List t.Process → t.Process
 together [] = t.Par t.none
 together (p ∷ []) = p
@@ -48,9 +52,12 @@ module _ (number : Binder → ℕ) where
 
   abbrev pub pats_of : (own k : ℕ) → List PatTree → List Pat
   pats_of own k [] = []
-  pats_of own k (p ∷ ps) = record { on = ref.Binder (number (binder own p.on)); params = numbers k p.params } ∷ pats_of own k ps
+  pats_of own k (p ∷ ps) =
+      record { on = ref.Binder (number (binder own p.on)); params = numbers k p.params }
+      ∷ pats_of own k ps
 
-  -- And this is what an argument that isn't a name stands for: None for one that is, and that stands for what it is resolved to.
+  -- And this is what an argument that isn't a name stands for: None for one that is, and that
+  -- stands for what it is resolved to.
   module _ (literal : Word → Option Ref) where
     abbrev pub refs_of : List Scope → List Word → List Ref
     refs_of env [] = []
@@ -65,7 +72,8 @@ module _ (number : Binder → ℕ) where
       process env k s.Halt = t.Halt
       process env k (s.Group ps) = together (members env k ps)
       process env k (s.Def ds ps) =
-          t.Def (t.definitions (level k (open_at k (block ds) env) (k + 1) ds)) (together (members (open_at k (block ds) env) (k + 1 + scopes_in_defs ds) ps))
+          t.Def (t.definitions (level k (open_at k (block ds) env) (k + 1) ds))
+          (together (members (open_at k (block ds) env) (k + 1 + scopes_in_defs ds) ps))
 
       pub members : List Scope → ℕ → s.Processes → List t.Process
       members env k s.none = []
@@ -73,13 +81,16 @@ module _ (number : Binder → ℕ) where
 
       pub definition : (own : ℕ) → List Scope → ℕ → s.Definition → t.Definition
       definition own env k (s.Rule pats body) =
-          t.Rule (pats_of own k pats) (together (members (open_at k (parameters (params pats)) env) (k + 1) body))
+          t.Rule (pats_of own k pats)
+          (together (members (open_at k (parameters (params pats)) env) (k + 1) body))
       definition own env k (s.Place o a ds body) =
-          t.Place (ref.Binder (number (binder own a))) (t.definitions (level own env k ds)) (together (members env (k + scopes_in_defs ds) body))
+          t.Place (ref.Binder (number (binder own a))) (t.definitions (level own env k ds))
+          (together (members env (k + scopes_in_defs ds) body))
 
       pub level : (own : ℕ) → List Scope → ℕ → s.Definitions → List t.Definition
       level own env k s.no_definition = []
-      level own env k (s.and_also d ds) = definition own env k d ∷ level own env (k + scopes_in_def d) ds
+      level own env k (s.and_also d ds) =
+          definition own env k d ∷ level own env (k + scopes_in_def d) ds
 
     abbrev pub site_terms : List Scope → ℕ → List PlaceTree → List SiteTerm
     site_terms env k [] = []
@@ -87,8 +98,10 @@ module _ (number : Binder → ℕ) where
         record {
           name = number (binder 0 x.name);
           defs = level 0 env k (definitions x.defs);
-          body = together (members env (k + scopes_in_defs (definitions x.defs)) (processes x.body));
-        } ∷ site_terms env (k + (scopes_in_defs (definitions x.defs) + scopes_in_all (processes x.body))) xs
+          body =
+              together (members env (k + scopes_in_defs (definitions x.defs)) (processes x.body));
+        } ∷ site_terms env
+        (k + (scopes_in_defs (definitions x.defs) + scopes_in_all (processes x.body))) xs
 
 abbrev pub seen_decls : List SeenTree → List SeenDecl
 seen_decls [] = []

@@ -1,4 +1,5 @@
--- What the translation computes, over the tables of all scopes. Private to the code: `Tables` and `Uses` tie it to what a tree stands for.
+-- What the translation computes, over the tables of all scopes. Private to the code: `Tables` and
+-- `Uses` tie it to what a tree stands for.
 use Rattle.std.specs.Prelude.{ℕ, ◌+◌, List, [], ◌∷◌, ◌++◌, Option, Some, None, length}
 use Rattle.std.proofs.Common.{get_or}
 use Rattle.join_parse.specs.declared.word.Word.{Word}
@@ -10,7 +11,8 @@ use Rattle.chem_model.specs.declared.name.Name.TheVariants as name
 use Rattle.chem_model.specs.declared.name.Pat.{Pat}
 use Rattle.chem_model.specs.Process as t
 use Rattle.scope_names.specs.declared.scope.Sort.{Sort}
-use Rattle.scope_names.specs.declared.scope.Sort.TheVariants.{Channel, Location, Observed, Parameter}
+use Rattle.scope_names.specs.declared.scope.Sort.TheVariants.{Channel, Location}
+use Rattle.scope_names.specs.declared.scope.Sort.TheVariants.{Observed, Parameter}
 use Rattle.scope_names.specs.declared.scope.Entry.{Entry}
 use Rattle.scope_names.specs.Frames.{in_frame, in_env}
 use Rattle.join_base.specs.declared.fault.Kind.TheVariants.{Scope1}
@@ -67,7 +69,9 @@ binders_in table (w ∷ ws) = binder_in table w ∷ binders_in table ws
 
 abbrev pub pats_in : (own params : Table) → List PatTree → List Pat
 pats_in own params [] = []
-pats_in own params (p ∷ ps) = record { on = ref.Binder (binder_in own p.on); params = binders_in params p.params } ∷ pats_in own params ps
+pats_in own params (p ∷ ps) =
+    record { on = ref.Binder (binder_in own p.on); params = binders_in params p.params }
+    ∷ pats_in own params ps
 
 module _ (tables : List Table) where
   abbrev pub table_at : ℕ → Table
@@ -78,35 +82,45 @@ module _ (tables : List Table) where
     process_in env at s.Zero = t.Par t.none
     process_in env at (s.Msg on args) = t.Msg (ref_by (in_env on.text env)) (refs_in env args)
     process_in env at (s.Go b c) = t.Go (ref_by (in_env b.text env)) (ref_by (in_env c.text env))
-    process_in env at (s.Fail b c) = t.Fail (ref_by (in_env b.text env)) (ref_by (in_env c.text env))
+    process_in env at (s.Fail b c) =
+        t.Fail (ref_by (in_env b.text env)) (ref_by (in_env c.text env))
     process_in env at s.Halt = t.Halt
     process_in env at (s.Group ps) = together (members_in env at ps)
     process_in env at (s.Def ds ps) =
-        t.Def (t.definitions (level_in (table_at at) (table_at at ∷ env) (at + 1) ds)) (together (members_in (table_at at ∷ env) (at + 1 + scopes_in_defs ds) ps))
+        t.Def (t.definitions (level_in (table_at at) (table_at at ∷ env) (at + 1) ds))
+        (together (members_in (table_at at ∷ env) (at + 1 + scopes_in_defs ds) ps))
 
     pub members_in : List Table → ℕ → s.Processes → List t.Process
     members_in env at s.none = []
     members_in env at (s.one_more p ps) = process_in env at p ∷ members_in env (at + scopes_in p) ps
 
     pub definition_in : (own : Table) → List Table → ℕ → s.Definition → t.Definition
-    definition_in own env at (s.Rule pats body) = t.Rule (pats_in own (table_at at) pats) (together (members_in (table_at at ∷ env) (at + 1) body))
+    definition_in own env at (s.Rule pats body) =
+        t.Rule (pats_in own (table_at at) pats)
+        (together (members_in (table_at at ∷ env) (at + 1) body))
     definition_in own env at (s.Place o a ds body) =
-        t.Place (ref.Binder (binder_in own a)) (t.definitions (level_in own env at ds)) (together (members_in env (at + scopes_in_defs ds) body))
+        t.Place (ref.Binder (binder_in own a)) (t.definitions (level_in own env at ds))
+        (together (members_in env (at + scopes_in_defs ds) body))
 
     pub level_in : (own : Table) → List Table → ℕ → s.Definitions → List t.Definition
     level_in own env at s.no_definition = []
-    level_in own env at (s.and_also d ds) = definition_in own env at d ∷ level_in own env (at + scopes_in_def d) ds
+    level_in own env at (s.and_also d ds) =
+        definition_in own env at d ∷ level_in own env (at + scopes_in_def d) ds
 
   -- the faults of uses, in the order of the walk
   abbrev mutual
     pub uses_in : List Table → ℕ → s.Process → List Fault
     uses_in env at s.Zero = []
-    uses_in env at (s.Msg on args) = called_by on (length args) (in_env on.text env) ++ sent_in env args
+    uses_in env at (s.Msg on args) =
+        called_by on (length args) (in_env on.text env) ++ sent_in env args
     uses_in env at (s.Go b c) = headed_by b (in_env b.text env) ++ called_by c 0 (in_env c.text env)
-    uses_in env at (s.Fail b c) = headed_by b (in_env b.text env) ++ called_by c 0 (in_env c.text env)
+    uses_in env at (s.Fail b c) =
+        headed_by b (in_env b.text env) ++ called_by c 0 (in_env c.text env)
     uses_in env at s.Halt = []
     uses_in env at (s.Group ps) = all_uses_in env at ps
-    uses_in env at (s.Def ds ps) = level_uses_in (table_at at ∷ env) (at + 1) ds ++ all_uses_in (table_at at ∷ env) (at + 1 + scopes_in_defs ds) ps
+    uses_in env at (s.Def ds ps) =
+        level_uses_in (table_at at ∷ env) (at + 1) ds
+        ++ all_uses_in (table_at at ∷ env) (at + 1 + scopes_in_defs ds) ps
 
     pub all_uses_in : List Table → ℕ → s.Processes → List Fault
     all_uses_in env at s.none = []
@@ -114,11 +128,13 @@ module _ (tables : List Table) where
 
     pub definition_uses_in : List Table → ℕ → s.Definition → List Fault
     definition_uses_in env at (s.Rule pats body) = all_uses_in (table_at at ∷ env) (at + 1) body
-    definition_uses_in env at (s.Place o a ds body) = level_uses_in env at ds ++ all_uses_in env (at + scopes_in_defs ds) body
+    definition_uses_in env at (s.Place o a ds body) =
+        level_uses_in env at ds ++ all_uses_in env (at + scopes_in_defs ds) body
 
     pub level_uses_in : List Table → ℕ → s.Definitions → List Fault
     level_uses_in env at s.no_definition = []
-    level_uses_in env at (s.and_also d ds) = definition_uses_in env at d ++ level_uses_in env (at + scopes_in_def d) ds
+    level_uses_in env at (s.and_also d ds) =
+        definition_uses_in env at d ++ level_uses_in env (at + scopes_in_def d) ds
 
   abbrev pub site_terms_in : (own : Table) → List Table → ℕ → List PlaceTree → List SiteTerm
   site_terms_in own env at [] = []
@@ -126,5 +142,8 @@ module _ (tables : List Table) where
       record {
         name = binder_in own x.name;
         defs = level_in own env at (s.definitions x.defs);
-        body = together (members_in env (at + scopes_in_defs (s.definitions x.defs)) (s.processes x.body));
-      } ∷ site_terms_in own env (at + (scopes_in_defs (s.definitions x.defs) + scopes_in_all (s.processes x.body))) xs
+        body =
+            together
+            (members_in env (at + scopes_in_defs (s.definitions x.defs)) (s.processes x.body));
+      } ∷ site_terms_in own env
+      (at + (scopes_in_defs (s.definitions x.defs) + scopes_in_all (s.processes x.body))) xs

@@ -2,12 +2,16 @@
 use Rattle.std.specs.Prelude.{ℕ, ◌+◌, List, [], ◌∷◌, ◌++◌, Option, Some, None, length}
 use Rattle.join_parse.specs.declared.word.Word.{Word}
 use Rattle.join_parse.specs.declared.word.PatTree.{PatTree}
-use Rattle.join_parse.specs.Source.{Process, Zero, Msg, Go, Fail, Halt, Group, Def, Processes, none, one_more, Definition, Rule, Place, Definitions, no_definition, and_also}
+use Rattle.join_parse.specs.Source.{Process, Zero, Msg, Go, Fail, Halt, Group, Def}
+use Rattle.join_parse.specs.Source.{Processes, none, one_more, Definition, Rule}
+use Rattle.join_parse.specs.Source.{Place, Definitions, no_definition, and_also}
 use Rattle.join_parse.specs.Grammar.{TreeOfText}
 use Rattle.chem_model.specs.declared.name.Ref.{Ref}
-use Rattle.scope_check.specs.Blocks.{Defining, params, parameters, block, sites_of, outermost, Scope, open_at, scopes_in, scopes_in_def, scopes_in_defs}
+use Rattle.scope_check.specs.Blocks.{Defining, params, parameters, block, sites_of, outermost}
+use Rattle.scope_check.specs.Blocks.{Scope, open_at, scopes_in, scopes_in_def, scopes_in_defs}
 
--- a word as a message's name with this many arguments, as the first name of `go` or `fail`, or as an argument
+-- a word as a message's name with this many arguments, as the first name of `go` or `fail`, or as
+-- an argument
 pub data Manner : Type 0 where
   called : (given : ℕ) → Manner
   headed : Manner
@@ -43,19 +47,24 @@ module _ (literal : Word → Option Ref) where
     uses env k (Fail b c) = used headed b env ∷ used (called 0) c env ∷ []
     uses env k Halt = []
     uses env k (Group ps) = all_uses env k ps
-    uses env k (Def ds ps) = level_uses (open_at k (block ds) env) (k + 1) ds ++ all_uses (open_at k (block ds) env) (k + 1 + scopes_in_defs ds) ps
+    uses env k (Def ds ps) =
+        level_uses (open_at k (block ds) env) (k + 1) ds
+        ++ all_uses (open_at k (block ds) env) (k + 1 + scopes_in_defs ds) ps
 
     pub all_uses : List Scope → ℕ → Processes → List Use
     all_uses env k none = []
     all_uses env k (one_more p ps) = uses env k p ++ all_uses env (k + scopes_in p) ps
 
     pub definition_uses : List Scope → ℕ → Definition → List Use
-    definition_uses env k (Rule pats body) = all_uses (open_at k (parameters (params pats)) env) (k + 1) body
-    definition_uses env k (Place o a ds body) = level_uses env k ds ++ all_uses env (k + scopes_in_defs ds) body
+    definition_uses env k (Rule pats body) =
+        all_uses (open_at k (parameters (params pats)) env) (k + 1) body
+    definition_uses env k (Place o a ds body) =
+        level_uses env k ds ++ all_uses env (k + scopes_in_defs ds) body
 
     pub level_uses : List Scope → ℕ → Definitions → List Use
     level_uses env k no_definition = []
-    level_uses env k (and_also d ds) = definition_uses env k d ++ level_uses env (k + scopes_in_def d) ds
+    level_uses env k (and_also d ds) =
+        definition_uses env k d ++ level_uses env (k + scopes_in_def d) ds
 
   abbrev pub uses_of : TreeOfText → List Use
   uses_of t = level_uses (open_at 0 (outermost t) []) 1 (sites_of t.sites)

@@ -1,7 +1,8 @@
 // The defining occurrences of a block.
 ghost use Rattle.std.specs.Prelude.{◌≡◌, ◌+◌, ◌++◌, IfOk, OnOk};
 ghost use Rattle.join_parse.specs.Source.{definitions as source_definitions};
-ghost use Rattle.scope_check.specs.Blocks.{channels as channels_at, defining, defining_one, places, places_of, observed_from, place_of, sites_of};
+ghost use Rattle.scope_check.specs.Blocks.{channels as channels_at, defining, defining_one};
+ghost use Rattle.scope_check.specs.Blocks.{places, places_of, observed_from, place_of, sites_of};
 
 use chem_model::Memory;
 use join_parse::{DefNode, DefTree, DefTrees, PatTree, PlaceTree, SeenTree, Word};
@@ -46,7 +47,8 @@ fn level<'a>(
     place: u32,
     defs: &'a DefTrees,
 ) -> Result<u32, Memory>
-    ensures names { OnOk result (list.new.items ≡ list.old.items ++ defining at place (source_definitions defs.now)) }
+    ensures names { OnOk result
+        (list.new.items ≡ list.old.items ++ defining at place (source_definitions defs.now)) }
     ensures place { IfOk result (λ n. n ≡ place + places (source_definitions defs.now)) }
 {
     let mut end = place;
@@ -73,15 +75,16 @@ fn one<'a>(list: &mut Vec<Defining<'a>>, at: u32, place: u32, d: &'a DefTree) ->
     }
 }
 
-/// The name of a place, and those of its definitions. A block of 2^32 places is refused as want of memory, as a list of
-/// that length is.
+/// The name of a place, and those of its definitions. A block of 2^32 places is refused as want of
+/// memory, as a list of that length is.
 #[cycle(block)]
 fn location<'a>(
     list: &mut Vec<Defining<'a>>,
     place: u32,
     tree: &'a PlaceTree,
 ) -> Result<u32, Memory>
-    ensures names { OnOk result (list.new.items ≡ list.old.items ++ defining_one 0 place (place_of tree.now)) }
+    ensures names { OnOk result
+        (list.new.items ≡ list.old.items ++ defining_one 0 place (place_of tree.now)) }
     ensures place { IfOk result (λ n. n ≡ place + places_of (place_of tree.now)) }
 {
     list.push(Defining {
@@ -95,7 +98,8 @@ fn location<'a>(
 
 /// The names of the block of a `def`.
 pub fn block<'a>(list: &mut Vec<Defining<'a>>, defs: &'a DefTrees) -> Result<(), Memory>
-    ensures { OnOk result (list.new.items ≡ list.old.items ++ defining 0 1 (source_definitions defs.now)) }
+    ensures { OnOk result
+        (list.new.items ≡ list.old.items ++ defining 0 1 (source_definitions defs.now)) }
 {
     level(list, 0, 1, defs)?;
     Ok(())

@@ -1,10 +1,11 @@
 // The check of a tree.
-ghost use Rattle.std.specs.Prelude.{◌≡◌, ◌+◌, ◌≤◌, ◌++◌, ◌∷◌, [], get_or, length, drop, IfOk, IfErr, OnOk};
+ghost use Rattle.std.specs.Prelude.{◌≡◌, ◌+◌, ◌≤◌, ◌++◌, ◌∷◌, [], get_or};
+ghost use Rattle.std.specs.Prelude.{length, drop, IfOk, IfErr, OnOk};
 ghost use Rattle.scope_check.specs.Order.{first_of};
 ghost use Rattle.scope_check.specs.Blocks.{observed_from, defining, sites_of, scopes_in_defs};
 ghost use Rattle.scope_check.specs.FaultList.{many, level_faults};
 ghost use Rattle.scope_check.specs.Clashes.{clashes_in};
-ghost use Rattle.scope_check.specs.Naming.{name_all as named_all, walk_level as walked_level};
+ghost use Rattle.scope_check.specs.Naming.{outermost, walk_sites as walked_sites};
 ghost use Rattle.scope_check.specs.Twin.{site_terms_in, level_uses_in};
 ghost use Rattle.scope_check.specs.Stands.{seen_decls};
 ghost use Rattle.scope_check.specs.Checked.{IsProgramOf, IsRefusedAs, OneOutcome};
@@ -45,7 +46,8 @@ fn names<'a>(
     seen: &'a [SeenTree],
     trees: &'a [PlaceTree],
 ) -> Result<Vec<Defining<'a>>, Memory>
-    ensures { IfOk result (λ list. list.items ≡ observed_from 0 seen.now ++ defining 0 1 (sites_of trees.now)) }
+    ensures { IfOk result (λ list.
+        list.items ≡ observed_from 0 seen.now ++ defining 0 1 (sites_of trees.now)) }
 {
     let mut list = Vec::new(alloc);
     observed(&mut list, seen)?;
@@ -63,8 +65,8 @@ fn within(alloc: Global, trees: &[PlaceTree], least: &mut Option<Fault>) -> Resu
     Ok(())
 }
 
-/// The tables of all scopes, the outermost one first, the spellings of all binders in the order of their numbers, and the number of
-/// those that the sites define.
+/// The tables of all scopes, the outermost one first, the spellings of all binders in the order of
+/// their numbers, and the number of those that the sites define.
 #[derive(Drop)]
 struct Tables<'a> {
     scopes: Vec<Scope<'a>>,
@@ -77,9 +79,10 @@ fn numbered<'a>(
     names: &[Defining<'a>],
     trees: &'a [PlaceTree],
 ) -> Result<Tables<'a>, Memory>
-    ensures tops { IfOk result (λ r. r.tops ≡ length (named_all [] [] names.now).spell) }
-    ensures spell { IfOk result (λ r. r.spell ≡ (walked_level 0 1 (named_all [] [] names.now).spell (named_all [] [] names.now).table (sites_of trees.now)).spell) }
-    ensures scopes { IfOk result (λ r. r.scopes.items ≡ (walked_level 0 1 (named_all [] [] names.now).spell (named_all [] [] names.now).table (sites_of trees.now)).own ∷ (walked_level 0 1 (named_all [] [] names.now).spell (named_all [] [] names.now).table (sites_of trees.now)).tables) }
+    ensures tops { IfOk result (λ r. r.tops ≡ length (outermost names.now).spell) }
+    ensures spell { IfOk result (λ r. r.spell ≡ (walked_sites names.now trees.now).spell) }
+    ensures scopes { IfOk result (λ r. r.scopes.items
+        ≡ (walked_sites names.now trees.now).own ∷ (walked_sites names.now trees.now).tables) }
 {
     let mut own = Scope::new(alloc);
     let mut spell = Texts::new(alloc);
@@ -104,8 +107,12 @@ fn terms(
     least: &mut Option<Fault>,
 ) -> Result<SiteTerms, Memory>
     requires { 1 + scopes_in_defs (sites_of trees.now) ≤ length scopes.now }
-    ensures value { IfOk result (λ r. r ≡ site_terms_in scopes.now (get_or scopes.now 0 []) (get_or scopes.now 0 [] ∷ []) 1 trees.now) }
-    ensures faults { OnOk result (least.new ≡ first_of least.old (level_uses_in scopes.now (get_or scopes.now 0 [] ∷ []) 1 (sites_of trees.now))) }
+    ensures value { IfOk result (λ r. r
+        ≡ site_terms_in scopes.now (get_or scopes.now 0 []) (get_or scopes.now 0 [] ∷ []) 1
+        trees.now) }
+    ensures faults { OnOk result (least.new
+        ≡ first_of least.old
+        (level_uses_in scopes.now (get_or scopes.now 0 [] ∷ []) 1 (sites_of trees.now))) }
 {
     let own = &scopes[0];
     let env = Env::outermost(own);
@@ -130,8 +137,9 @@ fn declarations(alloc: Global, trees: &[SeenTree]) -> Result<SeenDecls, Memory>
 
 /// The program that a tree stands for, or its first fault of scope or arity.
 ///
-/// The first fault has the least place, and at one place the kind that stands first among `Scope1` to `Arity4`. Its place is a byte
-/// offset from 0: of the identifier that is wrong, or of the keyword `site` of the 65th site. No other kind is answered.
+/// The first fault has the least place, and at one place the kind that stands first among `Scope1`
+/// to `Arity4`. Its place is a byte offset from 0: of the identifier that is wrong, or of the
+/// keyword `site` of the 65th site. No other kind is answered.
 pub fn check(alloc: Global, tree: &Tree) -> Result<Program, Front>
     ensures program { IfOk result (IsProgramOf tree.now) }
     ensures fault { IfErr result (IsRefusedAs tree.now) }
@@ -159,8 +167,8 @@ pub fn check(alloc: Global, tree: &Tree) -> Result<Program, Front>
     })
 }
 
-/// A tree has one program or one first fault, and never both. So `check` answers exactly by the definitions, save for want of
-/// memory.
+/// A tree has one program or one first fault, and never both. So `check` answers exactly by the
+/// definitions, save for want of memory.
 pub fn one_outcome()
     ensures { (t : TreeOfText) → OneOutcome t }
 {}

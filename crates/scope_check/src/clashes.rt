@@ -5,8 +5,12 @@ ghost use Rattle.scope_names.specs.Frames.{in_frame};
 ghost use Rattle.join_base.specs.declared.fault.Kind.TheVariants as kind;
 ghost use Rattle.scope_check.specs.Order.{first_of};
 ghost use Rattle.scope_check.specs.Blocks.{block as block_of, place_of};
-ghost use Rattle.scope_check.specs.FaultList.{fault as fault_at, clash as clash_of, clashes as clashes_of, pattern_faults, process_faults, processes_faults, definition_faults, level_faults, repeated_if};
-ghost use Rattle.scope_check.specs.Clashes.{clash_with, remember, remember_all, clashes_in, repeats_in, channel_repeats, parameter_repeats};
+ghost use Rattle.scope_check.specs.FaultList.{fault as fault_at, clash as clash_of};
+ghost use Rattle.scope_check.specs.FaultList.{clashes as clashes_of, pattern_faults};
+ghost use Rattle.scope_check.specs.FaultList.{process_faults, processes_faults};
+ghost use Rattle.scope_check.specs.FaultList.{definition_faults, level_faults, repeated_if};
+ghost use Rattle.scope_check.specs.Clashes.{clash_with, remember, remember_all, clashes_in};
+ghost use Rattle.scope_check.specs.Clashes.{repeats_in, channel_repeats, parameter_repeats};
 
 use crate::block::{Defining, block};
 use crate::fault::{Fault, note};
@@ -65,7 +69,8 @@ fn keep<'a>(so_far: &mut Scope<'a>, word: &'a Word, sort: Sort) -> Result<(), Me
 }
 
 fn clash_with_first(so_far: &Scope<'_>, word: &Word, later: Sort, least: &mut Option<Fault>)
-    ensures { least.new ≡ first_of least.old (clash_with (in_frame word.now.text so_far.now) word.now later) }
+    ensures { least.new
+        ≡ first_of least.old (clash_with (in_frame word.now.text so_far.now) word.now later) }
 {
     if let Some(entry) = so_far.find(word.text.as_slice()) {
         clash(entry.sort, word, later, least);
@@ -89,7 +94,9 @@ pub fn clashes(
 }
 
 fn repeat(so_far: &Scope<'_>, kind: Kind, word: &Word, least: &mut Option<Fault>)
-    ensures { least.new ≡ first_of least.old (repeated_if (is_some (in_frame word.now.text so_far.now)) kind word.now) }
+    ensures { least.new
+        ≡ first_of least.old
+        (repeated_if (is_some (in_frame word.now.text so_far.now)) kind word.now) }
 {
     if so_far.find(word.text.as_slice()).is_some() {
         note_at(least, kind, word);
@@ -103,7 +110,8 @@ fn repeats<'a>(
     least: &mut Option<Fault>,
 ) -> Result<(), Memory>
     ensures so_far { OnOk result (so_far.new ≡ remember_all so_far.old words.now) }
-    ensures least { OnOk result (least.new ≡ first_of least.old (repeats_in kind.Scope4 so_far.old words.now)) }
+    ensures least { OnOk result
+        (least.new ≡ first_of least.old (repeats_in kind.Scope4 so_far.old words.now)) }
 {
     for word in words {
         repeat(&*so_far, Kind::Scope4, word, least);
@@ -153,7 +161,8 @@ fn join(alloc: Global, pats: &[PatTree], least: &mut Option<Fault>) -> Result<()
 /// The faults of the names of a `def`.
 #[tactic(auto, using(crate::proofs::Declares::all_clashes))]
 fn block_faults(alloc: Global, defs: &DefTrees, least: &mut Option<Fault>) -> Result<(), Memory>
-    ensures { OnOk result (least.new ≡ first_of least.old (clashes_of [] (block_of (source_definitions defs.now)))) }
+    ensures { OnOk result
+        (least.new ≡ first_of least.old (clashes_of [] (block_of (source_definitions defs.now)))) }
 {
     let mut names = Vec::new(alloc);
     block(&mut names, defs)?;
@@ -223,7 +232,8 @@ pub fn place(alloc: Global, tree: &PlaceTree, least: &mut Option<Fault>) -> Resu
 
 #[cycle(declared)]
 fn level(alloc: Global, list: &DefTrees, least: &mut Option<Fault>) -> Result<(), Memory>
-    ensures { OnOk result (least.new ≡ first_of least.old (level_faults (source_definitions list.now))) }
+    ensures { OnOk result
+        (least.new ≡ first_of least.old (level_faults (source_definitions list.now))) }
 {
     for d in list.as_slice() {
         definition(alloc, d, least)?;

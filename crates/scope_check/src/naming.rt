@@ -1,8 +1,13 @@
-// The first walk: the tables of all scopes, each binder with its number, and the spellings in the order of the numbers.
+// The first walk: the tables of all scopes, each binder with its number, and the spellings in the
+// order of the numbers.
 ghost use Rattle.std.specs.Prelude.{◌≡◌, ◌+◌, ◌<◌, ◌++◌, OnOk, IfOk, length, set};
 ghost use Rattle.join_parse.specs.Source.{processes, definitions as source_definitions};
 ghost use Rattle.scope_check.specs.Blocks.{place_of, places_of, places, sites_of};
-ghost use Rattle.scope_check.specs.Naming.{name_one as named_one, name_all as named_all, numbered_as, spells_as, name_words as named_words, name_patterns as named_patterns, walk as walked, walk_all as walked_all, walk_one as walked_one, walk_level as walked_level};
+ghost use Rattle.scope_check.specs.Naming.{name_one as named_one, name_all as named_all};
+ghost use Rattle.scope_check.specs.Naming.{numbered_as, spells_as, name_words as named_words};
+ghost use Rattle.scope_check.specs.Naming.{name_patterns as named_patterns, walk as walked};
+ghost use Rattle.scope_check.specs.Naming.{walk_all as walked_all, walk_one as walked_one};
+ghost use Rattle.scope_check.specs.Naming.{walk_level as walked_level};
 
 use crate::block::Defining;
 use chem_model::{Memory, Texts};
@@ -87,9 +92,12 @@ fn name_patterns<'a>(
     at: u32,
     pats: &'a [PatTree],
 ) -> Result<(), Memory>
-    ensures own { OnOk result (own.new ≡ (named_patterns at spell.old own.old params.old pats.now).own) }
-    ensures params { OnOk result (params.new ≡ (named_patterns at spell.old own.old params.old pats.now).params) }
-    ensures spell { OnOk result (spell.new ≡ (named_patterns at spell.old own.old params.old pats.now).spell) }
+    ensures own { OnOk result
+        (own.new ≡ (named_patterns at spell.old own.old params.old pats.now).own) }
+    ensures params { OnOk result
+        (params.new ≡ (named_patterns at spell.old own.old params.old pats.now).params) }
+    ensures spell { OnOk result
+        (spell.new ≡ (named_patterns at spell.old own.old params.old pats.now).spell) }
 {
     for pat in pats {
         let count = pat.params.len() as u32;
@@ -119,7 +127,8 @@ pub fn walk<'a>(
     spell: &mut Texts,
     p: &'a ProcTree,
 ) -> Result<(), Memory>
-    ensures scopes { OnOk result (scopes.new.items ≡ scopes.old.items ++ (walked spell.old p.now).tables) }
+    ensures scopes { OnOk result
+        (scopes.new.items ≡ scopes.old.items ++ (walked spell.old p.now).tables) }
     ensures spell { OnOk result (spell.new ≡ (walked spell.old p.now).spell) }
 {
     match p.node() {
@@ -152,7 +161,8 @@ pub fn walk_all<'a>(
     spell: &mut Texts,
     list: &'a ProcTrees,
 ) -> Result<(), Memory>
-    ensures scopes { OnOk result (scopes.new.items ≡ scopes.old.items ++ (walked_all spell.old (processes list.now)).tables) }
+    ensures scopes { OnOk result (scopes.new.items
+        ≡ scopes.old.items ++ (walked_all spell.old (processes list.now)).tables) }
     ensures spell { OnOk result (spell.new ≡ (walked_all spell.old (processes list.now)).spell) }
 {
     for p in list.as_slice() {
@@ -173,7 +183,8 @@ fn walk_one<'a>(
     d: &'a DefTree,
 ) -> Result<u32, Memory>
     ensures own { OnOk result (own.new ≡ (walked_one at place spell.old own.old d.now).own) }
-    ensures scopes { OnOk result (scopes.new.items ≡ scopes.old.items ++ (walked_one at place spell.old own.old d.now).tables) }
+    ensures scopes { OnOk result (scopes.new.items
+        ≡ scopes.old.items ++ (walked_one at place spell.old own.old d.now).tables) }
     ensures spell { OnOk result (spell.new ≡ (walked_one at place spell.old own.old d.now).spell) }
     ensures place { IfOk result (λ n. n ≡ place + places_of d.now) }
 {
@@ -192,7 +203,8 @@ fn walk_one<'a>(
     }
 }
 
-/// A place's words, and the scopes within. A block of 2^32 places is refused as want of memory, as a list of that length is.
+/// A place's words, and the scopes within. A block of 2^32 places is refused as want of memory, as
+/// a list of that length is.
 #[cycle(naming)]
 fn walk_place<'a>(
     alloc: Global,
@@ -202,9 +214,12 @@ fn walk_place<'a>(
     place: u32,
     tree: &'a PlaceTree,
 ) -> Result<u32, Memory>
-    ensures own { OnOk result (own.new ≡ (walked_one 0 place spell.old own.old (place_of tree.now)).own) }
-    ensures scopes { OnOk result (scopes.new.items ≡ scopes.old.items ++ (walked_one 0 place spell.old own.old (place_of tree.now)).tables) }
-    ensures spell { OnOk result (spell.new ≡ (walked_one 0 place spell.old own.old (place_of tree.now)).spell) }
+    ensures own { OnOk result
+        (own.new ≡ (walked_one 0 place spell.old own.old (place_of tree.now)).own) }
+    ensures scopes { OnOk result (scopes.new.items
+        ≡ scopes.old.items ++ (walked_one 0 place spell.old own.old (place_of tree.now)).tables) }
+    ensures spell { OnOk result
+        (spell.new ≡ (walked_one 0 place spell.old own.old (place_of tree.now)).spell) }
     ensures place { IfOk result (λ n. n ≡ place + places_of (place_of tree.now)) }
 {
     name_one(alloc, own, spell, &tree.name, Sort::Location)?;
@@ -225,9 +240,13 @@ fn walk_level<'a>(
     place: u32,
     list: &'a DefTrees,
 ) -> Result<u32, Memory>
-    ensures own { OnOk result (own.new ≡ (walked_level at place spell.old own.old (source_definitions list.now)).own) }
-    ensures scopes { OnOk result (scopes.new.items ≡ scopes.old.items ++ (walked_level at place spell.old own.old (source_definitions list.now)).tables) }
-    ensures spell { OnOk result (spell.new ≡ (walked_level at place spell.old own.old (source_definitions list.now)).spell) }
+    ensures own { OnOk result
+        (own.new ≡ (walked_level at place spell.old own.old (source_definitions list.now)).own) }
+    ensures scopes { OnOk result (scopes.new.items
+        ≡ scopes.old.items
+        ++ (walked_level at place spell.old own.old (source_definitions list.now)).tables) }
+    ensures spell { OnOk result (spell.new
+        ≡ (walked_level at place spell.old own.old (source_definitions list.now)).spell) }
     ensures place { IfOk result (λ n. n ≡ place + places (source_definitions list.now)) }
 {
     let mut end = place;
@@ -245,9 +264,12 @@ pub fn walk_sites<'a>(
     own: &mut Scope<'a>,
     sites: &'a [PlaceTree],
 ) -> Result<(), Memory>
-    ensures own { OnOk result (own.new ≡ (walked_level 0 1 spell.old own.old (sites_of sites.now)).own) }
-    ensures scopes { OnOk result (scopes.new.items ≡ scopes.old.items ++ (walked_level 0 1 spell.old own.old (sites_of sites.now)).tables) }
-    ensures spell { OnOk result (spell.new ≡ (walked_level 0 1 spell.old own.old (sites_of sites.now)).spell) }
+    ensures own { OnOk result
+        (own.new ≡ (walked_level 0 1 spell.old own.old (sites_of sites.now)).own) }
+    ensures scopes { OnOk result (scopes.new.items
+        ≡ scopes.old.items ++ (walked_level 0 1 spell.old own.old (sites_of sites.now)).tables) }
+    ensures spell { OnOk result
+        (spell.new ≡ (walked_level 0 1 spell.old own.old (sites_of sites.now)).spell) }
 {
     let mut end = 1;
     for site in sites {

@@ -1,11 +1,15 @@
 // The term that a tree stands for, by the tables of its scopes.
-ghost use Rattle.std.specs.Prelude.{◌≡◌, ◌≢◌, ◌+◌, ◌≤◌, ◌∷◌, [], IfOk, OnOk, IfSome, IfNone, length};
+ghost use Rattle.std.specs.Prelude.{◌≡◌, ◌≢◌, ◌+◌, ◌≤◌, ◌∷◌, [], IfOk};
+ghost use Rattle.std.specs.Prelude.{OnOk, IfSome, IfNone, length};
 ghost use Rattle.join_parse.specs.Source.{processes, definitions as source_definitions};
 ghost use Rattle.join_parse.specs.Nodes.{process_of, definition_of};
 ghost use Rattle.scope_check.specs.Stands.{together};
 ghost use Rattle.scope_check.specs.Order.{first_of};
-ghost use Rattle.scope_check.specs.Blocks.{place_of, sites_of, scopes_in, scopes_in_all, scopes_in_def, scopes_in_defs};
-ghost use Rattle.scope_check.specs.Twin.{process_in, members_in, definition_in, level_in, uses_in, all_uses_in, definition_uses_in, level_uses_in, site_terms_in};
+ghost use Rattle.scope_check.specs.Blocks.{place_of, sites_of, scopes_in, scopes_in_all};
+ghost use Rattle.scope_check.specs.Blocks.{scopes_in_def, scopes_in_defs};
+ghost use Rattle.scope_check.specs.Twin.{process_in, members_in, definition_in, level_in};
+ghost use Rattle.scope_check.specs.Twin.{uses_in, all_uses_in, definition_uses_in};
+ghost use Rattle.scope_check.specs.Twin.{level_uses_in, site_terms_in};
 ghost use Rattle.scope_check.specs.Shown.{Shows};
 
 use crate::fault::Fault;
@@ -26,7 +30,8 @@ pub fn process(
     least: &mut Option<Fault>,
 ) -> Result<(Proc, usize), Memory>
     requires { at + scopes_in p.now ≤ length scopes.now }
-    ensures { IfOk result (λ r. Shows (process_in scopes.now env.now at p.now) (at + scopes_in p.now) (uses_in scopes.now env.now at p.now) r.0 r.1 least.old least.new) }
+    ensures { IfOk result (λ r. Shows (process_in scopes.now env.now at p.now)
+        (at + scopes_in p.now) (uses_in scopes.now env.now at p.now) r.0 r.1 least.old least.new) }
 {
     match p.node() {
         ProcNode::Zero => Ok((Proc::par(Procs::new(alloc)), at)),
@@ -84,7 +89,10 @@ pub fn body(
     least: &mut Option<Fault>,
 ) -> Result<(Proc, usize), Memory>
     requires { at + scopes_in_all (processes list.now) ≤ length scopes.now }
-    ensures { IfOk result (λ r. Shows (together (members_in scopes.now env.now at (processes list.now))) (at + scopes_in_all (processes list.now)) (all_uses_in scopes.now env.now at (processes list.now)) r.0 r.1 least.old least.new) }
+    ensures { IfOk result (λ r. Shows
+        (together (members_in scopes.now env.now at (processes list.now)))
+        (at + scopes_in_all (processes list.now))
+        (all_uses_in scopes.now env.now at (processes list.now)) r.0 r.1 least.old least.new) }
 {
     if let Some(only) = only(list) {
         let (term, end) = process(alloc, scopes, at, env, only, least)?;
@@ -112,7 +120,9 @@ fn definition(
     least: &mut Option<Fault>,
 ) -> Result<(Defn, usize), Memory>
     requires { at + scopes_in_def d.now ≤ length scopes.now }
-    ensures { IfOk result (λ r. Shows (definition_in scopes.now own.now env.now at d.now) (at + scopes_in_def d.now) (definition_uses_in scopes.now env.now at d.now) r.0 r.1 least.old least.new) }
+    ensures { IfOk result (λ r. Shows (definition_in scopes.now own.now env.now at d.now)
+        (at + scopes_in_def d.now) (definition_uses_in scopes.now env.now at d.now) r.0 r.1
+        least.old least.new) }
 {
     match d.node() {
         DefNode::Rule { pats, body: list } => {
@@ -144,8 +154,14 @@ fn inner(
     least: &mut Option<Fault>,
 ) -> Result<(Defs, Proc, usize), Memory>
     requires { at + scopes_in_def (place_of tree.now) ≤ length scopes.now }
-    ensures defs { IfOk result (λ r. r.0 ≡ level_in scopes.now own.now env.now at (source_definitions tree.now.defs)) }
-    ensures shows { IfOk result (λ r. Shows (together (members_in scopes.now env.now (at + scopes_in_defs (source_definitions tree.now.defs)) (processes tree.now.body))) (at + scopes_in_def (place_of tree.now)) (definition_uses_in scopes.now env.now at (place_of tree.now)) r.1 r.2 least.old least.new) }
+    ensures defs { IfOk result (λ r.
+        r.0 ≡ level_in scopes.now own.now env.now at (source_definitions tree.now.defs)) }
+    ensures shows { IfOk result (λ r. Shows
+        (together (members_in scopes.now env.now
+        (at + scopes_in_defs (source_definitions tree.now.defs)) (processes tree.now.body)))
+        (at + scopes_in_def (place_of tree.now))
+        (definition_uses_in scopes.now env.now at (place_of tree.now)) r.1 r.2 least.old
+        least.new) }
 {
     let (defs, next) = level(alloc, scopes, at, &*own, &*env, &tree.defs, least)?;
     let (term, end) = body(alloc, scopes, next, &*env, &tree.body, least)?;
@@ -164,7 +180,11 @@ fn level(
     least: &mut Option<Fault>,
 ) -> Result<(Defs, usize), Memory>
     requires { at + scopes_in_defs (source_definitions list.now) ≤ length scopes.now }
-    ensures { IfOk result (λ r. Shows (level_in scopes.now own.now env.now at (source_definitions list.now)) (at + scopes_in_defs (source_definitions list.now)) (level_uses_in scopes.now env.now at (source_definitions list.now)) r.0 r.1 least.old least.new) }
+    ensures { IfOk result (λ r. Shows
+        (level_in scopes.now own.now env.now at (source_definitions list.now))
+        (at + scopes_in_defs (source_definitions list.now))
+        (level_uses_in scopes.now env.now at (source_definitions list.now)) r.0 r.1 least.old
+        least.new) }
 {
     let mut defs = Defs::new(alloc);
     let mut end = at;
@@ -187,7 +207,8 @@ pub fn sites(
 ) -> Result<SiteTerms, Memory>
     requires { 1 + scopes_in_defs (sites_of list.now) ≤ length scopes.now }
     ensures value { IfOk result (λ r. r ≡ site_terms_in scopes.now own.now env.now 1 list.now) }
-    ensures faults { OnOk result (least.new ≡ first_of least.old (level_uses_in scopes.now env.now 1 (sites_of list.now))) }
+    ensures faults { OnOk result
+        (least.new ≡ first_of least.old (level_uses_in scopes.now env.now 1 (sites_of list.now))) }
 {
     let mut terms = SiteTerms::new(alloc);
     let mut end = 1;

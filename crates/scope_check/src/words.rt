@@ -1,7 +1,8 @@
 // Uses of words under the scopes around them.
 ghost use Rattle.std.specs.Prelude.{◌≡◌, IfOk, OnOk, None, length};
 ghost use Rattle.scope_check.specs.Order.{first_of};
-ghost use Rattle.scope_check.specs.Twin.{called_by, headed_by, sent_in, sent_by, ref_by, refs_in, binder_by, binder_in, binders_in, pats_in};
+ghost use Rattle.scope_check.specs.Twin.{called_by, headed_by, sent_in, sent_by, ref_by};
+ghost use Rattle.scope_check.specs.Twin.{refs_in, binder_by, binder_in, binders_in, pats_in};
 ghost use Rattle.scope_check.specs.FaultList.{called_as, headed_for};
 ghost use Rattle.scope_names.specs.Frames.{in_env, in_frame};
 
@@ -28,7 +29,8 @@ fn reference(entry: Option<Entry>) -> Ref
 /// A word as a message's name.
 pub fn called(env: &Env<'_>, word: &Word, given: usize, least: &mut Option<Fault>) -> Ref
     ensures value { result ≡ ref_by (in_env word.now.text env.now) }
-    ensures faults { least.new ≡ first_of least.old (called_by word.now given (in_env word.now.text env.now)) }
+    ensures faults { least.new
+        ≡ first_of least.old (called_by word.now given (in_env word.now.text env.now)) }
 {
     let entry = env.resolve(word.text.as_slice());
     match entry {
@@ -67,7 +69,8 @@ pub fn called(env: &Env<'_>, word: &Word, given: usize, least: &mut Option<Fault
 /// A word as the first name of `go` or `fail`.
 pub fn headed(env: &Env<'_>, word: &Word, least: &mut Option<Fault>) -> Ref
     ensures value { result ≡ ref_by (in_env word.now.text env.now) }
-    ensures faults { least.new ≡ first_of least.old (headed_by word.now (in_env word.now.text env.now)) }
+    ensures faults { least.new
+        ≡ first_of least.old (headed_by word.now (in_env word.now.text env.now)) }
 {
     let entry = env.resolve(word.text.as_slice());
     match entry {
@@ -94,7 +97,8 @@ pub fn headed(env: &Env<'_>, word: &Word, least: &mut Option<Fault>) -> Ref
 
 fn sent(env: &Env<'_>, word: &Word, least: &mut Option<Fault>) -> Ref
     ensures value { result ≡ ref_by (in_env word.now.text env.now) }
-    ensures faults { least.new ≡ first_of least.old (sent_by word.now (in_env word.now.text env.now)) }
+    ensures faults { least.new
+        ≡ first_of least.old (sent_by word.now (in_env word.now.text env.now)) }
 {
     let entry = env.resolve(word.text.as_slice());
     if entry.is_none() {

@@ -21,6 +21,7 @@ abbrev pub in_env : List ℕ → List (List (List ℕ × Entry)) → Option Entr
 in_env name [] = None
 in_env name (s ∷ env) = inner (in_frame name s) (in_env name env)
 
-abbrev pub scopes_around : List (List ℕ × Entry) → Option (Bor (List (List (List ℕ × Entry)))) → List (List (List ℕ × Entry))
+abbrev pub scopes_around : List (List ℕ × Entry) → Option (Bor (List (List (List ℕ × Entry))))
+    → List (List (List ℕ × Entry))
 scopes_around s None = s ∷ []
 scopes_around s (Some outer) = s ∷ outer.now

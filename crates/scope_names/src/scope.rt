@@ -10,8 +10,8 @@ use std::marker::Model;
 /// What a name of a block or of a parameter list is.
 #[derive(Clone, Copy, PartialEq, Eq, Debug)]
 pub enum Sort {
-    /// A channel, with its count of arguments and the location at which its rules stand: 0 is that of the block, and its places
-    /// are 1, 2, .. in source order.
+    /// A channel, with its count of arguments and the location at which its rules stand: 0 is that
+    /// of the block, and its places are 1, 2, .. in source order.
     Channel { count: u32, at: u32 },
     /// A site or a place.
     Location,
@@ -21,7 +21,8 @@ pub enum Sort {
     Parameter,
 }
 
-/// The first defining occurrence of a spelling: what it is, and its binder. An observed name has none, and 0 stands there.
+/// The first defining occurrence of a spelling: what it is, and its binder. An observed name has
+/// none, and 0 stands there.
 #[derive(Clone, Copy, PartialEq, Eq, Debug)]
 pub struct Entry {
     pub sort: Sort,

@@ -5,8 +5,9 @@ use Rattle.trace_history.specs.Kept.{Kept}
 use Rattle.trace_history.specs.Book.{OnSolution, IsStuck}
 use Rattle.site_runner.specs.Schedule.{IsSchedule}
 
--- the program stays; what is appended to the journal is the schedule from its solution, of at most as many events as the budget leaves; and at the
--- end no event is possible or the journal has exactly as many events as the budget
+-- the program stays; what is appended to the journal is the schedule from its solution, of at most
+-- as many events as the budget leaves; and at the end no event is possible or the journal has
+-- exactly as many events as the budget
 pub record RunsOn (old : Kept) (budget : ℕ) (new : Kept) : Type 0 where
   pub program : new.program ≡ old.program
   pub added : List Event

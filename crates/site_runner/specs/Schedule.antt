@@ -11,13 +11,16 @@ use Rattle.trace_history.specs.First.{IsFirst}
 abbrev pub after : ℕ → ℕ → ℕ
 after sites s = cond (s + 1 == sites) 0 (s + 1)
 
--- the schedule of at most `budget` events from the solution n, where the site `from` is looked at first: each event is the first one, and it goes on with
--- the site after that one; it ends where no event is possible or the budget is spent
+-- the schedule of at most `budget` events from the solution n, where the site `from` is looked at
+-- first: each event is the first one, and it goes on with the site after that one; it ends where no
+-- event is possible or the budget is spent
 pub data IsSchedule : ℕ → Numbered → ℕ → List Event → Type 0 where
   spent : {n : Numbered} {from : ℕ} → IsSchedule 0 n from []
-  stuck : {budget : ℕ} {n : Numbered} {from : ℕ} → ((e : Event) → apply n e ≡ None) → IsSchedule budget n from []
+  stuck : {budget : ℕ} {n : Numbered} {from : ℕ} → ((e : Event) → apply n e ≡ None)
+      → IsSchedule budget n from []
   first : {budget : ℕ} {n m : Numbered} {from site : ℕ} {e : Event} {journal : List Event}
-      → IsFirst n from site e → apply n e ≡ Some m → IsSchedule budget m (after (length n.counts) site) journal
+      → IsFirst n from site e → apply n e ≡ Some m
+      → IsSchedule budget m (after (length n.counts) site) journal
       → IsSchedule (budget + 1) n from (e ∷ journal)
 
 -- the schedule of a program's run on one thread
@@ -26,4 +29,7 @@ ScheduleOf p budget journal = IsSchedule budget (opening p) 0 journal
 
 -- each program has a schedule for each budget, and no other
 abbrev pub HasOneSchedule : Type 0
-HasOneSchedule = (p : ProgramTerms) → IsProgram p → (budget : ℕ) → (journal : List Event) × ScheduleOf p budget journal × ((other : List Event) → ScheduleOf p budget other → other ≡ journal)
+HasOneSchedule =
+    (p : ProgramTerms) → IsProgram p → (budget : ℕ)
+    → (journal : List Event) × ScheduleOf p budget journal
+    × ((other : List Event) → ScheduleOf p budget other → other ≡ journal)

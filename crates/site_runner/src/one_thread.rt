@@ -37,13 +37,14 @@ fn after(sites: usize, site: u32) -> u32
     }
 }
 
-/// Makes the event that comes first, from the site after the last one's, until none is possible or the journal has
-/// `budget` events. It begins at the first site. It takes memory only where the budget
-/// leaves an event and one is possible.
+/// Makes the event that comes first, from the site after the last one's, until none is possible or
+/// the journal has `budget` events. It begins at the first site. It takes memory only where the
+/// budget leaves an event and one is possible.
 pub fn alone(alloc: Global, book: Book, budget: u32) -> Result<Done, Memory>
     requires { length book.journal ≤ budget }
     ensures run { IfOk result (λ done. RunsOn book budget done.book) }
-    ensures whole { IfOk result (λ done. book.journal ≡ [] → ScheduleOf book.program budget done.book.journal) }
+    ensures whole { IfOk result (λ done.
+        book.journal ≡ [] → ScheduleOf book.program budget done.book.journal) }
     ensures left { OnErr result (length book.journal < budget) }
     ensures possible { OnErr result (IsStuck book → ⊥) }
 {
@@ -72,7 +73,8 @@ pub fn alone(alloc: Global, book: Book, budget: u32) -> Result<Done, Memory>
     })
 }
 
-/// Each program has one schedule for each budget: the journal of its run on one thread. It does nothing.
+/// Each program has one schedule for each budget: the journal of its run on one thread. It does
+/// nothing.
 pub fn one_schedule()
     ensures { HasOneSchedule }
 {

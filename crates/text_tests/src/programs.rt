@@ -1,4 +1,5 @@
-// Texts with their programs and faults, read from the first byte on. The expected values were worked out by hand.
+// Texts with their programs and faults, read from the first byte on. The expected values were
+// worked out by hand.
 use chem_model::{Defn, DefnNode, Name, Pat, Proc, ProcNode, Program, Ref, Text};
 use join_base::{Front, Kind};
 use join_lex::lex;

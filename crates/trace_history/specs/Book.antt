@@ -13,22 +13,28 @@ use Rattle.trace_history.specs.declared.book.Found.{Found}
 use Rattle.trace_history.specs.Kept.{Kept, solution, is_enabled}
 use Rattle.trace_history.specs.First.{IsFirst}
 
--- the event was made and stands last in the journal, exactly where it is possible; else nothing changed
+-- the event was made and stands last in the journal, exactly where it is possible; else nothing
+-- changed
 abbrev pub Commits : Kept → Event → Commit → Kept → Type 0
-Commits old e (Place k) new = (is_enabled old e ≡ true) × (k ≡ length old.journal) × (new ≡ record { program = old.program; journal = old.journal ++ e ∷ [] })
+Commits old e (Place k) new =
+    (is_enabled old e ≡ true) × (k ≡ length old.journal)
+    × (new ≡ record { program = old.program; journal = old.journal ++ e ∷ [] })
 Commits old e NotEnabled new = (is_enabled old e ≡ false) × (new ≡ old)
 
 -- what holds of the solution to which the journal leads
 abbrev pub OnSolution : Kept → (Numbered → Type 0) → Type 0
 OnSolution b P = (n : Numbered) → solution b ≡ Some n → P n
 
--- the book stands for a start of its program: its solution is sound, and is reached from a start by heating, Comm and Out alone
+-- the book stands for a start of its program: its solution is sound, and is reached from a start by
+-- heating, Comm and Out alone
 abbrev pub IsAStart : Kept → Type 0
 IsAStart b = OnSolution b (λ n. IsSound n × IsOpened b.program (erase n))
 
--- where the event was made, the book went from a sound solution to one that is a reduction away, as the event names it
+-- where the event was made, the book went from a sound solution to one that is a reduction away, as
+-- the event names it
 abbrev pub IsAReduction : Kept → Event → Commit → Kept → Type 0
-IsAReduction old e (Place k) new = OnSolution old (λ n. IsSound n × OnSolution new (λ m. IsReduction e n m))
+IsAReduction old e (Place k) new =
+    OnSolution old (λ n. IsSound n × OnSolution new (λ m. IsReduction e n m))
 IsAReduction old e NotEnabled new = Unit {0}
 
 -- no event is possible

@@ -13,7 +13,9 @@ pub record Kept : Type 0 where
   pub journal : List Event
 
 abbrev pub kept_code : Coded Kept
-kept_code = code_by (ProgramTerms × List Event) (coded× program_code (coded_list event.the_row.coded)) (λ b. (b.program, b.journal)) (λ p. record { program = p.0; journal = p.1 }) (λ _. refl)
+kept_code =
+    code_by (ProgramTerms × List Event) (coded× program_code (coded_list event.the_row.coded))
+    (λ b. (b.program, b.journal)) (λ p. record { program = p.0; journal = p.1 }) (λ _. refl)
 
 -- the numbered solution to which the journal leads
 abbrev pub solution : Kept → Option Numbered

@@ -1,6 +1,7 @@
--- The search for the event that comes first: of the rules that are ready, of the requests that can be met, and of the messages that a pattern receives,
--- the first of each.
-use Rattle.std.specs.Prelude.{◌≡◌, ℕ, ◌<◌, List, [], ◌∷◌, Option, Some, None, is_some, Bool, true, false, nat_lt, ◌==◌, ◌&&◌, ◌||◌, ◌⊎◌, length}
+-- The search for the event that comes first: of the rules that are ready, of the requests that can
+-- be met, and of the messages that a pattern receives, the first of each.
+use Rattle.std.specs.Prelude.{◌≡◌, ℕ, ◌<◌, List, [], ◌∷◌, Option, Some, None, is_some}
+use Rattle.std.specs.Prelude.{Bool, true, false, nat_lt, ◌==◌, ◌&&◌, ◌||◌, ◌⊎◌, length}
 use Rattle.std.specs.List.{list_any, list_all}
 use Rattle.chem_model.specs.declared.name.Loc.{Loc}
 use Rattle.chem_model.specs.declared.name.Pat.{Pat}
@@ -25,7 +26,8 @@ IsIn x (y ∷ ys) = (y ≡ x) ⊎ IsIn x ys
 -- among the members that pass a test, one before which none comes; or there is none
 abbrev pub IsFirstOf : {X : Type 0} → (X → Bool) → (X → X → Bool) → List X → Option X → Type 0
 IsFirstOf test before xs None = Each (λ x. test x ≡ false) xs
-IsFirstOf test before xs (Some y) = IsIn y xs × (test y ≡ true) × Each (λ x. test x ≡ true → before x y ≡ false) xs
+IsFirstOf test before xs (Some y) =
+    IsIn y xs × (test y ≡ true) × Each (λ x. test x ≡ true → before x y ≡ false) xs
 
 -- whether a member comes before the one that was found so far
 abbrev pub beats : {X : Type 0} → (X → X → Bool) → X → Option X → Bool
@@ -46,7 +48,8 @@ is_met atoms l p = list_any (receives l p) atoms
 
 -- the message with the least number that the pattern receives has this number
 abbrev pub IsLeast : List NumberedAtom → Loc → Pat → AtomId → Type 0
-IsLeast atoms l p i = (a : NumberedAtom) × (a.id ≡ i) × IsFirstOf (receives l p) atom_before atoms (Some a)
+IsLeast atoms l p i =
+    (a : NumberedAtom) × (a.id ≡ i) × IsFirstOf (receives l p) atom_before atoms (Some a)
 
 -- the least message for each pattern
 abbrev pub AreLeast : List NumberedAtom → Loc → List Pat → List AtomId → Type 0
@@ -66,16 +69,22 @@ abbrev pub turn : Numbered → ℕ → Loc → ℕ
 turn n from l = turns (length n.counts) from (root (standing n.places) l).site
 
 abbrev pub rule_before : Numbered → ℕ → NumberedRule → NumberedRule → Bool
-rule_before n from r s = nat_lt (turn n from r.loc) (turn n from s.loc) || ((turn n from r.loc == turn n from s.loc) && rule_less r.id s.id)
+rule_before n from r s =
+    nat_lt (turn n from r.loc) (turn n from s.loc)
+    || ((turn n from r.loc == turn n from s.loc) && rule_less r.id s.id)
 
 -- ---- requests
 
 -- a request that can be met
 abbrev pub can_act : Numbered → NumberedAtom → Bool
-can_act n a = is_some (move_atom n a.id a.loc a.term) || (is_some (halt_atom n a.id a.loc a.term) || is_some (detect_atom n a.id a.loc a.term))
+can_act n a =
+    is_some (move_atom n a.id a.loc a.term)
+    || (is_some (halt_atom n a.id a.loc a.term) || is_some (detect_atom n a.id a.loc a.term))
 
 abbrev pub request_before : Numbered → ℕ → NumberedAtom → NumberedAtom → Bool
-request_before n from a b = nat_lt (turn n from a.loc) (turn n from b.loc) || ((turn n from a.loc == turn n from b.loc) && atom_less a.id b.id)
+request_before n from a b =
+    nat_lt (turn n from a.loc) (turn n from b.loc)
+    || ((turn n from a.loc == turn n from b.loc) && atom_less a.id b.id)
 
 -- the event that meets a request
 abbrev pub event_of : AtomId → Process → Option Event
@@ -90,12 +99,15 @@ event_of i (Def ds p) = None
 
 -- the reaction of a rule by the least message for each of its patterns
 abbrev pub IsReaction : Numbered → NumberedRule → Found → Type 0
-IsReaction n r f = (took : List AtomId) × (f.event ≡ event.React r.id took) × (f.site ≡ (root (standing n.places) r.loc).site) × AreLeast n.atoms r.loc r.pats took
+IsReaction n r f =
+    (took : List AtomId) × (f.event ≡ event.React r.id took)
+    × (f.site ≡ (root (standing n.places) r.loc).site) × AreLeast n.atoms r.loc r.pats took
 
 -- the event that meets a request, where it has one
 abbrev pub IsMeeting : Numbered → NumberedAtom → Option Found → Type 0
 IsMeeting n a None = event_of a.id a.term ≡ None
-IsMeeting n a (Some f) = (event_of a.id a.term ≡ Some f.event) × (f.site ≡ (root (standing n.places) a.loc).site)
+IsMeeting n a (Some f) =
+    (event_of a.id a.term ≡ Some f.event) × (f.site ≡ (root (standing n.places) a.loc).site)
 
 -- the event that comes first and its site; or no event is possible
 abbrev pub IsFound : Numbered → ℕ → Option Found → Type 0

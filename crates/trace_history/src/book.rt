@@ -1,12 +1,14 @@
 // A book: what contracts see of it is a program and a journal alone.
-ghost use Rattle.std.specs.Prelude.{◌≡◌, [], ◌<◌, ◌-◌, ◌^◌, length, Ok, IfOk, IfSome, OnErr, IsTrue, ◌↔◌};
+ghost use Rattle.std.specs.Prelude.{◌≡◌, [], ◌<◌, ◌-◌, ◌^◌, length, Ok};
+ghost use Rattle.std.specs.Prelude.{IfOk, IfSome, OnErr, IsTrue, ◌↔◌};
 ghost use Rattle.chem_model.specs.Numbered.{binder_in};
 ghost use Rattle.chem_model.specs.Sound.{IsSound};
 ghost use Rattle.chem_model.specs.Runs.{IsRun};
 ghost use Rattle.chem_model.specs.Laws.{erase_all};
 ghost use Rattle.chem_model.specs.Apply.{states};
 ghost use Rattle.trace_history.specs.Kept.{is_enabled};
-ghost use Rattle.trace_history.specs.Book.{Commits, IsAStart, IsAReduction, OnSolution, IsStuck, IsQuiet, Finds, Replays};
+ghost use Rattle.trace_history.specs.Book.{Commits, IsAStart, IsAReduction, OnSolution};
+ghost use Rattle.trace_history.specs.Book.{IsStuck, IsQuiet, Finds, Replays};
 
 use crate::search::{first_event, is_stuck};
 use chem_commit::make_event;
@@ -79,7 +81,8 @@ impl Model for Book {
 impl Book {
     /// The book of a program's opening, which stands for a start of the program.
     pub fn start(alloc: Global, program: &Program) -> Result<Book, Memory>
-        ensures opening { IfOk result (λ book. book ≡ record { program = program.now; journal = [] }) }
+        ensures opening { IfOk result (λ book.
+            book ≡ record { program = program.now; journal = [] }) }
         ensures start { IfOk result IsAStart }
     {
         opening_is_a_start();
@@ -93,8 +96,9 @@ impl Book {
         })
     }
 
-    /// Makes an event where it is possible, and appends it to the journal: what the book stands for then is one reduction
-    /// away, as the event names it. Where it isn't possible, and on want of memory, nothing changes.
+    /// Makes an event where it is possible, and appends it to the journal: what the book stands for
+    /// then is one reduction away, as the event names it. Where it isn't possible, and on want of
+    /// memory, nothing changes.
     pub fn commit(&mut self, alloc: Global, event: &Event) -> Result<Commit, Memory>
         requires { length self.old.journal < 2 ^ 32 - 1 }
         ensures done { IfOk result (λ c. Commits self.old event.now c self.new) }
@@ -136,12 +140,13 @@ impl Book {
         is_stuck(&self.solution)
     }
 
-    /// The event that comes first, where the site `from` is looked at first, and its site. None where no event is possible:
-    /// to find none takes no memory.
+    /// The event that comes first, where the site `from` is looked at first, and its site. None
+    /// where no event is possible: to find none takes no memory.
     pub fn first_enabled(&self, alloc: Global, from: u32) -> Result<Option<Found>, Memory>
         requires { from < length self.now.program.sites }
         ensures first { IfOk result (λ found. Finds self.now from found) }
-        ensures site { IfOk result (λ found. IfSome found (λ f. f.site < length self.now.program.sites)) }
+        ensures site { IfOk result (λ found.
+            IfSome found (λ f. f.site < length self.now.program.sites)) }
         ensures memory { OnErr result (IsStuck self.now → ⊥) }
     {
         self.is_sound();
@@ -168,7 +173,8 @@ impl Book {
         &self.program
     }
 
-    /// The binder for which a location or a channel was made. None where this book made no such name.
+    /// The binder for which a location or a channel was made. None where this book made no such
+    /// name.
     pub fn binder_of(&self, name: &Name) -> Option<u32>
         ensures { OnSolution self.now (λ n. result ≡ binder_in n.named name.now) }
     {

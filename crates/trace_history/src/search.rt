@@ -4,7 +4,10 @@ ghost use Rattle.std.specs.List.{list_all};
 ghost use Rattle.std.specs.Option.{option_copied};
 ghost use Rattle.chem_model.specs.Sound.{IsSound};
 ghost use Rattle.trace_history.specs.First.{turns, less};
-ghost use Rattle.trace_history.specs.Search.{IsFirstOf, beats, receives, atom_before, is_met, AreLeast, is_ready, turn, rule_before, can_act, request_before, event_of, IsReaction, IsMeeting, IsFound};
+ghost use Rattle.trace_history.specs.Search.{IsFirstOf, beats, receives, atom_before};
+ghost use Rattle.trace_history.specs.Search.{is_met, AreLeast, is_ready, turn};
+ghost use Rattle.trace_history.specs.Search.{rule_before, can_act, request_before};
+ghost use Rattle.trace_history.specs.Search.{event_of, IsReaction, IsMeeting, IsFound};
 
 use crate::book::Found;
 use chem_model::{
@@ -52,7 +55,8 @@ fn is_lesser(atom: &NumberedAtom, least: Option<&NumberedAtom>) -> bool
 
 /// The message with the least number that a pattern receives at a location.
 fn least_message<'a>(numbered: &'a Numbered, at: Loc, pat: &Pat) -> Option<&'a NumberedAtom>
-    ensures { IsFirstOf (receives at pat.now) atom_before numbered.now.atoms (option_copied result) }
+    ensures { IsFirstOf (receives at pat.now) atom_before numbered.now.atoms
+        (option_copied result) }
 {
     let mut least: Option<&NumberedAtom> = None;
     for atom in numbered.atoms.as_slice() {
@@ -127,7 +131,8 @@ fn is_earlier_rule(
 
 /// The first of the rules that are ready.
 fn first_rule(numbered: &Numbered, from: u32) -> Option<&NumberedRule>
-    ensures { IsFirstOf (is_ready numbered.now) (rule_before numbered.now from) numbered.now.rules (option_copied result) }
+    ensures { IsFirstOf (is_ready numbered.now) (rule_before numbered.now from) numbered.now.rules
+        (option_copied result) }
 {
     let mut first: Option<&NumberedRule> = None;
     for rule in numbered.rules.as_slice() {
@@ -153,7 +158,8 @@ fn is_earlier_request(
     atom: &NumberedAtom,
     first: Option<&NumberedAtom>,
 ) -> bool
-    ensures { result ≡ beats (request_before numbered.now from) atom.now (option_copied first.entry) }
+    ensures { result ≡
+        beats (request_before numbered.now from) atom.now (option_copied first.entry) }
 {
     match first {
         Some(other) => {
@@ -168,7 +174,8 @@ fn is_earlier_request(
 
 /// The first of the requests that can be met.
 fn first_request(numbered: &Numbered, from: u32) -> Option<&NumberedAtom>
-    ensures { IsFirstOf (can_act numbered.now) (request_before numbered.now from) numbered.now.atoms (option_copied result) }
+    ensures { IsFirstOf (can_act numbered.now) (request_before numbered.now from) numbered.now.atoms
+        (option_copied result) }
 {
     let mut first: Option<&NumberedAtom> = None;
     for atom in numbered.atoms.as_slice() {
@@ -219,8 +226,8 @@ fn meeting(numbered: &Numbered, atom: &NumberedAtom) -> Option<Found>
     }
 }
 
-/// The event that comes first. A reaction comes before a request at the same site. It takes memory only where an event
-/// is possible.
+/// The event that comes first. A reaction comes before a request at the same site. It takes memory
+/// only where an event is possible.
 pub(crate) fn first_event(
     alloc: Global,
     numbered: &Numbered,
