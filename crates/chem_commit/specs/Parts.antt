@@ -1,5 +1,7 @@
--- What the parts of making an event promise: what is added and taken out, and what an event pours or marks.
-use Rattle.std.specs.Prelude.{◌≡◌, ℕ, ◌+◌, List, [], ◌∷◌, ◌++◌, Option, Some, None, true, cond, length, take}
+-- What the parts of making an event promise: what is added and taken out, and what an event pours
+-- or marks.
+use Rattle.std.specs.Prelude.{◌≡◌, ℕ, ◌+◌, List, [], ◌∷◌, ◌++◌, Option, Some, None, true, cond}
+use Rattle.std.specs.Prelude.{length, take}
 use Rattle.chem_model.specs.declared.name.Loc.{Loc}
 use Rattle.chem_model.specs.declared.event.AtomId.{AtomId}
 use Rattle.chem_model.specs.Solution.{same_loc}
@@ -29,11 +31,23 @@ marked a p = cond (same_loc p.loc a) (record p { marked = true }) p
 
 -- what was made stands at the ends of the lists; the counts are as before
 abbrev pub appended : Numbered → Made → Numbered
-appended n a = record n { places = n.places ++ a.births; named = n.named ++ a.named; rules = n.rules ++ a.rules; atoms = n.atoms ++ a.atoms; trace = n.trace ++ a.outs }
+appended n a = record n {
+  places = n.places ++ a.births;
+  named = n.named ++ a.named;
+  rules = n.rules ++ a.rules;
+  atoms = n.atoms ++ a.atoms;
+  trace = n.trace ++ a.outs;
+}
 
 -- the first members of each list alone
 abbrev pub cut : Lengths → Numbered → Numbered
-cut k n = record n { places = take k.places n.places; named = take k.named n.named; rules = take k.rules n.rules; atoms = take k.atoms n.atoms; trace = take k.trace n.trace }
+cut k n = record n {
+  places = take k.places n.places;
+  named = take k.named n.named;
+  rules = take k.rules n.rules;
+  atoms = take k.atoms n.atoms;
+  trace = take k.trace n.trace;
+}
 
 -- each list still begins with what it held
 abbrev pub Keeps : Numbered → Numbered → Type 0
@@ -53,10 +67,14 @@ abbrev pub poured : Numbered → Option Effect → Option Numbered
 poured n None = None
 poured n (Some e) = Some (add_made n e.root.site e.made)
 
--- the solution without a request to move, with its location under another root, and with what is poured there
+-- the solution without a request to move, with its location under another root, and with what is
+-- poured there
 abbrev pub moved : Numbered → AtomId → Option Effect → Option Numbered
 moved n i None = None
-moved n i (Some e) = Some (add_made (record n { places = with_hosts e.at e.root n.places; atoms = without i n.atoms }) e.root.site e.made)
+moved n i (Some e) = Some (add_made (record n {
+  places = with_hosts e.at e.root n.places;
+  atoms = without i n.atoms;
+}) e.root.site e.made)
 
 -- the solution without a request to halt, with its location marked
 abbrev pub halted : Numbered → AtomId → Option Loc → Option Numbered

@@ -5,7 +5,8 @@ ghost use Rattle.chem_commit.specs.Parts.{appended, cut, Keeps};
 
 use chem_model::{Made, Memory, Numbered};
 
-/// Moves what was made to the ends of the lists. On want of memory each list still begins with what it held.
+/// Moves what was made to the ends of the lists. On want of memory each list still begins with what
+/// it held.
 fn append(solution: &mut Numbered, made: &mut Made) -> Result<(), Memory>
     ensures ok { OnOk result (solution.new ≡ appended solution.old made.old) }
     ensures err { OnErr result (Keeps solution.old solution.new) }

@@ -4,7 +4,9 @@ ghost use Rattle.chem_model.specs.Solution.{root};
 ghost use Rattle.chem_model.specs.Numbered.{standing};
 ghost use Rattle.chem_model.specs.Reduction.{continuation};
 ghost use Rattle.chem_model.specs.Pour.{pour as made_by};
-ghost use Rattle.chem_model.specs.Apply.{rule_at, atom_at, without, without_all, react_rule, with_atom, move_to, move_atom, halt_atom, detect_of, detect_atom};
+ghost use Rattle.chem_model.specs.Apply.{rule_at, atom_at, without, without_all, react_rule};
+ghost use Rattle.chem_model.specs.Apply.{with_atom, move_to, move_atom, halt_atom, detect_of};
+ghost use Rattle.chem_model.specs.Apply.{detect_atom};
 ghost use Rattle.chem_commit.specs.Parts.{poured, moved, halted};
 
 use chem_model::{
@@ -32,7 +34,9 @@ fn continued(
     at: Loc,
     cont: Ref,
 ) -> Result<Made, Memory>
-    ensures { IfOk result (λ made. made ≡ made_by solution.now.seen root.site root [] at (slice_index solution.now.counts root.site) (continuation cont)) }
+    ensures { IfOk result (λ made. made
+        ≡ made_by solution.now.seen root.site root [] at
+        (slice_index solution.now.counts root.site) (continuation cont)) }
 {
     let process = continuation(alloc, cont);
     made_at(alloc, solution, &Items::new(alloc), root, at, &process)
@@ -45,7 +49,9 @@ fn reaction_of(
     rule: &NumberedRule,
     took: &Atoms,
 ) -> Result<Option<Effect>, Memory>
-    ensures { IfOk result (λ effect. poured (record solution.now { atoms = without_all took.now solution.now.atoms }) effect ≡ react_rule solution.now took.now (Some rule.now)) }
+    ensures { IfOk result
+        (λ effect. poured (record solution.now { atoms = without_all took.now solution.now.atoms })
+        effect ≡ react_rule solution.now took.now (Some rule.now)) }
 {
     if !solution.is_live(rule.loc) {
         return Ok(None);
@@ -61,14 +67,17 @@ fn reaction_of(
     }
 }
 
-/// What the rule with this number pours where it takes these messages. None where it isn't there or can't.
+/// What the rule with this number pours where it takes these messages. None where it isn't there or
+/// can't.
 pub(crate) fn reaction(
     alloc: Global,
     solution: &Numbered,
     id: RuleId,
     took: &Atoms,
 ) -> Result<Option<Effect>, Memory>
-    ensures { IfOk result (λ effect. poured (record solution.now { atoms = without_all took.now solution.now.atoms }) effect ≡ react_rule solution.now took.now (rule_at solution.now.rules id)) }
+    ensures { IfOk result
+        (λ effect. poured (record solution.now { atoms = without_all took.now solution.now.atoms })
+        effect ≡ react_rule solution.now took.now (rule_at solution.now.rules id)) }
 {
     match rule_at(solution, id) {
         Some(rule) => reaction_of(alloc, solution, rule, took),
@@ -84,7 +93,8 @@ fn move_to(
     cont: Ref,
     to: Loc,
 ) -> Result<Option<Effect>, Memory>
-    ensures { IfOk result (λ effect. moved solution.now id effect ≡ move_to solution.now id at cont to) }
+    ensures { IfOk result
+        (λ effect. moved solution.now id effect ≡ move_to solution.now id at cont to) }
 {
     if !can_go(solution, at, to) {
         return Ok(None);
@@ -99,7 +109,8 @@ fn move_of(
     id: AtomId,
     atom: &NumberedAtom,
 ) -> Result<Option<Effect>, Memory>
-    ensures { IfOk result (λ effect. moved solution.now id effect ≡ move_atom solution.now id atom.now.loc atom.now.term) }
+    ensures { IfOk result (λ effect. moved solution.now id effect
+        ≡ move_atom solution.now id atom.now.loc atom.now.term) }
 {
     match atom.term.node() {
         ProcNode::Go { target, cont } => match location_of(*target) {
@@ -110,13 +121,15 @@ fn move_of(
     }
 }
 
-/// What the request to move with this number pours at its location, under the new root. None where it isn't there or can't be met.
+/// What the request to move with this number pours at its location, under the new root. None where
+/// it isn't there or can't be met.
 pub(crate) fn departure(
     alloc: Global,
     solution: &Numbered,
     id: AtomId,
 ) -> Result<Option<Effect>, Memory>
-    ensures { IfOk result (λ effect. moved solution.now id effect ≡ with_atom (atom_at solution.now.atoms id) (move_atom solution.now id)) }
+    ensures { IfOk result (λ effect. moved solution.now id effect
+        ≡ with_atom (atom_at solution.now.atoms id) (move_atom solution.now id)) }
 {
     match atom_at(&solution.atoms, id) {
         Some(atom) => move_of(alloc, solution, id, atom),
@@ -139,9 +152,11 @@ fn halt_of(solution: &Numbered, id: AtomId, atom: &NumberedAtom) -> Option<Loc>
     }
 }
 
-/// The location that the request to halt with this number marks. None where it isn't there or can't be met.
+/// The location that the request to halt with this number marks. None where it isn't there or can't
+/// be met.
 pub(crate) fn failing(solution: &Numbered, id: AtomId) -> Option<Loc>
-    ensures { halted solution.now id result ≡ with_atom (atom_at solution.now.atoms id) (halt_atom solution.now id) }
+    ensures { halted solution.now id result
+        ≡ with_atom (atom_at solution.now.atoms id) (halt_atom solution.now id) }
 {
     match atom_at(&solution.atoms, id) {
         Some(atom) => halt_of(solution, id, atom),
@@ -157,7 +172,9 @@ fn detect_of(
     cont: Ref,
     of: Loc,
 ) -> Result<Option<Effect>, Memory>
-    ensures { IfOk result (λ effect. poured (record solution.now { atoms = without id solution.now.atoms }) effect ≡ detect_of solution.now id at cont of) }
+    ensures { IfOk result
+        (λ effect. poured (record solution.now { atoms = without id solution.now.atoms }) effect
+        ≡ detect_of solution.now id at cont of) }
 {
     if !can_detect(solution, at, of) {
         return Ok(None);
@@ -173,7 +190,9 @@ fn detection_of(
     id: AtomId,
     atom: &NumberedAtom,
 ) -> Result<Option<Effect>, Memory>
-    ensures { IfOk result (λ effect. poured (record solution.now { atoms = without id solution.now.atoms }) effect ≡ detect_atom solution.now id atom.now.loc atom.now.term) }
+    ensures { IfOk result
+        (λ effect. poured (record solution.now { atoms = without id solution.now.atoms }) effect
+        ≡ detect_atom solution.now id atom.now.loc atom.now.term) }
 {
     match atom.term.node() {
         ProcNode::Fail { target, cont } => match location_of(*target) {
@@ -184,13 +203,16 @@ fn detection_of(
     }
 }
 
-/// What the request to be told of a failure with this number pours. None where it isn't there or can't be met.
+/// What the request to be told of a failure with this number pours. None where it isn't there or
+/// can't be met.
 pub(crate) fn detection(
     alloc: Global,
     solution: &Numbered,
     id: AtomId,
 ) -> Result<Option<Effect>, Memory>
-    ensures { IfOk result (λ effect. poured (record solution.now { atoms = without id solution.now.atoms }) effect ≡ with_atom (atom_at solution.now.atoms id) (detect_atom solution.now id)) }
+    ensures { IfOk result
+        (λ effect. poured (record solution.now { atoms = without id solution.now.atoms }) effect
+        ≡ with_atom (atom_at solution.now.atoms id) (detect_atom solution.now id)) }
 {
     match atom_at(&solution.atoms, id) {
         Some(atom) => detection_of(alloc, solution, id, atom),

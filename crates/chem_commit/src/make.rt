@@ -1,6 +1,7 @@
 // An event made in place: first all that takes memory, then what can't fail.
 ghost use Rattle.std.specs.Prelude.{◌≡◌, IfOk, OnErr, true};
-ghost use Rattle.chem_model.specs.Apply.{rule_at, atom_at, react_rule, with_atom, move_atom, halt_atom, detect_atom, apply};
+ghost use Rattle.chem_model.specs.Apply.{rule_at, atom_at, react_rule, with_atom, move_atom};
+ghost use Rattle.chem_model.specs.Apply.{halt_atom, detect_atom, apply};
 ghost use Rattle.chem_commit.specs.Replaces.{Replaces, takes_memory};
 
 use crate::add::add;
@@ -11,7 +12,9 @@ use std::alloc::Global;
 
 /// The messages go, and what the rule pours is there.
 fn react(alloc: Global, solution: &mut Numbered, id: RuleId, took: &Atoms) -> Result<bool, Memory>
-    ensures done { IfOk result (λ made. Replaces (react_rule solution.old took.now (rule_at solution.old.rules id)) solution.old made solution.new) }
+    ensures done { IfOk result
+        (λ made. Replaces (react_rule solution.old took.now (rule_at solution.old.rules id))
+        solution.old made solution.new) }
     ensures err { OnErr result (solution.new ≡ solution.old) }
 {
     match reaction(alloc, solution, id, took)? {
@@ -27,7 +30,9 @@ fn react(alloc: Global, solution: &mut Numbered, id: RuleId, took: &Atoms) -> Re
 
 /// The request goes, its location is under another root, and its continuation is poured there.
 fn depart(alloc: Global, solution: &mut Numbered, id: AtomId) -> Result<bool, Memory>
-    ensures done { IfOk result (λ made. Replaces (with_atom (atom_at solution.old.atoms id) (move_atom solution.old id)) solution.old made solution.new) }
+    ensures done { IfOk result
+        (λ made. Replaces (with_atom (atom_at solution.old.atoms id) (move_atom solution.old id))
+        solution.old made solution.new) }
     ensures err { OnErr result (solution.new ≡ solution.old) }
 {
     match departure(alloc, solution, id)? {
@@ -45,7 +50,8 @@ fn depart(alloc: Global, solution: &mut Numbered, id: AtomId) -> Result<bool, Me
 
 /// The request goes, and its location is marked.
 fn halt(solution: &mut Numbered, id: AtomId) -> bool
-    ensures { Replaces (with_atom (atom_at solution.old.atoms id) (halt_atom solution.old id)) solution.old result solution.new }
+    ensures { Replaces (with_atom (atom_at solution.old.atoms id) (halt_atom solution.old id))
+        solution.old result solution.new }
 {
     match failing(solution, id) {
         Some(at) => {
@@ -60,7 +66,9 @@ fn halt(solution: &mut Numbered, id: AtomId) -> bool
 
 /// The request goes, and its continuation is poured at its location.
 fn detect(alloc: Global, solution: &mut Numbered, id: AtomId) -> Result<bool, Memory>
-    ensures done { IfOk result (λ made. Replaces (with_atom (atom_at solution.old.atoms id) (detect_atom solution.old id)) solution.old made solution.new) }
+    ensures done { IfOk result
+        (λ made. Replaces (with_atom (atom_at solution.old.atoms id) (detect_atom solution.old id))
+        solution.old made solution.new) }
     ensures err { OnErr result (solution.new ≡ solution.old) }
 {
     match detection(alloc, solution, id)? {
@@ -74,10 +82,11 @@ fn detect(alloc: Global, solution: &mut Numbered, id: AtomId) -> Result<bool, Me
     }
 }
 
-/// Makes an event in place where it is possible, and answers whether it was. Where it isn't possible, and on want of
-/// memory, nothing changes. A halt takes no memory.
+/// Makes an event in place where it is possible, and answers whether it was. Where it isn't
+/// possible, and on want of memory, nothing changes. A halt takes no memory.
 pub fn make_event(alloc: Global, solution: &mut Numbered, event: &Event) -> Result<bool, Memory>
-    ensures done { IfOk result (λ made. Replaces (apply solution.old event.now) solution.old made solution.new) }
+    ensures done { IfOk result
+        (λ made. Replaces (apply solution.old event.now) solution.old made solution.new) }
     ensures err { OnErr result (solution.new ≡ solution.old) }
     ensures memory { OnErr result (takes_memory event.now ≡ true) }
 {

@@ -1,5 +1,6 @@
 -- The effect of an event, and the replay of a journal.
-use Rattle.std.specs.Prelude.{List, [], ◌∷◌, ◌++◌, ◌==◌, Bool, true, false, ◌&&◌, not, Option, Some, None, is_some, cond, length}
+use Rattle.std.specs.Prelude.{List, [], ◌∷◌, ◌++◌, ◌==◌, Bool, true, false, ◌&&◌, not, Option, Some}
+use Rattle.std.specs.Prelude.{None, is_some, cond, length}
 use Rattle.chem_model.specs.declared.name.Loc.{Loc}
 use Rattle.chem_model.specs.declared.name.Name.TheVariants as name
 use Rattle.chem_model.specs.declared.name.Ref.{Ref}
@@ -14,7 +15,8 @@ use Rattle.chem_model.specs.ProgramFacts.{ProgramTerms}
 use Rattle.chem_model.specs.Fill.{Naming}
 use Rattle.chem_model.specs.Solution.{same_loc, host_of, is_there, dead, live}
 use Rattle.chem_model.specs.Reduction.{given, continuation}
-use Rattle.chem_model.specs.Numbered.{Placed, NumberedRule, NumberedAtom, Numbered, standing, same_name}
+use Rattle.chem_model.specs.Numbered.{Placed, NumberedRule, NumberedAtom, Numbered, standing}
+use Rattle.chem_model.specs.Numbered.{same_name}
 use Rattle.chem_model.specs.Pour.{known, pour_at}
 use Rattle.chem_model.specs.Opening.{opening}
 
@@ -49,7 +51,8 @@ same_ref _ _ = false
 
 -- the names that a pattern receives from a message on its channel with its count
 abbrev pub received : Pat → Process → Option Naming
-received p (Msg x vs) = cond (same_ref p.on x && (length p.params == length vs)) (Some (given p.params (known vs))) None
+received p (Msg x vs) =
+    cond (same_ref p.on x && (length p.params == length vs)) (Some (given p.params (known vs))) None
 received p (Par ps) = None
 received p (Def ds q) = None
 received p (Go b k) = None
@@ -66,21 +69,27 @@ both_received None o = None
 both_received (Some m) None = None
 both_received (Some m) (Some ms) = Some (m ++ ms)
 
--- the names received where there is one atom per message pattern, in order, each at the location, on that channel and with that count
+-- the names received where there is one atom per message pattern, in order, each at the location,
+-- on that channel and with that count
 abbrev pub received_all : List NumberedAtom → Loc → List Pat → List AtomId → Option Naming
 received_all atoms l [] [] = Some []
-received_all atoms l (p ∷ ps) (i ∷ took) = both_received (received_at l p (atom_at atoms i)) (received_all atoms l ps took)
+received_all atoms l (p ∷ ps) (i ∷ took) =
+    both_received (received_at l p (atom_at atoms i)) (received_all atoms l ps took)
 received_all atoms l [] (i ∷ took) = None
 received_all atoms l (p ∷ ps) [] = None
 
--- the taken atoms go, and the body is poured at the rule's location with the received names for the parameters
+-- the taken atoms go, and the body is poured at the rule's location with the received names for the
+-- parameters
 abbrev pub react_received : Numbered → NumberedRule → List AtomId → Option Naming → Option Numbered
 react_received n r took None = None
-react_received n r took (Some m) = Some (pour_at (record n { atoms = without_all took n.atoms }) m r.loc r.body)
+react_received n r took (Some m) =
+    Some (pour_at (record n { atoms = without_all took n.atoms }) m r.loc r.body)
 
 abbrev pub react_rule : Numbered → List AtomId → Option NumberedRule → Option Numbered
 react_rule n took None = None
-react_rule n took (Some r) = cond (live (standing n.places) r.loc) (react_received n r took (received_all n.atoms r.loc r.pats took)) None
+react_rule n took (Some r) =
+    cond (live (standing n.places) r.loc)
+        (react_received n r took (received_all n.atoms r.loc r.pats took)) None
 
 -- ---- requests
 
@@ -94,7 +103,9 @@ with_marks a (p ∷ ps) = cond (same_loc p.loc a) (record p { marked = true }) p
 
 -- a live location with a host may go to a live root
 abbrev pub can_go : Numbered → Loc → Loc → Bool
-can_go n l b = let pl = standing n.places in (live pl l && is_some (host_of (pl l))) && (live pl b && not (is_some (host_of (pl b))))
+can_go n l b =
+    let pl = standing n.places in
+    (live pl l && is_some (host_of (pl l))) && (live pl b && not (is_some (host_of (pl b))))
 
 -- at a live location the failure of a location that is there and is dead can be detected
 abbrev pub can_detect : Numbered → Loc → Loc → Bool
@@ -109,7 +120,10 @@ at_location (Known (name.Chan s k h)) f = None
 
 -- the request goes, the one host changes, and then the continuation is poured at the moved location
 abbrev pub move_to : Numbered → AtomId → Loc → Ref → Loc → Option Numbered
-move_to n i l k b = cond (can_go n l b) (Some (pour_at (record n { places = with_hosts l b n.places; atoms = without i n.atoms }) [] l (continuation k))) None
+move_to n i l k b = cond (can_go n l b) (Some (pour_at (record n {
+  places = with_hosts l b n.places;
+  atoms = without i n.atoms;
+}) [] l (continuation k))) None
 
 abbrev pub move_atom : Numbered → AtomId → Loc → Process → Option Numbered
 move_atom n i l (Go b k) = at_location b (move_to n i l k)
@@ -121,7 +135,10 @@ move_atom n i l Halt = None
 
 -- the request goes, and its location is marked
 abbrev pub halt_atom : Numbered → AtomId → Loc → Process → Option Numbered
-halt_atom n i l Halt = cond (live (standing n.places) l) (Some (record n { places = with_marks l n.places; atoms = without i n.atoms })) None
+halt_atom n i l Halt = cond (live (standing n.places) l) (Some (record n {
+  places = with_marks l n.places;
+  atoms = without i n.atoms;
+})) None
 halt_atom n i l (Msg x vs) = None
 halt_atom n i l (Par ps) = None
 halt_atom n i l (Def ds p) = None
@@ -130,7 +147,9 @@ halt_atom n i l (Fail a k) = None
 
 -- the request goes, and its continuation is poured at its location
 abbrev pub detect_of : Numbered → AtomId → Loc → Ref → Loc → Option Numbered
-detect_of n i l k a = cond (can_detect n l a) (Some (pour_at (record n { atoms = without i n.atoms }) [] l (continuation k))) None
+detect_of n i l k a =
+    cond (can_detect n l a)
+        (Some (pour_at (record n { atoms = without i n.atoms }) [] l (continuation k))) None
 
 abbrev pub detect_atom : Numbered → AtomId → Loc → Process → Option Numbered
 detect_atom n i l (Fail a k) = at_location a (detect_of n i l k)
@@ -144,7 +163,8 @@ abbrev pub with_atom : Option NumberedAtom → (Loc → Process → Option Numbe
 with_atom None f = None
 with_atom (Some a) f = f a.loc a.term
 
--- ---- the effect of an event: none unless its rule or request is there and what the machine needs holds
+-- ---- the effect of an event: none unless its rule or request is there and what the machine needs
+-- holds
 
 abbrev pub apply : Numbered → Event → Option Numbered
 apply n (event.React i took) = react_rule n took (rule_at n.rules i)

@@ -1,10 +1,13 @@
 -- What a list of definitions defines, how often a binder is bound, and how large a term is.
-use Rattle.std.specs.Prelude.{ℕ, ◌+◌, ◌==◌, List, [], ◌∷◌, ◌++◌, length, Bool, cond, Option, Some, sum_by}
+use Rattle.std.specs.Prelude.{ℕ, ◌+◌, ◌==◌, List, [], ◌∷◌, ◌++◌, length, Bool, cond, Option, Some}
+use Rattle.std.specs.Prelude.{sum_by}
 use Rattle.std.specs.List.{list_any, count_by}
 use Rattle.chem_model.specs.declared.name.Ref.{Ref}
 use Rattle.chem_model.specs.declared.name.Ref.TheVariants.{Binder, Known}
 use Rattle.chem_model.specs.declared.name.Pat.{Pat}
-use Rattle.chem_model.specs.Process.{Process, Msg, Par, Def, Go, Fail, Halt, Processes, none, one_more, Definition, Rule, Place, Definitions, no_definition, and_also}
+use Rattle.chem_model.specs.Process.{Process, Msg, Par, Def, Go, Fail, Halt, Processes, none}
+use Rattle.chem_model.specs.Process.{one_more, Definition, Rule, Place, Definitions, no_definition}
+use Rattle.chem_model.specs.Process.{and_also}
 
 -- the binder that an occurrence is, where it is one
 abbrev pub binder_of : Ref → List ℕ
@@ -21,7 +24,8 @@ abbrev pub params_of : List Pat → List ℕ
 params_of [] = []
 params_of (p ∷ ps) = p.params ++ params_of ps
 
--- the block of a list of definitions: the channels of its rules, the names of its places, and the block of each place's own definitions
+-- the block of a list of definitions: the channels of its rules, the names of its places, and the
+-- block of each place's own definitions
 abbrev mutual
   pub block : Definitions → List ℕ
   block no_definition = []
@@ -46,7 +50,8 @@ abbrev pub at : Option Ref → List Pat → List (Option Ref × Pat)
 at l [] = []
 at l (p ∷ ps) = (l, p) ∷ at l ps
 
--- the message patterns of a block, each with the place of the block at which its rule stands: none where it stands in no place
+-- the message patterns of a block, each with the place of the block at which its rule stands: none
+-- where it stands in no place
 abbrev mutual
   pub patterns_of : Option Ref → Definitions → List (Option Ref × Pat)
   patterns_of l no_definition = []
@@ -67,7 +72,8 @@ times bs b = count_by (λ c. c == b) bs
 abbrev pub once : List ℕ → ℕ → ℕ
 once bs b = cond (is_among bs b) 1 0
 
--- how often a binder is bound in a term: by the block of a `def`, or as a parameter of a join pattern
+-- how often a binder is bound in a term: by the block of a `def`, or as a parameter of a join
+-- pattern
 abbrev mutual
   pub bound_in : Process → ℕ → ℕ
   bound_in (Msg x vs) b = 0

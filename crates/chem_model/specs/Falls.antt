@@ -16,7 +16,8 @@ pub most_le-procs_depth : (ps : List Process) → most (λ p. process_depth p + 
 most_le-procs_depth [] = omega arith
 most_le-procs_depth (p ∷ ps) = omega (arith, most_le-procs_depth ps)
 
-pub most_le-defs_depth : (ds : List Definition) → most (λ d. definition_depth d + 1) ds ≤ defs_depth ds
+pub most_le-defs_depth : (ds : List Definition)
+    → most (λ d. definition_depth d + 1) ds ≤ defs_depth ds
 most_le-defs_depth [] = omega arith
 most_le-defs_depth (d ∷ ds) = omega (arith, most_le-defs_depth ds)
 
@@ -28,6 +29,7 @@ depth_le-process (Go b k) = omega arith
 depth_le-process (Fail b k) = omega arith
 depth_le-process Halt = omega arith
 
-pub depth_le-definition : (n : DefnNode) → max (deep-DefnNode n) 0 ≤ definition_depth (definition_of n)
+pub depth_le-definition : (n : DefnNode)
+    → max (deep-DefnNode n) 0 ≤ definition_depth (definition_of n)
 depth_le-definition (Rule ps p) = omega arith
 depth_le-definition (Place a ds p) = omega (arith, most_le-defs_depth ds)

@@ -4,7 +4,9 @@ use Rattle.chem_model.specs.declared.name.Name.{Name}
 use Rattle.chem_model.specs.declared.name.Ref.{Ref}
 use Rattle.chem_model.specs.declared.name.Ref.TheVariants.{Binder, Known}
 use Rattle.chem_model.specs.declared.name.Pat.{Pat}
-use Rattle.chem_model.specs.Process.{Process, Msg, Par, Def, Go, Fail, Halt, Processes, none, one_more, Definition, Rule, Place, Definitions, no_definition, and_also}
+use Rattle.chem_model.specs.Process.{Process, Msg, Par, Def, Go, Fail, Halt, Processes, none}
+use Rattle.chem_model.specs.Process.{one_more, Definition, Rule, Place, Definitions, no_definition}
+use Rattle.chem_model.specs.Process.{and_also}
 pub use Rattle.chem_model.specs.declared.numbered.Named.{Named}
 
 -- a finite map from binders to names: of two entries of a binder the first counts
@@ -33,8 +35,8 @@ abbrev pub fill_pats : Naming → List Pat → List Pat
 fill_pats m [] = []
 fill_pats m (p ∷ ps) = record { on = fill_ref m p.on; params = p.params } ∷ fill_pats m ps
 
--- the term with the map's names in place of its binders: each binder of a program has its own number, and what is put in
--- is a known name, so nothing is captured
+-- the term with the map's names in place of its binders: each binder of a program has its own
+-- number, and what is put in is a known name, so nothing is captured
 abbrev mutual
   pub fill : Naming → Process → Process
   fill m (Msg x vs) = Msg (fill_ref m x) (fill_refs m vs)

@@ -18,11 +18,14 @@ ActsAs (event.Move i) s t = Goes s t
 ActsAs (event.Halt i) s t = Halts s t
 ActsAs (event.Detect i) s t = Detects s t
 
--- the opening is a start: it is sound, and what it stands for is reached from a start by heating, Comm and Out alone
+-- the opening is a start: it is sound, and what it stands for is reached from a start by heating,
+-- Comm and Out alone
 abbrev pub OpeningIsAStart : Type 0
-OpeningIsAStart = (p : ProgramTerms) → IsProgram p → IsSound (opening p) × IsOpened p (erase (opening p))
+OpeningIsAStart =
+    (p : ProgramTerms) → IsProgram p → IsSound (opening p) × IsOpened p (erase (opening p))
 
--- an event is one reduction, the one that it names, followed by heating, Comm and Out alone; and it leads to a sound solution
+-- an event is one reduction, the one that it names, followed by heating, Comm and Out alone; and it
+-- leads to a sound solution
 pub record IsReduction (e : Event) (n m : Numbered) : Type 0 where
   pub sound : IsSound m
   pub middle : Solution
@@ -30,11 +33,13 @@ pub record IsReduction (e : Event) (n m : Numbered) : Type 0 where
   pub reached : IsReached n.seen (erase m) middle
 
 abbrev pub EventIsAReduction : Type 0
-EventIsAReduction = (n m : Numbered) (e : Event) → IsSound n → apply n e ≡ Some m → IsReduction e n m
+EventIsAReduction =
+    (n m : Numbered) (e : Event) → IsSound n → apply n e ≡ Some m → IsReduction e n m
 
 -- stuck is quiet: no event is possible exactly where no heating and no reduction applies
 abbrev pub StuckIsQuiet : Type 0
-StuckIsQuiet = (n : Numbered) → IsSound n → ((e : Event) → apply n e ≡ None) ↔ Quiet n.seen (erase n)
+StuckIsQuiet =
+    (n : Numbered) → IsSound n → ((e : Event) → apply n e ≡ None) ↔ Quiet n.seen (erase n)
 
 abbrev pub erase_all : List Numbered → List Solution
 erase_all [] = []
@@ -42,4 +47,6 @@ erase_all (n ∷ ns) = erase n ∷ erase_all ns
 
 -- the states that a replay passes form a run, and it ends in a sound solution
 abbrev pub ReplayIsARun : Type 0
-ReplayIsARun = (p : ProgramTerms) → IsProgram p → (journal : List Event) (n : Numbered) → replay p journal ≡ Some n → IsSound n × IsRun p (erase_all (states p journal))
+ReplayIsARun =
+    (p : ProgramTerms) → IsProgram p → (journal : List Event) (n : Numbered)
+    → replay p journal ≡ Some n → IsSound n × IsRun p (erase_all (states p journal))

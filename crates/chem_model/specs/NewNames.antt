@@ -55,17 +55,21 @@ abbrev pub OnBinder : Naming → (Option Name → Type 0) → Ref → Type 0
 OnBinder m K (Binder b) = K (name_at m b)
 OnBinder m K (Known n) = ⊥
 
--- a place gets a location; a channel gets a name whose home is the location of the definitions in which its pattern stands
+-- a place gets a location; a channel gets a name whose home is the location of the definitions in
+-- which its pattern stands
 abbrev pub NamesBlock : Loc → Naming → Definitions → Type 0
 NamesBlock l m no_definition = Unit {0}
-NamesBlock l m (and_also (Rule ps p) ds) = Each (λ (q : Pat). OnBinder m (IsChannelAt l) q.on) ps × NamesBlock l m ds
-NamesBlock l m (and_also (Place x es p) ds) = OnBinder m (IsLocation (λ a. NamesBlock a m es)) x × NamesBlock l m ds
+NamesBlock l m (and_also (Rule ps p) ds) =
+    Each (λ (q : Pat). OnBinder m (IsChannelAt l) q.on) ps × NamesBlock l m ds
+NamesBlock l m (and_also (Place x es p) ds) =
+    OnBinder m (IsLocation (λ a. NamesBlock a m es)) x × NamesBlock l m ds
 
 -- the map names exactly these binders
 abbrev pub HasDomain : List ℕ → Naming → Type 0
 HasDomain bs m = (b : ℕ) → is_some (name_at m b) ≡ is_among bs b
 
--- a map that gives each binder of the block a new name: the pairs of the new names are all different, and occur nowhere in the solution
+-- a map that gives each binder of the block a new name: the pairs of the new names are all
+-- different, and occur nowhere in the solution
 pub record NewNames (s : Solution) (l : Loc) (m : Naming) (ds : Definitions) : Type 0 where
   pub domain : HasDomain (block ds) m
   pub names : NamesBlock l m ds

@@ -1,6 +1,7 @@
--- The numbered solution, in which every location, channel, rule, message and request is known by a pair of a site and a number.
--- It is this project's own, as is every number in a run.
-use Rattle.std.specs.Prelude.{ℕ, List, [], ◌∷◌, ◌++◌, ◌==◌, Bool, false, ◌&&◌, Option, Some, None, cond}
+-- The numbered solution, in which every location, channel, rule, message and request is known by a
+-- pair of a site and a number. It is this project's own, as is every number in a run.
+use Rattle.std.specs.Prelude.{ℕ, List, [], ◌∷◌, ◌++◌, ◌==◌, Bool, false, ◌&&◌, Option, Some, None}
+use Rattle.std.specs.Prelude.{cond}
 use Rattle.chem_model.specs.declared.name.Loc.{Loc}
 use Rattle.chem_model.specs.declared.name.Name.{Name}
 use Rattle.chem_model.specs.declared.name.Name.TheVariants as name
@@ -12,7 +13,8 @@ pub use Rattle.chem_model.specs.declared.numbered.Made.{Made}
 use Rattle.chem_model.specs.Process.{Process, Definition, Rule}
 use Rattle.chem_model.specs.Bag.{Bag, bag, ◌⊕◌}
 use Rattle.chem_model.specs.Fill.{Naming}
-use Rattle.chem_model.specs.Solution.{Solution, Places, same_loc, coded_located_process, coded_located_definition}
+use Rattle.chem_model.specs.Solution.{Solution, Places, same_loc, coded_located_process}
+use Rattle.chem_model.specs.Solution.{coded_located_definition}
 use Rattle.chem_model.specs.NewNames.{Pair, coded_pair}
 
 -- ---- the solution that a numbered one stands for
@@ -20,7 +22,8 @@ use Rattle.chem_model.specs.NewNames.{Pair, coded_pair}
 -- the map of the locations: of two entries of a location the first counts
 abbrev pub standing : List Placed → Places
 standing [] l = None
-standing (p ∷ ps) l = cond (same_loc p.loc l) (Some (record { host = p.host; marked = p.marked })) (standing ps l)
+standing (p ∷ ps) l =
+    cond (same_loc p.loc l) (Some (record { host = p.host; marked = p.marked })) (standing ps l)
 
 abbrev pub defs_of : List NumberedRule → List (Loc × Definition)
 defs_of [] = []
@@ -32,7 +35,12 @@ procs_of (a ∷ others) = (a.loc, a.term) ∷ procs_of others
 
 -- the solution that forgets ids, counts and binders
 abbrev pub erase : Numbered → Solution
-erase n = record { places = standing n.places; defs = bag coded_located_definition (defs_of n.rules); procs = bag coded_located_process (procs_of n.atoms); trace = n.trace }
+erase n = record {
+  places = standing n.places;
+  defs = bag coded_located_definition (defs_of n.rules);
+  procs = bag coded_located_process (procs_of n.atoms);
+  trace = n.trace;
+}
 
 -- ---- the pairs of all that was made
 
@@ -59,7 +67,9 @@ atom_pairs (a ∷ others) = (a.id.site, a.id.k) ∷ atom_pairs others
 
 -- how often each pair is one of a location, a channel that was made, a rule or an atom
 abbrev pub pairs_in : List Placed → Naming → List NumberedRule → List NumberedAtom → Bag Pair
-pairs_in places named rules atoms = bag coded_pair (place_pairs places) ⊕ bag coded_pair (channel_pairs named) ⊕ bag coded_pair (rule_pairs rules) ⊕ bag coded_pair (atom_pairs atoms)
+pairs_in places named rules atoms =
+    bag coded_pair (place_pairs places) ⊕ bag coded_pair (channel_pairs named)
+    ⊕ bag coded_pair (rule_pairs rules) ⊕ bag coded_pair (atom_pairs atoms)
 
 abbrev pub pairs : Numbered → Bag Pair
 pairs n = pairs_in n.places n.named n.rules n.atoms

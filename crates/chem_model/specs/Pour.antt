@@ -1,14 +1,18 @@
--- Naming, laying and pouring: what a process adds to a numbered solution, and the numbers that it draws. Each site has one count, from which
--- its locations, channels, rules, messages and requests all draw. What is made depends on the declared counts, the site, the root, the names so
--- far, the location, the next number and the term alone.
-use Rattle.std.specs.Prelude.{ℕ, ◌+◌, List, [], ◌∷◌, ◌++◌, ◌==◌, Bool, false, Option, Some, None, cond, length, slice_get, slice_index, slice_set}
+-- Naming, laying and pouring: what a process adds to a numbered solution, and the numbers that it
+-- draws. Each site has one count, from which its locations, channels, rules, messages and requests
+-- all draw. What is made depends on the declared counts, the site, the root, the names so far, the
+-- location, the next number and the term alone.
+use Rattle.std.specs.Prelude.{ℕ, ◌+◌, List, [], ◌∷◌, ◌++◌, ◌==◌, Bool, false, Option, Some, None}
+use Rattle.std.specs.Prelude.{cond, length, slice_get, slice_index, slice_set}
 use Rattle.chem_model.specs.declared.name.Loc.{Loc}
 use Rattle.chem_model.specs.declared.name.Name.{Name}
 use Rattle.chem_model.specs.declared.name.Name.TheVariants as name
 use Rattle.chem_model.specs.declared.name.Ref.{Ref}
 use Rattle.chem_model.specs.declared.name.Ref.TheVariants.{Binder, Known}
 use Rattle.chem_model.specs.declared.name.Pat.{Pat}
-use Rattle.chem_model.specs.Process.{Process, Msg, Par, Def, Go, Fail, Halt, Processes, none, one_more, Definition, Rule, Place, Definitions, no_definition, and_also}
+use Rattle.chem_model.specs.Process.{Process, Msg, Par, Def, Go, Fail, Halt, Processes, none}
+use Rattle.chem_model.specs.Process.{one_more, Definition, Rule, Place, Definitions, no_definition}
+use Rattle.chem_model.specs.Process.{and_also}
 use Rattle.chem_model.specs.Fill.{Naming, name_at, fill_ref, fill_refs, fill_pats, fill}
 use Rattle.chem_model.specs.Solution.{root}
 use Rattle.chem_model.specs.Numbered.{Placed, NumberedRule, Numbered, Made, standing}
@@ -20,13 +24,34 @@ nothing_made k = record { next = k; births = []; named = []; rules = []; atoms =
 
 -- the first, and then the second
 abbrev pub then_made : Made → Made → Made
-then_made a b = record { next = b.next; births = a.births ++ b.births; named = a.named ++ b.named; rules = a.rules ++ b.rules; atoms = a.atoms ++ b.atoms; outs = a.outs ++ b.outs }
+then_made a b = record {
+  next = b.next;
+  births = a.births ++ b.births;
+  named = a.named ++ b.named;
+  rules = a.rules ++ b.rules;
+  atoms = a.atoms ++ b.atoms;
+  outs = a.outs ++ b.outs;
+}
 
 abbrev pub atom_made : ℕ → Loc → ℕ → Process → Made
-atom_made s l k p = record { next = k + 1; births = []; named = []; rules = []; atoms = record { id = record { site = s; k = k }; loc = l; term = p } ∷ []; outs = [] }
+atom_made s l k p = record {
+  next = k + 1;
+  births = [];
+  named = [];
+  rules = [];
+  atoms = record { id = record { site = s; k = k }; loc = l; term = p } ∷ [];
+  outs = [];
+}
 
 abbrev pub out_made : ℕ → ℕ → List Name → Made
-out_made k i ns = record { next = k; births = []; named = []; rules = []; atoms = []; outs = record { on = i; args = ns } ∷ [] }
+out_made k i ns = record {
+  next = k;
+  births = [];
+  named = [];
+  rules = [];
+  atoms = [];
+  outs = record { on = i; args = ns } ∷ [];
+}
 
 -- ---- a message
 
@@ -40,12 +65,16 @@ abbrev pub is_count : Option ℕ → ℕ → Bool
 is_count None n = false
 is_count (Some m) n = m == n
 
--- a message on an observed name with the declared count goes to the trace; any other gets a number, and is put at its channel's home, or else where it was emitted
+-- a message on an observed name with the declared count goes to the trace; any other gets a number,
+-- and is put at its channel's home, or else where it was emitted
 abbrev pub message_made : List ℕ → ℕ → Loc → ℕ → Ref → List Ref → Made
 message_made seen s l k (Binder b) vs = atom_made s l k (Msg (Binder b) vs)
-message_made seen s l k (Known (name.Seen i)) vs = cond (is_count (slice_get seen i) (length vs)) (out_made k i (known vs)) (atom_made s l k (Msg (Known (name.Seen i)) vs))
+message_made seen s l k (Known (name.Seen i)) vs =
+    cond (is_count (slice_get seen i) (length vs)) (out_made k i (known vs))
+        (atom_made s l k (Msg (Known (name.Seen i)) vs))
 message_made seen s l k (Known (name.Place a)) vs = atom_made s l k (Msg (Known (name.Place a)) vs)
-message_made seen s l k (Known (name.Chan t j h)) vs = atom_made s h k (Msg (Known (name.Chan t j h)) vs)
+message_made seen s l k (Known (name.Chan t j h)) vs =
+    atom_made s h k (Msg (Known (name.Chan t j h)) vs)
 
 -- ---- naming a level: its channels, then each of its places with its own channels
 
@@ -56,7 +85,10 @@ pub record Drawn : Type 0 where
 
 -- a channel that has no name yet gets one
 abbrev pub name_channel : Option Name → ℕ → Loc → ℕ → Drawn → Drawn
-name_channel None s l b a = record { next = a.next + 1; names = a.names ++ record { binder = b; name = name.Chan s a.next l } ∷ [] }
+name_channel None s l b a = record {
+  next = a.next + 1;
+  names = a.names ++ record { binder = b; name = name.Chan s a.next l } ∷ [];
+}
 name_channel (Some n) s l b a = a
 
 abbrev pub name_ref : ℕ → Loc → Ref → Drawn → Drawn
@@ -73,13 +105,18 @@ name_channels s l (and_also (Rule ps p) ds) a = name_channels s l ds (name_pats 
 name_channels s l (and_also (Place x es p) ds) a = name_channels s l ds a
 
 abbrev pub name_place : ℕ → Ref → Drawn → Drawn
-name_place s (Binder b) a = record { next = a.next + 1; names = a.names ++ record { binder = b; name = name.Place (record { site = s; k = a.next }) } ∷ [] }
+name_place s (Binder b) a = record {
+  next = a.next + 1;
+  names =
+      a.names ++ record { binder = b; name = name.Place (record { site = s; k = a.next }) } ∷ [];
+}
 name_place s (Known n) a = a
 
 abbrev pub name_places : ℕ → Definitions → Drawn → Drawn
 name_places s no_definition a = a
 name_places s (and_also (Rule ps p) ds) a = name_places s ds a
-name_places s (and_also (Place x es p) ds) a = name_places s ds (name_channels s (record { site = s; k = a.next }) es (name_place s x a))
+name_places s (and_also (Place x es p) ds) a =
+    name_places s ds (name_channels s (record { site = s; k = a.next }) es (name_place s x a))
 
 -- naming the level ds at l, from the number k on
 abbrev pub naming : ℕ → Loc → Definitions → ℕ → Drawn
@@ -96,11 +133,13 @@ loc_or l (Known (name.Chan s k h)) = l
 abbrev pub births_of : Loc → Naming → Definitions → List Placed
 births_of r m no_definition = []
 births_of r m (and_also (Rule ps p) ds) = births_of r m ds
-births_of r m (and_also (Place x es p) ds) = record { loc = loc_or r (fill_ref m x); host = Some r; marked = false } ∷ births_of r m ds
+births_of r m (and_also (Place x es p) ds) =
+    record { loc = loc_or r (fill_ref m x); host = Some r; marked = false } ∷ births_of r m ds
 
 -- names given, and the locations born with them
 abbrev pub names_made : Drawn → List Placed → Made
-names_made n births = record { next = n.next; births = births; named = n.names; rules = []; atoms = []; outs = [] }
+names_made n births =
+    record { next = n.next; births = births; named = n.names; rules = []; atoms = []; outs = [] }
 
 -- ---- laying the rules of a level
 
@@ -112,11 +151,20 @@ abbrev pub lay_rules : ℕ → Naming → Loc → ℕ → Definitions → Laid
 lay_rules s m l k no_definition = record { next = k; rules = [] }
 lay_rules s m l k (and_also (Rule ps p) ds) =
     let others = lay_rules s m l (k + 1) ds in
-    record { next = others.next; rules = record { id = record { site = s; k = k }; loc = l; pats = fill_pats m ps; body = fill m p } ∷ others.rules }
+    record {
+      next = others.next;
+      rules = record {
+        id = record { site = s; k = k };
+        loc = l;
+        pats = fill_pats m ps;
+        body = fill m p;
+      } ∷ others.rules;
+    }
 lay_rules s m l k (and_also (Place x es p) ds) = lay_rules s m l k ds
 
 abbrev pub rules_made : Laid → Made
-rules_made a = record { next = a.next; births = []; named = []; rules = a.rules; atoms = []; outs = [] }
+rules_made a =
+    record { next = a.next; births = []; named = []; rules = a.rules; atoms = []; outs = [] }
 
 -- ---- laying and pouring, where these are the declared counts, the site and its root
 
@@ -143,7 +191,9 @@ module _ (seen : List ℕ) (s : ℕ) (r : Loc) where
     -- of each place its level is laid at its location, and then its process is poured there
     pub lay_places : Naming → Loc → ℕ → Definitions → Made
     lay_places m l k no_definition = nothing_made k
-    lay_places m l k (and_also d ds) = let a = lay_place m l k d in then_made a (lay_places m l a.next ds)
+    lay_places m l k (and_also d ds) =
+        let a = lay_place m l k d in
+        then_made a (lay_places m l a.next ds)
 
     pub lay_place : Naming → Loc → ℕ → Definition → Made
     lay_place m l k (Rule ps p) = nothing_made k
@@ -159,7 +209,15 @@ module _ (seen : List ℕ) (s : ℕ) (r : Loc) where
 -- ---- what is made, added to a numbered solution
 
 abbrev pub add_made : Numbered → ℕ → Made → Numbered
-add_made n s a = record { seen = n.seen; counts = slice_set n.counts s a.next; places = n.places ++ a.births; named = n.named ++ a.named; rules = n.rules ++ a.rules; atoms = n.atoms ++ a.atoms; trace = n.trace ++ a.outs }
+add_made n s a = record {
+  seen = n.seen;
+  counts = slice_set n.counts s a.next;
+  places = n.places ++ a.births;
+  named = n.named ++ a.named;
+  rules = n.rules ++ a.rules;
+  atoms = n.atoms ++ a.atoms;
+  trace = n.trace ++ a.outs;
+}
 
 -- the process p poured at l with the names m: the site is the one of the root above l
 abbrev pub pour_at : Numbered → Naming → Loc → Process → Numbered

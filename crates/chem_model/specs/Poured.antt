@@ -1,5 +1,5 @@
--- What functions say of their parts: what was added to what was made, a found location's standing, and the location
--- that an occurrence is.
+-- What functions say of their parts: what was added to what was made, a found location's standing,
+-- and the location that an occurrence is.
 use Rattle.std.specs.Prelude.{◌≡◌, ◌++◌, Option, Some, None}
 use Rattle.chem_model.specs.declared.name.Loc.{Loc}
 use Rattle.chem_model.specs.declared.name.Name.TheVariants as name

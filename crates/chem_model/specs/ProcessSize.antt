@@ -1,6 +1,8 @@
 -- How deep a term is.
 use Rattle.std.specs.Prelude.{ℕ, ◌+◌, max, List}
-use Rattle.chem_model.specs.Process.{Process, Msg, Par, Def, Go, Fail, Halt, Processes, none, one_more, Definition, Rule, Place, Definitions, no_definition, and_also, processes, definitions}
+use Rattle.chem_model.specs.Process.{Process, Msg, Par, Def, Go, Fail, Halt, Processes, none}
+use Rattle.chem_model.specs.Process.{one_more, Definition, Rule, Place, Definitions, no_definition}
+use Rattle.chem_model.specs.Process.{and_also, processes, definitions}
 
 abbrev mutual
   pub process_depth : Process → ℕ

@@ -10,14 +10,16 @@ use Rattle.chem_model.specs.Process.{Place, Definitions, no_definition, and_also
 use Rattle.chem_model.specs.Binders.{block, once, is_among, bound_in_definitions, definition_nodes}
 use Rattle.chem_model.specs.Scope.{IsBlock, AreRulesAndPlaces, AreDefinitions}
 
--- declarations of observed names, sites, the number of site-level binders, and the spelling of each binder
+-- declarations of observed names, sites, the number of site-level binders, and the spelling of each
+-- binder
 pub record ProgramTerms : Type 0 where
   pub seen : List SeenDecl
   pub sites : List SiteTerm
   pub tops : ℕ
   pub spell : List (List ℕ)
 
--- the sites as the one definition that a program stands for: each is a place with its definitions and its process
+-- the sites as the one definition that a program stands for: each is a place with its definitions
+-- and its process
 abbrev pub places : List SiteTerm → Definitions
 places [] = no_definition
 places (s ∷ sites) = and_also (Place (Binder s.name) (definitions s.defs) s.body) (places sites)

@@ -1,5 +1,7 @@
--- Reduction: what a solution does. Each case needs its acting location live, so nothing within a dead location reacts, sends or moves.
-use Rattle.std.specs.Prelude.{◌≡◌, ℕ, ◌<◌, List, [], ◌∷◌, ◌++◌, Some, None, true, false, length, slice_get}
+-- Reduction: what a solution does. Each case needs its acting location live, so nothing within a
+-- dead location reacts, sends or moves.
+use Rattle.std.specs.Prelude.{◌≡◌, ℕ, ◌<◌, List, [], ◌∷◌, ◌++◌, Some, None, true, false, length}
+use Rattle.std.specs.Prelude.{slice_get}
 use Rattle.chem_model.specs.declared.name.Loc.{Loc}
 use Rattle.chem_model.specs.declared.name.Name.{Name}
 use Rattle.chem_model.specs.declared.name.Name.TheVariants as name
@@ -9,7 +11,8 @@ use Rattle.chem_model.specs.declared.name.Pat.{Pat}
 use Rattle.chem_model.specs.Process.{Process, Msg, Go, Fail, Halt, Rule}
 use Rattle.chem_model.specs.Bag.{one, bag, ◌⊕◌}
 use Rattle.chem_model.specs.Fill.{Naming, fill}
-use Rattle.chem_model.specs.Solution.{Solution, Procs, coded_located_process, same_loc, is_there, host_of, dead, live, rehosted, marked, at}
+use Rattle.chem_model.specs.Solution.{Solution, Procs, coded_located_process, same_loc, is_there}
+use Rattle.chem_model.specs.Solution.{host_of, dead, live, rehosted, marked, at}
 use Rattle.chem_model.specs.Heating.{Heats}
 
 -- occurrences of known names
@@ -23,7 +26,8 @@ given [] ns = []
 given (b ∷ bs) [] = []
 given (b ∷ bs) (n ∷ ns) = record { binder = b; name = n } ∷ given bs ns
 
--- the message is on the pattern's channel and has its count, and m gives its arguments to the parameters
+-- the message is on the pattern's channel and has its count, and m gives its arguments to the
+-- parameters
 pub record Meets (p : Pat) (message : Process) (m : Naming) : Type 0 where
   pub args : List Name
   pub is : message ≡ Msg p.on (all_known args)
@@ -33,11 +37,12 @@ pub record Meets (p : Pat) (message : Process) (m : Naming) : Type 0 where
 -- one message for each message pattern
 pub data MeetAll : List Pat → List Process → Naming → Type 0 where
   no_pattern : MeetAll [] [] []
-  one_pattern : {p : Pat} {q : Process} {m : Naming} {ps : List Pat} {qs : List Process} {ms : Naming}
+  one_pattern : {p : Pat} {q : Process} {m : Naming} {ps : List Pat} {qs : List Process}
+      {ms : Naming}
       → Meets p q m → MeetAll ps qs ms → MeetAll (p ∷ ps) (q ∷ qs) (m ++ ms)
 
--- React: at a live location a rule, and for each of its message patterns one message there. The messages go, and the
--- rule's body comes with the arguments for the parameters; the rule stays
+-- React: at a live location a rule, and for each of its message patterns one message there. The
+-- messages go, and the rule's body comes with the arguments for the parameters; the rule stays
 pub record Reacts (s t : Solution) : Type 0 where
   pub loc : Loc
   pub pats : List Pat
@@ -51,7 +56,8 @@ pub record Reacts (s t : Solution) : Type 0 where
   pub there : s.procs ≡ bag coded_located_process (at loc messages) ⊕ rest
   pub after : t ≡ record s { procs = one coded_located_process (loc, fill names body) ⊕ rest }
 
--- Comm: at a live location a message on a channel whose home is another location of the solution. It moves to its home, live or dead
+-- Comm: at a live location a message on a channel whose home is another location of the solution.
+-- It moves to its home, live or dead
 pub record Communicates (s t : Solution) : Type 0 where
   pub loc : Loc
   pub home : Loc
@@ -62,10 +68,14 @@ pub record Communicates (s t : Solution) : Type 0 where
   pub is_live : live s.places loc ≡ true
   pub home_there : is_there (s.places home) ≡ true
   pub other : same_loc home loc ≡ false
-  pub there : s.procs ≡ one coded_located_process (loc, Msg (Known (name.Chan site k home)) args) ⊕ rest
-  pub after : t ≡ record s { procs = one coded_located_process (home, Msg (Known (name.Chan site k home)) args) ⊕ rest }
+  pub there : s.procs ≡ one coded_located_process (loc, Msg (Known (name.Chan site k home)) args)
+      ⊕ rest
+  pub after : t ≡ record s {
+    procs = one coded_located_process (home, Msg (Known (name.Chan site k home)) args) ⊕ rest;
+  }
 
--- Out: at a live location a message on an observed name with the declared count. It goes to the trace (this project's own)
+-- Out: at a live location a message on an observed name with the declared count. It goes to the
+-- trace (this project's own)
 pub record Observes (seen : List ℕ) (s t : Solution) : Type 0 where
   pub loc : Loc
   pub on : ℕ
@@ -73,15 +83,16 @@ pub record Observes (seen : List ℕ) (s t : Solution) : Type 0 where
   pub rest : Procs
   pub is_live : live s.places loc ≡ true
   pub count : slice_get seen on ≡ Some (length args)
-  pub there : s.procs ≡ one coded_located_process (loc, Msg (Known (name.Seen on)) (all_known args)) ⊕ rest
+  pub there : s.procs ≡ one coded_located_process (loc, Msg (Known (name.Seen on)) (all_known args))
+      ⊕ rest
   pub after : t ≡ record s { procs = rest; trace = s.trace ++ record { on = on; args = args } ∷ [] }
 
 -- the message by which a request goes on
 abbrev pub continuation : Ref → Process
 continuation k = Msg k []
 
--- Go: at a live location with a host, a request to go to a live root, which may be the present host. Its host is that root,
--- and the request becomes its continuation
+-- Go: at a live location with a host, a request to go to a live root, which may be the present
+-- host. Its host is that root, and the request becomes its continuation
 pub record Goes (s t : Solution) : Type 0 where
   pub loc : Loc
   pub host : Loc
@@ -93,7 +104,10 @@ pub record Goes (s t : Solution) : Type 0 where
   pub target_live : live s.places target ≡ true
   pub target_root : host_of (s.places target) ≡ None
   pub there : s.procs ≡ one coded_located_process (loc, Go (Known (name.Place target)) cont) ⊕ rest
-  pub after : t ≡ record s { places = rehosted s.places loc target; procs = one coded_located_process (loc, continuation cont) ⊕ rest }
+  pub after : t ≡ record s {
+    places = rehosted s.places loc target;
+    procs = one coded_located_process (loc, continuation cont) ⊕ rest;
+  }
 
 -- Halt: at a live location a request to halt. It goes, and the location is marked
 pub record Halts (s t : Solution) : Type 0 where
@@ -103,8 +117,8 @@ pub record Halts (s t : Solution) : Type 0 where
   pub there : s.procs ≡ one coded_located_process (loc, Halt) ⊕ rest
   pub after : t ≡ record s { places = marked s.places loc; procs = rest }
 
--- Detect: at a live location a request that waits for the failure of a location, which is a dead one of the solution. The
--- request becomes its continuation
+-- Detect: at a live location a request that waits for the failure of a location, which is a dead
+-- one of the solution. The request becomes its continuation
 pub record Detects (s t : Solution) : Type 0 where
   pub loc : Loc
   pub target : Loc
@@ -113,7 +127,8 @@ pub record Detects (s t : Solution) : Type 0 where
   pub is_live : live s.places loc ≡ true
   pub target_there : is_there (s.places target) ≡ true
   pub target_dead : dead s.places target ≡ true
-  pub there : s.procs ≡ one coded_located_process (loc, Fail (Known (name.Place target)) cont) ⊕ rest
+  pub there : s.procs ≡ one coded_located_process (loc, Fail (Known (name.Place target)) cont)
+      ⊕ rest
   pub after : t ≡ record s { procs = one coded_located_process (loc, continuation cont) ⊕ rest }
 
 -- one of the four cases that an event names

@@ -5,14 +5,17 @@ use Rattle.chem_model.specs.declared.name.Name.{Name}
 use Rattle.chem_model.specs.declared.name.Ref.{Ref}
 use Rattle.chem_model.specs.declared.name.Ref.TheVariants.{Binder, Known}
 use Rattle.chem_model.specs.declared.name.Pat.{Pat}
-use Rattle.chem_model.specs.Process.{Process, Msg, Par, Def, Go, Fail, Halt, Processes, none, one_more, Definition, Rule, Place, Definitions, no_definition, and_also}
+use Rattle.chem_model.specs.Process.{Process, Msg, Par, Def, Go, Fail, Halt, Processes, none}
+use Rattle.chem_model.specs.Process.{one_more, Definition, Rule, Place, Definitions, no_definition}
+use Rattle.chem_model.specs.Process.{and_also}
 use Rattle.chem_model.specs.Binders.{block, places_of, patterns_of, params_of, is_among, times}
 
 abbrev pub IsBinder : Ref → Type 0
 IsBinder (Binder b) = Unit {0}
 IsBinder (Known n) = ⊥
 
--- a join pattern isn't empty, is linear, and each of its message patterns has at most 255 parameters
+-- a join pattern isn't empty, is linear, and each of its message patterns has at most 255
+-- parameters
 pub record IsPattern (ps : List Pat) : Type 0 where
   pub some : 0 < length ps
   pub channels : AllPairs (λ p q. p.on ≢ q.on) ps
@@ -49,7 +52,8 @@ Agree x y = x.1.on ≡ y.1.on → (x.0 ≡ y.0) × (length x.1.params ≡ length
 pub record IsBlock (ds : Definitions) : Type 0 where
   pub channels : All (λ x. IsBinder x.1.on) (patterns_of None ds)
   pub places : AreNamed ds
-  pub apart : All (λ x. (b : ℕ) → x.1.on ≡ Binder b → is_among (places_of ds) b ≡ false) (patterns_of None ds)
+  pub apart : All (λ x. (b : ℕ) → x.1.on ≡ Binder b → is_among (places_of ds) b ≡ false)
+      (patterns_of None ds)
   pub one_place : (b : ℕ) → times (places_of ds) b ≤ 1
   pub agree : AllPairs Agree (patterns_of None ds)
 
@@ -58,12 +62,16 @@ abbrev pub IsInScope : (Name → Type 0) → List ℕ → Ref → Type 0
 IsInScope known scope (Binder b) = is_among scope b ≡ true
 IsInScope known scope (Known n) = known n
 
--- a term whose binders in scope are these: the scope of a `def` is its definitions and its process, that of a received name the rule's body
+-- a term whose binders in scope are these: the scope of a `def` is its definitions and its process,
+-- that of a received name the rule's body
 abbrev mutual
   pub IsTerm : (Name → Type 0) → List ℕ → Process → Type 0
-  IsTerm known scope (Msg x vs) = IsInScope known scope x × All (IsInScope known scope) vs × (length vs ≤ 255)
+  IsTerm known scope (Msg x vs) =
+      IsInScope known scope x × All (IsInScope known scope) vs × (length vs ≤ 255)
   IsTerm known scope (Par ps) = AreTerms known scope ps
-  IsTerm known scope (Def ds p) = IsBlock ds × AreRulesAndPlaces ds × AreDefinitions known (block ds ++ scope) ds × IsTerm known (block ds ++ scope) p
+  IsTerm known scope (Def ds p) =
+      IsBlock ds × AreRulesAndPlaces ds × AreDefinitions known (block ds ++ scope) ds
+      × IsTerm known (block ds ++ scope) p
   IsTerm known scope (Go a k) = IsInScope known scope a × IsInScope known scope k
   IsTerm known scope (Fail a k) = IsInScope known scope a × IsInScope known scope k
   IsTerm known scope Halt = Unit {0}
@@ -78,4 +86,5 @@ abbrev mutual
 
   pub AreDefinitions : (Name → Type 0) → List ℕ → Definitions → Type 0
   AreDefinitions known scope no_definition = Unit {0}
-  AreDefinitions known scope (and_also d ds) = IsDefinition known scope d × AreDefinitions known scope ds
+  AreDefinitions known scope (and_also d ds) =
+      IsDefinition known scope d × AreDefinitions known scope ds

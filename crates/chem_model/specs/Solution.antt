@@ -1,5 +1,6 @@
 -- The state of the chemical machine: located solutions, and a trace.
-use Rattle.std.specs.Prelude.{List, [], ◌∷◌, ◌==◌, Bool, true, false, ◌&&◌, ◌||◌, Option, Some, None, cond, not}
+use Rattle.std.specs.Prelude.{List, [], ◌∷◌, ◌==◌, Bool, true, false, ◌&&◌, ◌||◌, Option, Some}
+use Rattle.std.specs.Prelude.{None, cond, not}
 use Rattle.std.specs.Coded.{Coded, coded×}
 use Rattle.chem_model.specs.declared.name.Loc.{Loc}
 use Rattle.chem_model.specs.declared.name.Name.{Name}
@@ -26,7 +27,8 @@ Defs = Bag (Loc × Definition)
 abbrev pub Procs : Type 0
 Procs = Bag (Loc × Process)
 
--- a solution: its locations, the definitions and the processes at them, and the observables so far (the trace is this project's own)
+-- a solution: its locations, the definitions and the processes at them, and the observables so far
+-- (the trace is this project's own)
 pub record Solution : Type 0 where
   pub places : Places
   pub defs : Defs

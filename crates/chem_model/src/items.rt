@@ -1,4 +1,5 @@
-ghost use Rattle.std.specs.Prelude.{◌≡◌, [], ◌∷◌, ◌++◌, ◌<◌, ◌+◌, ◌^◌, length, take, drop, slice_set, IfOk, OnOk, OnErr, IsTrue, ◌↔◌};
+ghost use Rattle.std.specs.Prelude.{◌≡◌, [], ◌∷◌, ◌++◌, ◌<◌, ◌+◌, ◌^◌, length, take, drop};
+ghost use Rattle.std.specs.Prelude.{slice_set, IfOk, OnOk, OnErr, IsTrue, ◌↔◌};
 
 use crate::memory::Memory;
 use std::alloc::Global;
@@ -65,7 +66,8 @@ impl<T> Items<T> {
 }
 
 impl<T: Drop> Items<T> {
-    /// Appends a member. A list of 2^32 - 1 members takes no more: that is answered as want of memory.
+    /// Appends a member. A list of 2^32 - 1 members takes no more: that is answered as want of
+    /// memory.
     pub fn push(&mut self, member: T) -> Result<(), Memory>
         ensures ok { OnOk result (self.new ≡ self.old ++ member ∷ []) }
         ensures err { OnErr result (self.new ≡ self.old) }
@@ -77,8 +79,8 @@ impl<T: Drop> Items<T> {
         Ok(())
     }
 
-    /// Moves the members of the other list to the end. Where the list would have 2^32 members or more, that is answered
-    /// as want of memory, and both keep theirs.
+    /// Moves the members of the other list to the end. Where the list would have 2^32 members or
+    /// more, that is answered as want of memory, and both keep theirs.
     pub fn append(&mut self, other: &mut Items<T>) -> Result<(), Memory>
         ensures ok { OnOk result (self.new ≡ self.old ++ other.old) }
         ensures moved { OnOk result (other.new ≡ []) }
@@ -108,7 +110,8 @@ impl<T: Drop> Items<T> {
 }
 
 impl<T: Copy> Items<T> {
-    /// Appends members, all or none. Where the list would have 2^32 members or more, that is answered as want of memory.
+    /// Appends members, all or none. Where the list would have 2^32 members or more, that is
+    /// answered as want of memory.
     pub fn extend_from_slice(&mut self, members: &[T]) -> Result<(), Memory>
         ensures ok { OnOk result (self.new ≡ self.old ++ members.now) }
         ensures err { OnErr result (self.new ≡ self.old) }

@@ -1,5 +1,6 @@
 ghost use Rattle.std.specs.Prelude.{◌≡◌, IfOk, slice_index};
-ghost use Rattle.chem_model.specs.Solution.{same_loc, host_of, is_there, is_marked, root, dead, live};
+ghost use Rattle.chem_model.specs.Solution.{same_loc, host_of, is_there, is_marked, root, dead};
+ghost use Rattle.chem_model.specs.Solution.{live};
 ghost use Rattle.chem_model.specs.Numbered.{standing, same_name, binder_in};
 ghost use Rattle.chem_model.specs.Poured.{standing_of};
 
@@ -17,7 +18,8 @@ pub struct Named {
     pub name: Name,
 }
 
-/// A location of a numbered solution: its host, which a root doesn't have, and whether it is marked.
+/// A location of a numbered solution: its host, which a root doesn't have, and whether it is
+/// marked.
 #[derive(Clone, Copy, PartialEq, Eq, Debug)]
 pub struct Placed {
     pub loc: Loc,
@@ -52,9 +54,9 @@ pub type NumberedRules = Items<NumberedRule>;
 
 pub type NumberedAtoms = Items<NumberedAtom>;
 
-/// A numbered solution: the declared counts of observed names, one count of made numbers a site, and in the order in
-/// which they were made the locations, the names given to binders (of each location and channel that was made), the
-/// rules, the messages and requests, and the observables.
+/// A numbered solution: the declared counts of observed names, one count of made numbers a site,
+/// and in the order in which they were made the locations, the names given to binders (of each
+/// location and channel that was made), the rules, the messages and requests, and the observables.
 #[derive(Drop)]
 pub struct Numbered {
     pub seen: Nums,
@@ -66,8 +68,9 @@ pub struct Numbered {
     pub trace: Outs,
 }
 
-/// What pouring a process makes: the next number of its site, and in the order in which they were made the new
-/// locations, the names given to binders, the rules, the messages and requests, and the observables.
+/// What pouring a process makes: the next number of its site, and in the order in which they were
+/// made the new locations, the names given to binders, the rules, the messages and requests, and
+/// the observables.
 #[derive(Drop)]
 pub struct Made {
     pub next: u64,
@@ -246,7 +249,8 @@ impl Numbered {
         })
     }
 
-    /// The binder for which a location or a channel was made. None where the name was not made here.
+    /// The binder for which a location or a channel was made. None where the name was not made
+    /// here.
     pub fn binder_of(&self, name: &Name) -> Option<u32>
         ensures { result ≡ binder_in self.now.named name.now }
     {

@@ -7,7 +7,8 @@ use crate::term::{Defs, Proc};
 use std::alloc::Global;
 use std::marker::Model;
 
-/// The declaration of an observed name: how many arguments its observable messages have, and its spelling.
+/// The declaration of an observed name: how many arguments its observable messages have, and its
+/// spelling.
 #[derive(Drop)]
 pub struct SeenDecl {
     pub count: u32,
@@ -26,10 +27,11 @@ pub type SeenDecls = Items<SeenDecl>;
 
 pub type SiteTerms = Items<SiteTerm>;
 
-/// A program: the declarations of observed names, the sites, the number of site-level binders (the names that
-/// sites define, which are numbered first), and the spelling of each binder.
+/// A program: the declarations of observed names, the sites, the number of site-level binders (the
+/// names that sites define, which are numbered first), and the spelling of each binder.
 ///
-/// Each program keeps the facts of `IsProgram`. Whoever writes one proves them, and whoever reads a field knows them.
+/// Each program keeps the facts of `IsProgram`. Whoever writes one proves them, and whoever reads a
+/// field knows them.
 #[derive(Drop)]
 pub struct Program {
     pub seen: SeenDecls,
@@ -48,7 +50,8 @@ impl Model for Program {
 
     ghost view = { λ p. record { seen = p.seen; sites = p.sites; tops = p.tops; spell = p.spell } };
 
-    ghost invariant = { λ p. IsProgram (record { seen = p.seen; sites = p.sites; tops = p.tops; spell = p.spell }) };
+    ghost invariant = { λ p.
+        IsProgram (record { seen = p.seen; sites = p.sites; tops = p.tops; spell = p.spell }) };
 }
 
 impl SeenDecl {

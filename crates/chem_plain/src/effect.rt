@@ -3,7 +3,11 @@ ghost use Rattle.std.specs.Prelude.{◌≡◌, IfOk, Some, None};
 ghost use Rattle.std.specs.Option.{option_copied};
 ghost use Rattle.chem_model.specs.Poured.{location_of};
 ghost use Rattle.chem_model.specs.Reduction.{given, continuation};
-ghost use Rattle.chem_model.specs.Apply.{same_atom, same_rule, same_ref, rule_at, atom_at, without, without_all, received, received_at, received_all, with_hosts, with_marks, can_go, can_detect, move_to, move_atom, halt_atom, detect_of, detect_atom, react_rule, apply, replay};
+ghost use Rattle.chem_model.specs.Apply.{same_atom, same_rule, same_ref, rule_at, atom_at, without};
+ghost use Rattle.chem_model.specs.Apply.{without_all, received, received_at, received_all};
+ghost use Rattle.chem_model.specs.Apply.{with_hosts, with_marks, can_go, can_detect, move_to};
+ghost use Rattle.chem_model.specs.Apply.{move_atom, halt_atom, detect_of, detect_atom, react_rule};
+ghost use Rattle.chem_model.specs.Apply.{apply, replay};
 
 use crate::pour::{add_names, known_names};
 use crate::start::{opening, pour_at};
@@ -92,7 +96,8 @@ fn given(alloc: Global, params: &Nums, names: &Names) -> Result<Naming, Memory>
     Ok(list)
 }
 
-/// The names that a pattern receives from a message on its channel with its count. None from any other process.
+/// The names that a pattern receives from a message on its channel with its count. None from any
+/// other process.
 fn received(alloc: Global, pat: &Pat, term: &Proc) -> Result<Option<Naming>, Memory>
     ensures { IfOk result (λ names. names ≡ received pat.now term.now) }
 {
@@ -110,7 +115,8 @@ fn received(alloc: Global, pat: &Pat, term: &Proc) -> Result<Option<Naming>, Mem
     }
 }
 
-/// The names that a pattern receives from the atom with this number, where it stands at the location.
+/// The names that a pattern receives from the atom with this number, where it stands at the
+/// location.
 fn received_at(
     alloc: Global,
     at: Loc,
@@ -234,7 +240,8 @@ fn changed(
     places: PlacedList,
     atoms: NumberedAtoms,
 ) -> Result<Numbered, Memory>
-    ensures { IfOk result (λ changed. changed ≡ record solution.now { places = places; atoms = atoms }) }
+    ensures { IfOk result (λ changed. changed
+        ≡ record solution.now { places = places; atoms = atoms }) }
 {
     let seen = solution.seen.copy(alloc)?;
     let counts = solution.counts.copy(alloc)?;
@@ -286,7 +293,8 @@ pub fn can_go(solution: &Numbered, at: Loc, to: Loc) -> bool
         && solution.host(to).is_none()
 }
 
-/// Whether a failure can be detected: at a live location the one of a location that is there and is dead.
+/// Whether a failure can be detected: at a live location the one of a location that is there and is
+/// dead.
 pub fn can_detect(solution: &Numbered, at: Loc, of: Loc) -> bool
     ensures { result ≡ can_detect solution.now at of }
 {
@@ -383,7 +391,8 @@ fn detect_atom(
     id: AtomId,
     atom: &NumberedAtom,
 ) -> Result<Option<Numbered>, Memory>
-    ensures { IfOk result (λ after. after ≡ detect_atom solution.now id atom.now.loc atom.now.term) }
+    ensures { IfOk result (λ after. after
+        ≡ detect_atom solution.now id atom.now.loc atom.now.term) }
 {
     match atom.term.node() {
         ProcNode::Fail { target, cont } => match location_of(*target) {
@@ -394,7 +403,8 @@ fn detect_atom(
     }
 }
 
-/// The effect of an event. None where the event isn't possible: its rule or request isn't there, or what the machine needs doesn't hold.
+/// The effect of an event. None where the event isn't possible: its rule or request isn't there, or
+/// what the machine needs doesn't hold.
 pub fn apply(alloc: Global, solution: &Numbered, event: &Event) -> Result<Option<Numbered>, Memory>
     ensures { IfOk result (λ after. after ≡ apply solution.now event.now) }
 {
@@ -418,7 +428,8 @@ pub fn apply(alloc: Global, solution: &Numbered, event: &Event) -> Result<Option
     }
 }
 
-/// The solution that the events of a journal lead to, one after another from the opening. None where one of them isn't possible.
+/// The solution that the events of a journal lead to, one after another from the opening. None
+/// where one of them isn't possible.
 pub fn replay(
     alloc: Global,
     program: &Program,

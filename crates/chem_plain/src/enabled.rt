@@ -1,6 +1,7 @@
 // Whether an event is possible, without memory.
 ghost use Rattle.std.specs.Prelude.{◌≡◌, is_some, Some};
-ghost use Rattle.chem_model.specs.Apply.{received, received_at, received_all, react_rule, move_atom, halt_atom, detect_atom, apply};
+ghost use Rattle.chem_model.specs.Apply.{received, received_at, received_all, react_rule};
+ghost use Rattle.chem_model.specs.Apply.{move_atom, halt_atom, detect_atom, apply};
 
 use crate::effect::{atom_at, can_detect, can_go, location_of, rule_at, same_ref};
 use chem_model::{

@@ -1,8 +1,15 @@
-// Filling, naming, laying and pouring: what a process adds to a numbered solution, and the numbers that it draws.
+// Filling, naming, laying and pouring: what a process adds to a numbered solution, and the numbers
+// that it draws.
 ghost use Rattle.std.specs.Prelude.{◌≡◌, ◌+◌, ◌++◌, [], ◌∷◌, map, IfOk, OnOk, slice_get, length};
 ghost use Rattle.chem_model.specs.Process.{Rule, no_definition, and_also, definitions, processes};
-ghost use Rattle.chem_model.specs.Fill.{name_at, fill_ref, fill_refs, fill_pats, fill, fill_definition};
-ghost use Rattle.chem_model.specs.Pour.{is_count, known, message_made, atom_made, naming, name_channel, name_ref, name_pats, name_channels, name_place, name_places, loc_or, births_of, names_made, lay_rules, rules_made, pour as made_by, pour_all as made_by_all, lay_place as made_by_place, lay_places as made_by_places};
+ghost use Rattle.chem_model.specs.Fill.{name_at, fill_ref, fill_refs, fill_pats, fill};
+ghost use Rattle.chem_model.specs.Fill.{fill_definition};
+ghost use Rattle.chem_model.specs.Pour.{is_count, known, message_made, atom_made, naming};
+ghost use Rattle.chem_model.specs.Pour.{name_channel, name_ref, name_pats, name_channels};
+ghost use Rattle.chem_model.specs.Pour.{name_place, name_places, loc_or, births_of, names_made};
+ghost use Rattle.chem_model.specs.Pour.{lay_rules, rules_made, pour as made_by};
+ghost use Rattle.chem_model.specs.Pour.{pour_all as made_by_all, lay_place as made_by_place};
+ghost use Rattle.chem_model.specs.Pour.{lay_places as made_by_places};
 ghost use Rattle.chem_model.specs.Poured.{Pours};
 ghost use Rattle.chem_plain.specs.Drawn.{drawn};
 
@@ -164,7 +171,8 @@ pub(crate) fn add_names(names: &mut Naming, others: &Naming) -> Result<(), Memor
     Ok(())
 }
 
-/// The number after this one. A count that would pass the last number is answered as want of memory.
+/// The number after this one. A count that would pass the last number is answered as want of
+/// memory.
 fn after(number: u64) -> Result<u64, Memory>
     ensures { IfOk result (λ next. next ≡ number + 1) }
 {
@@ -192,7 +200,8 @@ impl Level {
     /// Gives the next number away.
     fn draw(&mut self, binder: u32, name: Name) -> Result<(), Memory>
         ensures next { OnOk result (self.new.next ≡ self.old.next + 1) }
-        ensures names { OnOk result (self.new.names ≡ self.old.names ++ record { binder = binder; name = name } ∷ []) }
+        ensures names { OnOk result
+            (self.new.names ≡ self.old.names ++ record { binder = binder; name = name } ∷ []) }
     {
         let next = after(self.next)?;
         self.names.push(Named { binder, name })?;
@@ -211,7 +220,8 @@ impl Level {
 
     /// Names the channels of a list of definitions that stands at a location.
     fn name_channels(&mut self, site: u32, at: Loc, defs: &Defs) -> Result<(), Memory>
-        ensures { OnOk result (drawn self.new ≡ name_channels site at (definitions defs.now) (drawn self.old)) }
+        ensures { OnOk result
+            (drawn self.new ≡ name_channels site at (definitions defs.now) (drawn self.old)) }
     {
         for definition in defs.as_slice() {
             if let DefnNode::Rule { pats, .. } = definition.node() {
@@ -233,7 +243,8 @@ impl Level {
 
     /// Names the places of a list of definitions, each with its own channels.
     fn name_places(&mut self, site: u32, defs: &Defs) -> Result<(), Memory>
-        ensures { OnOk result (drawn self.new ≡ name_places site (definitions defs.now) (drawn self.old)) }
+        ensures { OnOk result
+            (drawn self.new ≡ name_places site (definitions defs.now) (drawn self.old)) }
     {
         for definition in defs.as_slice() {
             if let DefnNode::Place { name, defs, .. } = definition.node() {
@@ -282,7 +293,8 @@ pub(crate) fn add_births(
     names: &Naming,
     defs: &Defs,
 ) -> Result<(), Memory>
-    ensures { OnOk result (births.new ≡ births.old ++ births_of root names.now (definitions defs.now)) }
+    ensures { OnOk result
+        (births.new ≡ births.old ++ births_of root names.now (definitions defs.now)) }
 {
     for definition in defs.as_slice() {
         if let DefnNode::Place { name, .. } = definition.node() {
@@ -321,7 +333,8 @@ fn put_atom(made: &mut Made, site: u32, at: Loc, term: Proc) -> Result<(), Memor
     Ok(())
 }
 
-/// A message whose names are known: it goes to the trace, to its channel's home, or stays where it was emitted.
+/// A message whose names are known: it goes to the trace, to its channel's home, or stays where it
+/// was emitted.
 fn put_message(
     alloc: Global,
     made: &mut Made,
@@ -331,7 +344,8 @@ fn put_message(
     on: Ref,
     args: Refs,
 ) -> Result<(), Memory>
-    ensures { OnOk result (Pours made.old made.new (message_made seen.now site at made.old.next on args)) }
+    ensures { OnOk result
+        (Pours made.old made.new (message_made seen.now site at made.old.next on args)) }
 {
     match on {
         Ref::Known(Name::Seen(declaration)) => {
@@ -360,7 +374,8 @@ pub(crate) fn put_rules(
     at: Loc,
     defs: &Defs,
 ) -> Result<(), Memory>
-    ensures { OnOk result (Pours made.old made.new (rules_made (lay_rules site names.now at made.old.next (definitions defs.now)))) }
+    ensures { OnOk result (Pours made.old made.new
+        (rules_made (lay_rules site names.now at made.old.next (definitions defs.now)))) }
 {
     for definition in defs.as_slice() {
         if let DefnNode::Rule { pats, body } = definition.node() {
@@ -379,7 +394,9 @@ fn put_rule(
     pats: &Pats,
     body: &Proc,
 ) -> Result<(), Memory>
-    ensures { OnOk result (Pours made.old made.new (rules_made (lay_rules site names.now at made.old.next (and_also (Rule pats.now body.now) no_definition)))) }
+    ensures { OnOk result (Pours made.old made.new
+        (rules_made (lay_rules site names.now at made.old.next
+        (and_also (Rule pats.now body.now) no_definition)))) }
 {
     let k = made.next;
     let next = after(k)?;
@@ -395,7 +412,8 @@ fn put_rule(
     Ok(())
 }
 
-/// Names a level: its names are given, and its places are born. Answers the names that hold within it.
+/// Names a level: its names are given, and its places are born. Answers the names that hold within
+/// it.
 fn open_level(
     alloc: Global,
     made: &mut Made,
@@ -404,8 +422,12 @@ fn open_level(
     at: Loc,
     defs: &Defs,
 ) -> Result<Naming, Memory>
-    ensures names { IfOk result (λ inner. inner ≡ names.now ++ (naming root.site at (definitions defs.now) made.old.next).names) }
-    ensures named { OnOk result (let level = naming root.site at (definitions defs.now) made.old.next in Pours made.old made.new (names_made level (births_of root (names.now ++ level.names) (definitions defs.now)))) }
+    ensures names { IfOk result (λ inner. inner
+        ≡ names.now ++ (naming root.site at (definitions defs.now) made.old.next).names) }
+    ensures named { OnOk result
+        (let level = naming root.site at (definitions defs.now) made.old.next in
+        Pours made.old made.new
+        (names_made level (births_of root (names.now ++ level.names) (definitions defs.now)))) }
 {
     let level = name_level(alloc, root.site, at, defs, made.next)?;
     let mut inner = names.copy(alloc)?;
@@ -416,7 +438,8 @@ fn open_level(
     Ok(inner)
 }
 
-/// Pours a process at a location with these names, and appends what it makes. The site is the one of the root.
+/// Pours a process at a location with these names, and appends what it makes. The site is the one
+/// of the root.
 #[cycle(pour)]
 pub(crate) fn pour(
     alloc: Global,
@@ -427,7 +450,8 @@ pub(crate) fn pour(
     at: Loc,
     process: &Proc,
 ) -> Result<(), Memory>
-    ensures { OnOk result (Pours made.old made.new (made_by seen.now root.site root names.now at made.old.next process.now)) }
+    ensures { OnOk result (Pours made.old made.new
+        (made_by seen.now root.site root names.now at made.old.next process.now)) }
 {
     match process.node() {
         ProcNode::Msg { on, args } => {
@@ -464,7 +488,8 @@ fn pour_all(
     at: Loc,
     members: &Procs,
 ) -> Result<(), Memory>
-    ensures { OnOk result (Pours made.old made.new (made_by_all seen.now root.site root names.now at made.old.next (processes members.now))) }
+    ensures { OnOk result (Pours made.old made.new
+        (made_by_all seen.now root.site root names.now at made.old.next (processes members.now))) }
 {
     for member in members.as_slice() {
         pour(alloc, made, seen, root, names, at, member)?;
@@ -483,7 +508,9 @@ pub(crate) fn lay_places(
     at: Loc,
     defs: &Defs,
 ) -> Result<(), Memory>
-    ensures { OnOk result (Pours made.old made.new (made_by_places seen.now root.site root names.now at made.old.next (definitions defs.now))) }
+    ensures { OnOk result (Pours made.old made.new
+        (made_by_places seen.now root.site root names.now at made.old.next
+        (definitions defs.now))) }
 {
     for definition in defs.as_slice() {
         lay_place(alloc, made, seen, root, names, at, definition)?;
@@ -501,7 +528,8 @@ fn lay_place(
     at: Loc,
     definition: &Defn,
 ) -> Result<(), Memory>
-    ensures { OnOk result (Pours made.old made.new (made_by_place seen.now root.site root names.now at made.old.next definition.now)) }
+    ensures { OnOk result (Pours made.old made.new
+        (made_by_place seen.now root.site root names.now at made.old.next definition.now)) }
 {
     match definition.node() {
         DefnNode::Rule { .. } => Ok(()),

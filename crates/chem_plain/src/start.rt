@@ -4,7 +4,9 @@ ghost use Rattle.chem_model.specs.Process.{definitions};
 ghost use Rattle.chem_model.specs.Solution.{root};
 ghost use Rattle.chem_model.specs.Numbered.{standing};
 ghost use Rattle.chem_model.specs.Pour.{pour_at, lay_at, pour as made_by};
-ghost use Rattle.chem_model.specs.Opening.{counts_of, root_of, roots, root_names, level_names, level_counts, level_births, site_names, named_sites, open_sites, opening};
+ghost use Rattle.chem_model.specs.Opening.{counts_of, root_of, roots, root_names, level_names};
+ghost use Rattle.chem_model.specs.Opening.{level_counts, level_births, site_names, named_sites};
+ghost use Rattle.chem_model.specs.Opening.{open_sites, opening};
 
 use crate::pour::{add_births, add_names, lay_places, name_level, pour, put_rules};
 use chem_model::{
@@ -60,7 +62,8 @@ fn root_names(alloc: Global, sites: &SiteTerms) -> Result<Naming, Memory>
     Ok(list)
 }
 
-/// Each site's level is named at its root: the names are appended, and each site's next number is answered.
+/// Each site's level is named at its root: the names are appended, and each site's next number is
+/// answered.
 fn name_sites(alloc: Global, names: &mut Naming, sites: &SiteTerms) -> Result<Counts, Memory>
     ensures names { OnOk result (names.new ≡ names.old ++ level_names 0 sites.now) }
     ensures counts { IfOk result (λ counts. counts ≡ level_counts 0 sites.now) }
@@ -132,7 +135,8 @@ fn open_sites(
     Ok(opened)
 }
 
-/// What pouring a process at a location with these names makes, where the root above is this one. Nothing changes.
+/// What pouring a process at a location with these names makes, where the root above is this one.
+/// Nothing changes.
 pub fn made_at(
     alloc: Global,
     solution: &Numbered,
@@ -141,7 +145,9 @@ pub fn made_at(
     at: Loc,
     process: &Proc,
 ) -> Result<Made, Memory>
-    ensures { IfOk result (λ made. made ≡ made_by solution.now.seen root.site root names.now at (slice_index solution.now.counts root.site) process.now) }
+    ensures { IfOk result (λ made. made
+        ≡ made_by solution.now.seen root.site root names.now at
+        (slice_index solution.now.counts root.site) process.now) }
 {
     let mut made = Made {
         next: solution.next_of(root.site),
@@ -155,7 +161,8 @@ pub fn made_at(
     Ok(made)
 }
 
-/// The solution with a process poured at a location with these names. The site is the one of the root above.
+/// The solution with a process poured at a location with these names. The site is the one of the
+/// root above.
 pub(crate) fn pour_at(
     alloc: Global,
     solution: Numbered,
@@ -188,7 +195,8 @@ pub(crate) fn pour_at(
     })
 }
 
-/// The solution with a level laid at a location with these names. The site is the one of the root above.
+/// The solution with a level laid at a location with these names. The site is the one of the root
+/// above.
 fn lay_at(
     alloc: Global,
     solution: Numbered,
@@ -229,7 +237,9 @@ fn open_site(
     root: Loc,
     term: &SiteTerm,
 ) -> Result<Numbered, Memory>
-    ensures { IfOk result (λ opened. opened ≡ pour_at (lay_at solution names.now root (definitions term.now.defs)) names.now root term.now.body) }
+    ensures { IfOk result (λ opened. opened
+        ≡ pour_at (lay_at solution names.now root (definitions term.now.defs)) names.now root
+        term.now.body) }
 {
     let laid = lay_at(alloc, solution, names, root, &term.defs)?;
     pour_at(alloc, laid, names, root, &term.body)
@@ -237,7 +247,8 @@ fn open_site(
 
 /// The opening of sites over these declared counts. Site `i` of the list has the number `i`.
 pub fn opening_of(alloc: Global, seen: &Nums, sites: &SiteTerms) -> Result<Numbered, Memory>
-    ensures { IfOk result (λ opened. opened ≡ open_sites (site_names sites.now) 0 sites.now (named_sites seen.now sites.now)) }
+    ensures { IfOk result (λ opened. opened
+        ≡ open_sites (site_names sites.now) 0 sites.now (named_sites seen.now sites.now)) }
 {
     let numbered = named_sites(alloc, seen, sites)?;
     let names = numbered.named.copy(alloc)?;
