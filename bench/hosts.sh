@@ -15,6 +15,7 @@ ghost use Rattle.std.specs.Prelude.{◌<◌, ◌≤◌};
 
 use chem_model::Loc;
 use loc_tree::LocTree;
+use std::alloc::AllocError;
 use std::time::Instant;
 
 // So many births under the first root.
@@ -61,8 +62,8 @@ fn ask(tree: &LocTree, lookups: u64) -> u64 {
 fn main(rt: HostRuntime) -> Result<(), anyhow::Error> {
     let lookups = $lookups;
     for count in [1000, 10000, 100000] {
-        let mut tree = LocTree::start(rt.alloc(), 1)?;
-        tree.reserve(rt.alloc(), count)?;
+        let mut tree = LocTree::start(rt.alloc(), 1).map_err(|_memory| AllocError)?;
+        tree.reserve(rt.alloc(), count).map_err(|_memory| AllocError)?;
         let start = Instant::now(&rt)?;
         grow(&mut tree, count);
         let births = start.elapsed(&rt)?.as_nanos() / (count as u128).max(1);

@@ -13,6 +13,9 @@ fn loc(site: u32, k: u64) -> Loc
     Loc { site, k }
 }
 
+// That a value may be handed to another thread, and lent to several.
+fn crosses<T: Send + Sync>(_value: &T) {}
+
 fn expect_alive(rt: &impl Abort, tree: &LocTree, loc: &Loc, want: bool) {
     assert!(rt; tree.holds(loc));
     assert_eq!(rt; tree.alive(loc), want);
@@ -45,6 +48,7 @@ fn kill(rt: &impl Abort, tree: &mut LocTree, loc: &Loc) {
 #[test]
 fn a_location_moves_and_dies_with_its_root(rt: HostRuntime) -> Result<(), Fail> {
     let mut tree = LocTree::start(rt.alloc(), 2)?;
+    crosses(&tree);
     let here = loc(0, 0);
     let there = loc(1, 0);
     let born = loc(0, 1);

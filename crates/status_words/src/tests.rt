@@ -2,9 +2,13 @@
 use crate::status::Status;
 use std::test::Fail;
 
+// That a value may be handed to another thread, and lent to several.
+fn crosses<T: Send + Sync>(_value: &T) {}
+
 #[test]
 fn sixty_five_bits(rt: HostRuntime) -> Result<(), Fail> {
     let mut status = Status::with_bits(rt.alloc(), 65)?;
+    crosses(&status);
     assert_eq!(rt; status.bits(), 65);
     assert!(rt; status.covers(&[0, 0]));
     assert_eq!(rt; status.next(0), None);
