@@ -1,6 +1,7 @@
 -- The format of packets, a field a line: its size, and which values are allowed in it. A part takes
--- what follows it as its last argument, so that parts stand in one another. Where a field is judged,
--- the fields before it are known, and nothing else. Numbers are big-endian.
+-- what follows it as its last argument, so that parts stand in one another. Where a field is judged
+-- the fields before it are known, and nothing else. Of what a table says only the values count that
+-- its test allows.
 use Rattle.std.specs.Prelude.{ℕ, zero, suc, List, [], ◌∷◌, ◌++◌, Bool, true, false, not, nat_lt, ◌==◌, ◌&&◌, ◌||◌, Option, Some, None}
 use Rattle.chem_model.specs.declared.name.Loc.{Loc}
 use Rattle.chem_model.specs.declared.event.AtomId.{AtomId}

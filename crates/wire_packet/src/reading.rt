@@ -1,5 +1,5 @@
 // Bytes read as a packet, from left to right.
-ghost use Rattle.std.specs.Prelude.{◌≡◌, ◌+◌, ◌++◌, ◌≤◌, ◌<◌, ◌^◌, ◌↔◌, ℕ, List, [], ◌==◌, ◌&&◌, ◌||◌, length, not, None, Ok, Err, IfOk, IfErr};
+ghost use Rattle.std.specs.Prelude.{◌≡◌, ◌+◌, ◌++◌, ◌≤◌, ◌<◌, ◌^◌, ◌↔◌, ℕ, List, [], ◌==◌, ◌&&◌, ◌||◌, length, not, Ok, Err, IfOk, IfErr};
 ghost use Rattle.chem_model.specs.Each.{Each};
 ghost use Rattle.chem_model.specs.declared.name.Name.{Name};
 ghost use Rattle.wire_packet.specs.declared.fault.DecodeEnd.TheVariants as end;
@@ -400,7 +400,8 @@ fn packet_of(alloc: Global, bytes: &[u8]) -> Result<Packet, Fault>
 /// packet is wrong.
 ///
 /// It answers a packet exactly where the input spells it, and `Bad` exactly where it spells none,
-/// save for want of memory. It asks for no memory by a length that the input claims.
+/// save for want of memory. It asks for no memory by a length that the input claims, and ids are
+/// looked up in a set, so that its time grows with n log n at most.
 pub fn decode(alloc: Global, bytes: &[u8]) -> Result<Packet, DecodeEnd>
     ensures found { IfOk result (λ packet. IsSpelledBy packet bytes.now) }
     ensures bad { IfErr result (λ end. NamesWrong end bytes.now) }
