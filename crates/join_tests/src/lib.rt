@@ -4,6 +4,8 @@
 #[cfg(test)]
 mod books;
 #[cfg(test)]
+mod calling;
+#[cfg(test)]
 mod cases;
 #[cfg(test)]
 mod examples;
