@@ -4,8 +4,6 @@
 #[cfg(test)]
 mod books;
 #[cfg(test)]
-mod calling;
-#[cfg(test)]
 mod cases;
 #[cfg(test)]
 mod examples;
