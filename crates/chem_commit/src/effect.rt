@@ -9,7 +9,10 @@ ghost use Rattle.chem_commit.specs.Parts.{poured, moved, halted};
 
 use chem_model::{
     AtomId, Atoms, Items, Loc, Made, Memory, Numbered, NumberedAtom, NumberedRule, ProcNode, Ref,
-    RuleId, atom_at, continuation, location_of, received_all,
+    RuleId,
+};
+use chem_plain::{
+    atom_at, can_detect, can_go, continuation, location_of, made_at, received_all, rule_at,
 };
 use std::alloc::Global;
 
@@ -32,7 +35,7 @@ fn continued(
     ensures { IfOk result (λ made. made ≡ made_by solution.now.seen root.site root [] at (slice_index solution.now.counts root.site) (continuation cont)) }
 {
     let process = continuation(alloc, cont);
-    solution.made_at(alloc, &Items::new(alloc), root, at, &process)
+    made_at(alloc, solution, &Items::new(alloc), root, at, &process)
 }
 
 /// What a rule pours where it takes these messages. None where it can't.
@@ -51,7 +54,7 @@ fn reaction_of(
         Some(names) => {
             let at = rule.loc;
             let root = solution.root(at);
-            let made = solution.made_at(alloc, &names, root, at, &rule.body)?;
+            let made = made_at(alloc, solution, &names, root, at, &rule.body)?;
             Ok(Some(Effect { at, root, made }))
         }
         None => Ok(None),
@@ -67,7 +70,7 @@ pub(crate) fn reaction(
 ) -> Result<Option<Effect>, Memory>
     ensures { IfOk result (λ effect. poured (record solution.now { atoms = without_all took.now solution.now.atoms }) effect ≡ react_rule solution.now took.now (rule_at solution.now.rules id)) }
 {
-    match solution.rule_at(id) {
+    match rule_at(solution, id) {
         Some(rule) => reaction_of(alloc, solution, rule, took),
         None => Ok(None),
     }
@@ -83,7 +86,7 @@ fn move_to(
 ) -> Result<Option<Effect>, Memory>
     ensures { IfOk result (λ effect. moved solution.now id effect ≡ move_to solution.now id at cont to) }
 {
-    if !solution.can_go(at, to) {
+    if !can_go(solution, at, to) {
         return Ok(None);
     }
     let made = continued(alloc, solution, to, at, cont)?;
@@ -156,7 +159,7 @@ fn detect_of(
 ) -> Result<Option<Effect>, Memory>
     ensures { IfOk result (λ effect. poured (record solution.now { atoms = without id solution.now.atoms }) effect ≡ detect_of solution.now id at cont of) }
 {
-    if !solution.can_detect(at, of) {
+    if !can_detect(solution, at, of) {
         return Ok(None);
     }
     let root = solution.root(at);

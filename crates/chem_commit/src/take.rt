@@ -3,7 +3,8 @@ ghost use Rattle.std.specs.Prelude.{◌≡◌, ◌≤◌, ◌++◌, length, take
 ghost use Rattle.chem_model.specs.Apply.{without, without_all, with_hosts, with_marks};
 ghost use Rattle.chem_commit.specs.Parts.{place_from, hosted, marked};
 
-use chem_model::{AtomId, Atoms, Loc, NumberedAtoms, Placed, PlacedList, same_atom, same_loc};
+use chem_model::{AtomId, Atoms, Loc, NumberedAtoms, Placed, PlacedList, same_loc};
+use chem_plain::same_atom;
 
 /// The place of the atom with this number.
 fn place_of(atoms: &NumberedAtoms, id: AtomId) -> Option<usize>

@@ -123,14 +123,14 @@ module _ (naming_is : NamingIs) where
     parts : (b : ℕ) → (t.name == b) ≡ false → name_at (rest_names i (t ∷ ts)) b ≡ or_name (name_at roots b) (or_name (name_at own b) (name_at levels b))
     parts b e = ap (λ s. cond s (Some (name.Place (root_of i))) (name_at (roots ++ (own ++ levels)) b)) e ∙ name_at-append roots (own ++ levels) b ∙ ap (or_name (name_at roots b)) (name_at-append own levels b)
 
-    here : Agree level (rest_names i (t ∷ ts)) own
+    pub here : Agree level (rest_names i (t ∷ ts)) own
     here b e =
         let apart = sites_apart t.name (definitions t.defs) t.body (places ts) h b (among_right (t.name ∷ []) level b e) in
         let other : (t.name == b) ≡ false = is_false (t.name == b) (λ q. let f : is_among level b ≡ false = ap (is_among level) (sym (eqb-true t.name b q)) ∙ name_apart t.name (definitions t.defs) t.body (places ts) h in cc) in
         let no_root : is_some (name_at roots b) ≡ false = root_found (i + 1) ts b ∙ (or_parts (is_among (site_binders ts) b) (is_among (level_binders ts) b) (sym (block_is ts b) ∙ apart)).0 in
         parts b other ∙ ap (λ o. or_name o (or_name (name_at own b) (name_at levels b))) (has_none (name_at roots b) no_root) ∙ first_name (name_at own b) (name_at levels b) (own_domain i t one_block g b ∙ e)
 
-    later : Agree (block (places ts)) (rest_names i (t ∷ ts)) (rest_names (i + 1) ts)
+    pub later : Agree (block (places ts)) (rest_names i (t ∷ ts)) (rest_names (i + 1) ts)
     later b e =
         let apart : is_among (t.name ∷ level) b ≡ false = is_false (is_among (t.name ∷ level) b) (λ q. let f = sites_apart t.name (definitions t.defs) t.body (places ts) h b q in cc) in
         let both = not_among (t.name ∷ []) level b apart in

@@ -16,4 +16,6 @@ HostsAreRoots pl = (l h : Loc) → host_of (pl l) ≡ Some h → IsRootOf pl h
 
 -- in each solution of a run every host is a root
 abbrev pub RunsKeepRoots : Type 0
-RunsKeepRoots = (p : ProgramTerms) (solutions : List Solution) → IsRun p solutions → Each (λ (s : Solution). HostsAreRoots s.places) solutions
+RunsKeepRoots =
+    (p : ProgramTerms) (solutions : List Solution)
+    → IsRun p solutions → Each (λ (s : Solution). HostsAreRoots s.places) solutions

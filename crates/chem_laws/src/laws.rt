@@ -1,36 +1,67 @@
-ghost use Rattle.chem_model.specs.Laws.{OpeningIsAStart, EventIsAReduction, StuckIsQuiet, ReplayIsARun};
+ghost use Rattle.chem_model.specs.Laws.{OpeningIsAStart, EventIsAReduction, StuckIsQuiet};
+ghost use Rattle.chem_model.specs.Laws.{ReplayIsARun};
 ghost use Rattle.chem_laws.specs.Within.{DeadIsWithin};
 ghost use Rattle.chem_laws.specs.Hosts.{RunsKeepRoots};
+ghost use Rattle.chem_laws.specs.Order.{ReactionsCommute, ReactionsStayAtHome};
+ghost use Rattle.chem_laws.specs.Order.{ReactionsAreLocal, SitesAtOnce};
 
 /// A location is dead exactly where it is within a marked location. It does nothing.
 pub fn dead_is_within()
     ensures { DeadIsWithin }
 {}
 
-/// In each solution of a run every host is a root: a location of the solution that has no host. It does nothing.
+/// In each solution of a run every host is a root: a location of the solution that has no host. It
+/// does nothing.
 pub fn hosts_are_roots()
     ensures { RunsKeepRoots }
 {}
 
-/// The opening of each program is sound, and what it stands for is reached from a start of the program by heating, Comm and Out
-/// alone. It does nothing.
+/// The opening of each program is sound, and what it stands for is reached from a start of the
+/// program by heating, Comm and Out alone. It does nothing.
 pub fn opening_is_a_start()
     ensures { OpeningIsAStart }
 {}
 
-/// Where a sound numbered solution has an event's effect, that is sound, and what the two stand for are one React, Go, Halt or
-/// Detect apart, as the event names it, followed by heating, Comm and Out alone. It does nothing.
+/// Where a sound numbered solution has an event's effect, that is sound, and what the two stand for
+/// are one React, Go, Halt or Detect apart, as the event names it, followed by heating, Comm and Out
+/// alone. It does nothing.
 pub fn event_is_a_reduction()
     ensures { EventIsAReduction }
 {}
 
-/// In a sound numbered solution no event is possible exactly where the machine is quiet on what it stands for. It does nothing.
+/// In a sound numbered solution no event is possible exactly where the machine is quiet on what it
+/// stands for. It does nothing.
 pub fn stuck_is_quiet()
     ensures { StuckIsQuiet }
 {}
 
-/// The solutions that the replay of a journal passes stand for a run of the machine, and the last of them is sound. It does
-/// nothing.
+/// The solutions that the replay of a journal passes stand for a run of the machine, and the last of
+/// them is sound. It does nothing.
 pub fn replay_is_a_run()
     ensures { ReplayIsARun }
+{}
+
+/// In a sound numbered solution two reactions of rules under different roots can be made in either
+/// order, and both orders lead to the same but for the order of the observables that the two append.
+/// It does nothing.
+pub fn reactions_commute()
+    ensures { ReactionsCommute }
+{}
+
+/// Reactions of rules under the root of one site lead to a sound solution, and change what they take
+/// and make there and nothing under another root. It does nothing.
+pub fn reactions_stay_at_home()
+    ensures { ReactionsStayAtHome }
+{}
+
+/// Reactions of rules under the root of one site are possible, and take and make the same, in each
+/// sound solution that has all that stands under that root. It does nothing.
+pub fn reactions_are_local()
+    ensures { ReactionsAreLocal }
+{}
+
+/// What sites do at once, each by reactions from the same sound solution, can be done site after
+/// site, in the order of their numbers. It does nothing.
+pub fn sites_at_once()
+    ensures { SitesAtOnce }
 {}

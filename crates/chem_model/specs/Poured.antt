@@ -1,4 +1,5 @@
--- What the functions of the plain program say of their parts: what was added to what was made, and a found location's standing.
+-- What functions say of their parts: what was added to what was made, a found location's standing, and the location
+-- that an occurrence is.
 use Rattle.std.specs.Prelude.{◌≡◌, ◌++◌, Option, Some, None}
 use Rattle.chem_model.specs.declared.name.Loc.{Loc}
 use Rattle.chem_model.specs.declared.name.Name.TheVariants as name
@@ -6,8 +7,6 @@ use Rattle.chem_model.specs.declared.name.Ref.{Ref}
 use Rattle.chem_model.specs.declared.name.Ref.TheVariants.{Binder, Known}
 use Rattle.chem_model.specs.Solution.{Standing}
 use Rattle.chem_model.specs.Numbered.{Placed, Made}
-use Rattle.chem_model.specs.Pour.{Drawn}
-use Rattle.chem_model.specs.declared.pour.Level.{Level}
 
 -- the new is the old, and then what was made
 abbrev pub Pours : Made → Made → Made → Type 0
@@ -18,10 +17,6 @@ Pours old new a =
     × (new.rules ≡ old.rules ++ a.rules)
     × (new.atoms ≡ old.atoms ++ a.atoms)
     × (new.outs ≡ old.outs ++ a.outs)
-
--- the next number of a level that is being named, and its names so far
-abbrev pub drawn : Level → Drawn
-drawn a = record { next = a.next; names = a.names }
 
 -- the standing of a location that was found
 abbrev pub standing_of : Option Placed → Option Standing

@@ -1,20 +1,14 @@
 //! Terms, names and events of the chemical machine.
 #![tactic(auto)]
 
-mod apply;
-mod commit;
 mod event;
 mod items;
 mod memory;
 mod name;
 mod numbered;
-mod opening;
-mod pour;
 mod program;
 mod term;
 
-pub use apply::{atom_at, continuation, location_of, received_all, same_atom};
-pub use commit::meets;
 pub use event::{AtomId, Atoms, Event, Journal, Out, Outs, RuleId};
 pub use items::Items;
 pub use memory::Memory;

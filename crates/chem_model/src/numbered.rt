@@ -254,7 +254,7 @@ impl Numbered {
     }
 
     /// Whether this is one of the solution's locations.
-    pub(crate) fn is_there(&self, at: Loc) -> bool
+    pub fn is_there(&self, at: Loc) -> bool
         ensures { result ≡ is_there (standing self.now.places at) }
     {
         match place_at(&self.places, at) {
@@ -274,7 +274,7 @@ impl Numbered {
     }
 
     /// The host of a location. A root has none.
-    pub(crate) fn host(&self, at: Loc) -> Option<Loc>
+    pub fn host(&self, at: Loc) -> Option<Loc>
         ensures { result ≡ host_of (standing self.now.places at) }
     {
         match place_at(&self.places, at) {
@@ -294,7 +294,7 @@ impl Numbered {
     }
 
     /// Whether a location is within a marked one.
-    pub(crate) fn is_dead(&self, at: Loc) -> bool
+    pub fn is_dead(&self, at: Loc) -> bool
         ensures { result ≡ dead (standing self.now.places) at }
     {
         self.is_marked(at) || self.is_marked(self.root(at))

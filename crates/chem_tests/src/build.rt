@@ -4,6 +4,7 @@ use chem_model::{
     AtomId, Defn, Defs, Event, Items, Loc, Memory, Name, Numbered, Pat, Proc, Ref, RuleId,
     SiteTerm, SiteTerms,
 };
+use chem_plain::{apply, opening_of};
 use std::alloc::Global;
 
 pub fn loc(site: u32, k: u64) -> Loc {
@@ -76,7 +77,7 @@ pub fn open_one(alloc: Global, name: u32, defs: Defs, body: Proc) -> Result<Numb
     let mut sites: SiteTerms = Items::new(alloc);
     sites.push(SiteTerm { name, defs, body })?;
     let seen = Items::from_slice(alloc, &[1])?;
-    Numbered::opening_of(alloc, &seen, &sites)
+    opening_of(alloc, &seen, &sites)
 }
 
 /// The opening of two sites, over one declaration of one argument.
@@ -85,7 +86,7 @@ pub fn open_two(alloc: Global, one: SiteTerm, other: SiteTerm) -> Result<Numbere
     sites.push(one)?;
     sites.push(other)?;
     let seen = Items::from_slice(alloc, &[1])?;
-    Numbered::opening_of(alloc, &seen, &sites)
+    opening_of(alloc, &seen, &sites)
 }
 
 pub fn atom(site: u32, k: u64) -> AtomId {
@@ -101,20 +102,20 @@ pub fn reaction(
 ) -> Result<Option<Numbered>, Memory> {
     let took = Items::from_slice(alloc, &[took])?;
     let rule = RuleId { site: 0, k: rule };
-    numbered.apply(alloc, &Event::React { rule, took })
+    apply(alloc, numbered, &Event::React { rule, took })
 }
 
 /// What the move that a request of site 0 asks for makes.
 pub fn movement(alloc: Global, numbered: &Numbered, k: u64) -> Result<Option<Numbered>, Memory> {
-    numbered.apply(alloc, &Event::Move { atom: atom(0, k) })
+    apply(alloc, numbered, &Event::Move { atom: atom(0, k) })
 }
 
 /// What the halt that a request of site 0 asks for makes.
 pub fn halt(alloc: Global, numbered: &Numbered, k: u64) -> Result<Option<Numbered>, Memory> {
-    numbered.apply(alloc, &Event::Halt { atom: atom(0, k) })
+    apply(alloc, numbered, &Event::Halt { atom: atom(0, k) })
 }
 
 /// What the failure that a request of site 0 asks for makes.
 pub fn detection(alloc: Global, numbered: &Numbered, k: u64) -> Result<Option<Numbered>, Memory> {
-    numbered.apply(alloc, &Event::Detect { atom: atom(0, k) })
+    apply(alloc, numbered, &Event::Detect { atom: atom(0, k) })
 }

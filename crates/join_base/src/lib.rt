@@ -6,8 +6,6 @@ mod memory;
 mod sink;
 mod source;
 mod stream;
-#[cfg(test)]
-mod tests;
 
 pub use fault::{Failed, Front, Kind, ReadEnd, Span};
 pub use memory::{MemSink, MemSource};

@@ -3,8 +3,6 @@
 
 mod lexer;
 mod scan;
-#[cfg(test)]
-mod tests;
 mod token;
 
 pub use lexer::{lex, one_outcome, spans_hold_spellings};

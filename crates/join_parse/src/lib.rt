@@ -8,8 +8,6 @@ mod parser;
 mod print;
 mod process;
 mod program;
-#[cfg(test)]
-mod tests;
 mod text;
 mod tree;
 mod word;

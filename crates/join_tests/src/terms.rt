@@ -2,9 +2,10 @@
 
 use crate::outcome::run;
 use chem_model::{
-    AtomId, Defn, DefnNode, Defs, Event, Items, Loc, Memory, Name, Names, Numbered, Out, Proc,
-    ProcNode, Ref, RuleId,
+    AtomId, Defn, DefnNode, Defs, Event, Items, Loc, Memory, Name, Names, Out, Proc, ProcNode, Ref,
+    RuleId,
 };
+use chem_plain::replay;
 use std::alloc::Global;
 use std::test::Fail;
 
@@ -143,7 +144,7 @@ fn replayed(alloc: Global, text: &str) -> Result<Option<(usize, usize)>, Memory>
     let Some(kept) = run.ended.kept.as_ref() else {
         return Ok(None);
     };
-    let reached = Numbered::replay(alloc, &kept.program, &kept.journal)?;
+    let reached = replay(alloc, &kept.program, &kept.journal)?;
     Ok(reached.map(|solution| (solution.trace.len(), solution.atoms.len())))
 }
 

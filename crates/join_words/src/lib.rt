@@ -5,8 +5,6 @@ mod answer;
 mod line;
 mod number;
 mod read;
-#[cfg(test)]
-mod tests;
 
 pub use answer::{Asked, By, WordEnd};
 pub use read::read_words;

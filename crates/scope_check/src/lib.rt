@@ -6,8 +6,6 @@ mod checks;
 mod clashes;
 mod fault;
 mod naming;
-#[cfg(test)]
-mod tests;
 mod translate;
 mod words;
 

@@ -12,6 +12,7 @@ use crate::search::{first_event, is_stuck};
 use chem_commit::make_event;
 use chem_laws::{event_is_a_reduction, opening_is_a_start, replay_is_a_run, stuck_is_quiet};
 use chem_model::{Event, Items, Journal, Memory, Name, Naming, Numbered, Outs, Program};
+use chem_plain::{is_enabled, opening};
 use std::alloc::Global;
 use std::marker::Model;
 
@@ -84,7 +85,7 @@ impl Book {
         opening_is_a_start();
         let _ = &program.tops;
         let program = program.copy(alloc)?;
-        let solution = Numbered::opening(alloc, &program)?;
+        let solution = opening(alloc, &program)?;
         Ok(Book {
             program,
             journal: Items::new(alloc),
@@ -122,7 +123,7 @@ impl Book {
     pub fn enabled(&self, event: &Event) -> bool
         ensures { result ≡ is_enabled self.now event.now }
     {
-        self.solution.is_enabled(event)
+        is_enabled(&self.solution, event)
     }
 
     /// Whether no event is possible, which is so exactly where the machine is quiet.

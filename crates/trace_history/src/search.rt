@@ -9,8 +9,9 @@ ghost use Rattle.trace_history.specs.Search.{IsFirstOf, beats, receives, atom_be
 use crate::book::Found;
 use chem_model::{
     AtomId, Atoms, Event, Items, Loc, Memory, Numbered, NumberedAtom, NumberedRule, Pat, Pats,
-    Proc, ProcNode, meets,
+    Proc, ProcNode,
 };
+use chem_plain::{can_be_told, can_halt, can_move, meets};
 use std::alloc::Global;
 
 /// How many turns after the site that is looked at first a site comes.
@@ -141,8 +142,8 @@ fn first_rule(numbered: &Numbered, from: u32) -> Option<&NumberedRule>
 fn can_act(numbered: &Numbered, atom: &NumberedAtom) -> bool
     ensures { result ≡ can_act numbered.now atom.now }
 {
-    numbered.can_move(atom.id, atom)
-        || (numbered.can_halt(atom.id, atom) || numbered.can_be_told(atom.id, atom))
+    can_move(numbered, atom.id, atom)
+        || (can_halt(numbered, atom.id, atom) || can_be_told(numbered, atom.id, atom))
 }
 
 /// Whether a request comes before the one that was found so far.

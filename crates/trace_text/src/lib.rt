@@ -3,11 +3,9 @@
 
 mod log;
 mod names;
-#[cfg(test)]
-mod tests;
 mod text;
 mod trace;
 
-pub use log::{log_bytes, one_spelling};
+pub use log::{log_bytes, log_of_parts, one_spelling};
 pub use text::{Ending, push_all, push_number};
 pub use trace::{push_ending, trace_bytes};

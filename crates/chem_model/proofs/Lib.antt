@@ -1,3 +1,0 @@
-pub mod Fills
-pub mod Drops
-pub mod Enabled

@@ -1,6 +1,0 @@
-use Rattle.std.proofs.Common.{◌≡◌, ◌++◌, drop}
-use Rattle.chem_model.specs.Fill.{fill_refs}
-use Rattle.chem_model.proofs.pour.fill_refs.Given as goal
-
-abbrev pub invariant-loop-occurrence : goal.invariant-loop-occurrence
-invariant-loop-occurrence l = l.list ++ fill_refs l.names (drop l.occurrence-index l.occurrence-items) ≡ fill_refs l.names l.occurrence-items

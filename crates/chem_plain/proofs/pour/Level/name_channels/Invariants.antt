@@ -1,0 +1,8 @@
+use Rattle.std.proofs.Common.{◌≡◌, drop}
+use Rattle.chem_model.specs.Process.{definitions}
+use Rattle.chem_model.specs.Pour.{name_channels}
+use Rattle.chem_plain.specs.Drawn.{drawn}
+use Rattle.chem_plain.proofs.pour.Level.name_channels.Given as goal
+
+abbrev pub invariant-loop-definition : goal.invariant-loop-definition
+invariant-loop-definition l = name_channels l.site l.at (definitions (drop l.definition-index l.definition-items)) (drawn l.self) ≡ name_channels l.site l.at (definitions l.definition-items) (drawn l.initial.self)

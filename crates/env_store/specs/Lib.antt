@@ -1,0 +1,10 @@
+pub mod CodeParts
+pub mod CodeStored
+pub mod Layout
+pub mod Masks
+pub mod Running
+pub mod Reading
+pub mod Under
+pub mod Groups
+pub mod CodeFacts
+pub mod Laws

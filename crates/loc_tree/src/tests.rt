@@ -1,0 +1,71 @@
+// Two roots and a location that is born, moves and dies. The expected values were worked out by
+// hand.
+ghost use Rattle.std.specs.Prelude.{◌≡◌};
+
+use crate::tree::LocTree;
+use chem_model::Loc;
+use std::process::Abort;
+use std::test::Fail;
+
+fn loc(site: u32, k: u64) -> Loc
+    ensures { result ≡ record { site = site; k = k } }
+{
+    Loc { site, k }
+}
+
+fn expect_alive(rt: &impl Abort, tree: &LocTree, loc: &Loc, want: bool) {
+    assert!(rt; tree.holds(loc));
+    assert_eq!(rt; tree.alive(loc), want);
+}
+
+fn expect_root(rt: &impl Abort, tree: &LocTree, loc: &Loc, want: u32) {
+    assert!(rt; tree.holds(loc));
+    assert_eq!(rt; tree.root(loc), want);
+}
+
+fn expect_move(rt: &impl Abort, tree: &LocTree, loc: &Loc, target: &Loc, want: bool) {
+    assert!(rt; tree.holds(loc));
+    assert!(rt; tree.holds(target));
+    assert_eq!(rt; tree.can_move(loc, target), want);
+}
+
+fn rehost(rt: &impl Abort, tree: &mut LocTree, loc: &Loc, target: &Loc) {
+    expect_move(rt, tree, loc, target, true);
+    assert!(rt; tree.holds(loc));
+    assert!(rt; tree.holds(target));
+    assert!(rt; tree.can_move(loc, target));
+    tree.rehost(loc, target);
+}
+
+fn kill(rt: &impl Abort, tree: &mut LocTree, loc: &Loc) {
+    assert!(rt; tree.holds(loc));
+    tree.kill(loc);
+}
+
+#[test]
+fn a_location_moves_and_dies_with_its_root(rt: HostRuntime) -> Result<(), Fail> {
+    let mut tree = LocTree::start(rt.alloc(), 2)?;
+    let here = loc(0, 0);
+    let there = loc(1, 0);
+    let born = loc(0, 1);
+    assert!(rt; !tree.holds(&born));
+    assert!(rt; tree.fresh(0, 1));
+    tree.reserve(rt.alloc(), 1)?;
+    tree.birth(born, 0);
+    assert!(rt; !tree.fresh(0, 1));
+    assert!(rt; tree.fresh(0, 2));
+    assert!(rt; !tree.fresh(1, 0));
+    assert!(rt; tree.fresh(2, 0));
+    expect_root(&rt, &tree, &born, 0);
+    expect_move(&rt, &tree, &born, &there, true);
+    expect_move(&rt, &tree, &born, &here, true);
+    expect_move(&rt, &tree, &here, &there, false);
+    expect_move(&rt, &tree, &born, &born, false);
+    rehost(&rt, &mut tree, &born, &there);
+    kill(&rt, &mut tree, &there);
+    expect_root(&rt, &tree, &born, 1);
+    expect_alive(&rt, &tree, &born, false);
+    expect_alive(&rt, &tree, &here, true);
+    expect_move(&rt, &tree, &born, &here, false);
+    Ok(())
+}

@@ -1,0 +1,12 @@
+pub mod Loop
+pub mod Appends
+pub mod Same
+pub mod Laws
+pub mod InOrder
+pub mod Pairs
+pub mod AtomIds
+pub mod Orders
+pub mod Messages
+pub mod ParcelsSpelt
+pub mod ParcelsSpell
+pub mod Whole

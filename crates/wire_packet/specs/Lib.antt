@@ -1,0 +1,9 @@
+pub mod MessageFacts
+pub mod ParcelFacts
+pub mod Format
+pub mod Spelling
+pub mod Allowed
+pub mod Packets
+pub mod Codec
+pub mod Reading
+pub mod Ids

@@ -1,0 +1,323 @@
+// Packets and their bytes. The expected values were worked out by hand from the format.
+use crate::{
+    DecodeEnd, Flight, Flights, GroupInst, Msg, Packet, Parcel, copy_flights, decode, encode,
+};
+use chem_model::{AtomId, Items, Loc, Memory, Name, RuleId, Text};
+use std::alloc::Global;
+use std::process::Abort;
+use std::test::Fail;
+
+/// The message 0.5 on the channel 0.1 of the location 0.0, with the location 1.0.
+fn message() -> &'static [u8] {
+    &[
+        1, 0, 0, 0, 0, 0, 0, 0, 0, 0, 0, 0, 5, 2, 0, 0, 0, 0, 0, 0, 0, 0, 0, 0, 0, 1, 0, 0, 0, 0,
+        0, 0, 0, 0, 0, 0, 0, 0, 1, 1, 0, 0, 0, 1, 0, 0, 0, 0, 0, 0, 0, 0,
+    ]
+}
+
+/// Where the fields of the message begin.
+fn message_fields() -> &'static [usize] {
+    &[0, 1, 5, 13, 14, 18, 26, 30, 38, 39, 40, 44]
+}
+
+/// The location 0.1 with one group: level 1, the first channel 0.2 and the first rule 0.3.
+fn small_parcel() -> &'static [u8] {
+    &[
+        2, 0, 0, 0, 0, 0, 0, 0, 0, 0, 0, 0, 1, 0, 0, 0, 1, 0, 0, 0, 1, 0, 0, 0, 0, 0, 0, 0, 0, 0,
+        0, 0, 2, 0, 0, 0, 0, 0, 0, 0, 0, 0, 0, 0, 3, 0, 0, 0, 0, 0, 0, 0, 0, 0, 0, 0, 0,
+    ]
+}
+
+fn small_parcel_fields() -> &'static [usize] {
+    &[0, 1, 5, 13, 17, 21, 25, 33, 37, 45, 49, 53]
+}
+
+/// The location 1.7 with two groups, the waiting messages 0.9, 1.9 and 0.4, and a request of each
+/// kind: 0.3, 0.10 and 1.2.
+fn full_parcel() -> &'static [u8] {
+    &[
+        2, 0, 0, 0, 1, 0, 0, 0, 0, 0, 0, 0, 7, 0, 0, 0, 2, 0, 0, 0, 3, 0, 0, 0, 1, 0, 0, 0, 0, 0,
+        0, 0, 8, 0, 0, 0, 1, 0, 0, 0, 0, 0, 0, 0, 9, 0, 0, 0, 3, 0, 0, 0, 0, 2, 1, 0, 0, 0, 0, 0,
+        0, 0, 0, 0, 0, 0, 0, 2, 0, 0, 0, 0, 0, 0, 0, 0, 0, 0, 0, 5, 0, 0, 0, 0, 0, 0, 0, 0, 0, 0,
+        0, 0, 0, 0, 0, 4, 0, 0, 0, 1, 0, 0, 0, 0, 0, 0, 0, 12, 0, 0, 0, 1, 0, 0, 0, 0, 0, 0, 0, 13,
+        0, 0, 0, 0, 0, 0, 0, 3, 0, 0, 0, 0, 0, 0, 0, 0, 0, 0, 0, 9, 2, 0, 0, 0, 1, 0, 0, 0, 0, 0,
+        0, 0, 8, 0, 0, 0, 1, 0, 0, 0, 0, 0, 0, 0, 7, 2, 0, 0, 0, 0, 1, 1, 0, 0, 0, 1, 0, 0, 0, 0,
+        0, 0, 0, 7, 0, 0, 0, 1, 0, 0, 0, 0, 0, 0, 0, 9, 0, 0, 0, 0, 0, 0, 0, 0, 0, 0, 0, 0, 0, 0,
+        0, 0, 0, 4, 1, 0, 0, 0, 0, 0, 0, 0, 0, 0, 0, 0, 0, 1, 2, 0, 0, 0, 0, 0, 0, 0, 0, 0, 0, 0,
+        5, 0, 0, 0, 0, 0, 0, 0, 0, 0, 0, 0, 0, 0, 0, 0, 3, 0, 0, 0, 0, 0, 0, 0, 0, 0, 0, 0, 3, 1,
+        1, 0, 0, 0, 0, 0, 0, 0, 0, 0, 0, 0, 0, 2, 0, 0, 0, 1, 0, 0, 0, 0, 0, 0, 0, 8, 0, 0, 0, 1,
+        0, 0, 0, 0, 0, 0, 0, 7, 0, 0, 0, 0, 0, 0, 0, 0, 0, 0, 0, 10, 2, 0, 0, 0, 1, 0, 0, 0, 0, 0,
+        0, 0, 2, 3, 0, 0, 0, 0, 1, 1, 0, 0, 0, 1, 0, 0, 0, 0, 0, 0, 0, 7,
+    ]
+}
+
+fn full_parcel_fields() -> &'static [usize] {
+    &[
+        0, 1, 5, 13, 17, 21, 25, 33, 37, 45, 49, 50, 54, 55, 59, 67, 68, 72, 80, 84, 92, 96, 100,
+        108, 112, 120, 124, 128, 132, 140, 141, 145, 153, 157, 165, 166, 167, 171, 172, 176, 184,
+        188, 196, 197, 201, 202, 206, 214, 215, 219, 227, 228, 229, 233, 241, 245, 253, 257, 261,
+        269, 270, 271, 275, 283, 284, 288, 296, 300, 308, 312, 320, 321, 325, 333, 334, 335, 339,
+        340, 344,
+    ]
+}
+
+/// The answer for bytes that are a packet, where a place is asked for.
+const PACKET: u64 = 1_000_000;
+
+/// The place of the first wrong field.
+fn place_of(alloc: Global, bytes: &[u8]) -> u64 {
+    match decode(alloc, bytes) {
+        Ok(_) => PACKET,
+        Err(DecodeEnd::Bad { place }) => place,
+        Err(DecodeEnd::Memory) => PACKET + 1,
+    }
+}
+
+/// The place, once the byte at this index is another.
+fn place_with(alloc: Global, bytes: &[u8], index: usize, byte: u8) -> Result<u64, Memory> {
+    let mut changed = Items::from_slice(alloc, bytes)?;
+    changed.set(index, byte);
+    Ok(place_of(alloc, changed.as_slice()))
+}
+
+/// The place, once a byte more follows.
+fn place_behind(alloc: Global, bytes: &[u8]) -> Result<u64, Memory> {
+    let mut longer: Text = Items::from_slice(alloc, bytes)?;
+    longer.push(0)?;
+    Ok(place_of(alloc, longer.as_slice()))
+}
+
+/// The spelling of a copy of the packet.
+fn spelled(alloc: Global, packet: &Packet) -> Result<Text, Memory> {
+    let copy = packet.copy(alloc)?;
+    encode(alloc, &copy)
+}
+
+/// Whether the packet of these bytes has them as its spelling.
+fn is_again(alloc: Global, bytes: &[u8]) -> bool {
+    match decode(alloc, bytes) {
+        Ok(packet) => match spelled(alloc, &packet) {
+            Ok(text) => text.as_slice() == bytes,
+            Err(_) => false,
+        },
+        Err(_) => false,
+    }
+}
+
+/// The message of `message`.
+fn made_message(alloc: Global) -> Result<Packet, Memory> {
+    let mut args = Items::new(alloc);
+    args.push(Name::Place(Loc { site: 1, k: 0 }))?;
+    let home = Loc { site: 0, k: 0 };
+    Ok(Packet::Message(Msg {
+        id: AtomId { site: 0, k: 5 },
+        on: Name::Chan {
+            site: 0,
+            k: 1,
+            home,
+        },
+        args,
+    }))
+}
+
+/// The parcel of `small_parcel`.
+fn made_parcel(alloc: Global) -> Result<Packet, Memory> {
+    let loc = Loc { site: 0, k: 1 };
+    let mut groups = Items::new(alloc);
+    groups.push(GroupInst {
+        loc,
+        level: 1,
+        chans: AtomId { site: 0, k: 2 },
+        rules: RuleId { site: 0, k: 3 },
+        env: Items::new(alloc),
+    })?;
+    Ok(Packet::Parcel(Parcel {
+        loc,
+        groups,
+        waiting: Items::new(alloc),
+        requests: Items::new(alloc),
+    }))
+}
+
+/// Whether these are the bytes of the packet.
+fn has_bytes(alloc: Global, packet: &Packet, bytes: &[u8]) -> bool {
+    match spelled(alloc, packet) {
+        Ok(text) => text.as_slice() == bytes,
+        Err(_) => false,
+    }
+}
+
+#[test]
+fn there_and_back(rt: HostRuntime) -> Result<(), Fail> {
+    let alloc = rt.alloc();
+    assert!(rt; has_bytes(alloc, &made_message(alloc)?, message()));
+    assert!(rt; has_bytes(alloc, &made_parcel(alloc)?, small_parcel()));
+    assert!(rt; is_again(alloc, message()));
+    assert!(rt; is_again(alloc, small_parcel()));
+    assert!(rt; is_again(alloc, full_parcel()));
+    Ok(())
+}
+
+/// That the bytes, cut at each place, are wrong at the field within which they end.
+fn ends_within(rt: &impl Abort, alloc: Global, bytes: &[u8], fields: &[usize]) {
+    let mut field = 0;
+    for end in 0..bytes.len() {
+        if fields.contains(&end) {
+            field = end;
+        }
+        assert_eq!(rt; place_of(alloc, &bytes[..end]), field as u64);
+    }
+}
+
+#[test]
+fn cut_off(rt: HostRuntime) {
+    let alloc = rt.alloc();
+    ends_within(&rt, alloc, message(), message_fields());
+    ends_within(&rt, alloc, small_parcel(), small_parcel_fields());
+    ends_within(&rt, alloc, full_parcel(), full_parcel_fields());
+}
+
+/// A byte that is changed: its index, its new value, and the place of the field that is then wrong
+/// first.
+type Change = (usize, u8, u64);
+
+fn message_changes() -> &'static [Change] {
+    &[
+        // kinds of packets, tags of names
+        (0, 0, 0),
+        (0, 3, 0),
+        (13, 3, 13),
+        (39, 3, 39),
+        // the channel as an observed name, and as a location: then a byte follows the message
+        (13, 0, 19),
+        (13, 1, 27),
+        // no argument, and two
+        (38, 0, 39),
+        (38, 2, 52),
+        // any home
+        (29, 9, PACKET),
+        (37, 9, PACKET),
+    ]
+}
+
+fn small_parcel_changes() -> &'static [Change] {
+    &[
+        // an environment of one name, a message that waits, a request
+        (48, 1, 54),
+        (52, 1, 57),
+        (56, 1, 57),
+    ]
+}
+
+fn full_parcel_changes() -> &'static [Change] {
+    &[
+        (0, 3, 0),
+        // tags of names: in an environment, of a waiting message, of its argument, of requests
+        (49, 3, 49),
+        (140, 3, 140),
+        (166, 255, 166),
+        (270, 3, 270),
+        (283, 3, 283),
+        (334, 3, 334),
+        (339, 3, 339),
+        // another home's site, another home's number
+        (156, 2, 153),
+        (164, 8, 157),
+        // the second and the third waiting message with the id of the first
+        (187, 0, 188),
+        (213, 9, 206),
+        // a request with the id of the first waiting message, and of the third
+        (268, 9, 261),
+        (268, 4, 261),
+        // the second request with the id of the first, and with a lower one
+        (319, 3, 312),
+        (319, 2, 312),
+        // the third request with a lower number at the site of the second, and with a lower site
+        (324, 0, 325),
+        (311, 2, 325),
+        // tags of requests, and Fail for Go
+        (269, 0, 269),
+        (320, 4, 320),
+        (333, 255, 333),
+        (269, 3, PACKET),
+    ]
+}
+
+fn with_changes(
+    rt: &impl Abort,
+    alloc: Global,
+    bytes: &[u8],
+    changes: &[Change],
+) -> Result<(), Memory> {
+    for (index, byte, place) in changes {
+        let found = place_with(alloc, bytes, *index, *byte)?;
+        assert_eq!(rt; found, *place, "{byte} at {index}");
+    }
+    Ok(())
+}
+
+#[test]
+fn wrong_fields(rt: HostRuntime) -> Result<(), Fail> {
+    let alloc = rt.alloc();
+    with_changes(&rt, alloc, message(), message_changes())?;
+    with_changes(&rt, alloc, small_parcel(), small_parcel_changes())?;
+    with_changes(&rt, alloc, full_parcel(), full_parcel_changes())?;
+    assert_eq!(rt; place_behind(alloc, message())?, 52);
+    assert_eq!(rt; place_behind(alloc, small_parcel())?, 57);
+    assert_eq!(rt; place_behind(alloc, full_parcel())?, 352);
+    assert_eq!(rt; place_of(alloc, &[3]), 0);
+    assert_eq!(rt; place_of(alloc, &[2, 0, 0, 0, 0]), 5);
+    Ok(())
+}
+
+/// A parcel without a group that claims lists of some length.
+fn claims() -> &'static [(&'static [u8], u64)] {
+    &[
+        // 1,000,000 groups
+        (&[2, 0, 0, 0, 0, 0, 0, 0, 0, 0, 0, 0, 1, 0, 15, 66, 64], 17),
+        // 4,294,967,295 names in an environment
+        (
+            &[
+                2, 0, 0, 0, 0, 0, 0, 0, 0, 0, 0, 0, 1, 0, 0, 0, 1, 0, 0, 0, 1, 0, 0, 0, 0, 0, 0, 0,
+                0, 0, 0, 0, 2, 0, 0, 0, 0, 0, 0, 0, 0, 0, 0, 0, 3, 255, 255, 255, 255, 0, 0, 0, 0,
+                0, 0, 0, 0,
+            ],
+            55,
+        ),
+        // two requests, the first with the largest id
+        (
+            &[
+                2, 0, 0, 0, 0, 0, 0, 0, 0, 0, 0, 0, 1, 0, 0, 0, 0, 0, 0, 0, 0, 0, 0, 0, 2, 255,
+                255, 255, 255, 255, 255, 255, 255, 255, 255, 255, 255, 2, 0, 0, 0, 0, 0, 0, 0, 0,
+                0, 0, 0, 0, 2,
+            ],
+            42,
+        ),
+    ]
+}
+
+#[test]
+fn claimed_lengths(rt: HostRuntime) {
+    let alloc = rt.alloc();
+    for (bytes, place) in claims() {
+        assert_eq!(rt; place_of(alloc, *bytes), *place);
+    }
+}
+
+/// Whether a copied list of one flight has its bytes and its target.
+fn is_copied(alloc: Global) -> Result<bool, Memory> {
+    let mut flights: Flights = Items::new(alloc);
+    let bytes = Items::from_slice(alloc, message())?;
+    flights.push(Flight { target: 3, bytes })?;
+    let copy = copy_flights(alloc, &flights)?;
+    Ok(match copy.as_slice() {
+        [one] => one.target == 3 && one.bytes.as_slice() == message(),
+        _ => false,
+    })
+}
+
+#[test]
+fn flights(rt: HostRuntime) -> Result<(), Fail> {
+    assert!(rt; is_copied(rt.alloc())?);
+    Ok(())
+}
