@@ -1,23 +1,26 @@
 #!/usr/bin/env bash
-# Measures a run on one thread: prints how many events a second the program makes on each of a few texts, for a budget
-# of so many events (default 20000), and how that falls with the number of messages that wait.
+# Measures a run on one thread: prints how many events a second of processor time the program makes on each of a few
+# texts, how that falls with the messages that wait, with locations and with rules, and how long runs take that make
+# names.
 # A measure and no test.
 set -eu
-budget=${1:-20000}
-join=$(cd "$(dirname "$0")/.." && pwd)/join
+root=$(cd "$(dirname "$0")/.." && pwd)
+program=$root/crates/join_main/out/join_main
 
-# events NAME: runs the text on standard input, and prints its events a second
-events() {
-    local start taken status=0
-    start=$(date +%s%N)
-    "$join" alone --budget "$budget" >/dev/null 2>&1 || status=$?
-    taken=$(($(date +%s%N) - start))
-    if [ "$status" = 5 ]; then
-        echo "$1: $((budget * 1000000000 / taken)) events a second"
-    else
-        echo "$1: ended with status $status"
+# seconds BUDGET: runs the text on standard input, and prints the seconds of processor time that it takes
+seconds() {
+    local status=0 taken TIMEFORMAT='%U %S'
+    taken=$( { time "$program" alone --budget "$1" >/dev/null; } 2>&1) || status=$?
+    if [ "$status" != 5 ]; then
+        echo "a run ended with status $status" >&2
         exit 1
     fi
+    awk -v taken="$taken" 'BEGIN { split(taken, part, " "); print part[1] + part[2] }'
+}
+
+# events NAME BUDGET: the same in events a second
+events() {
+    seconds "$2" | awk -v name="$1" -v budget="$2" '{ printf "%s: %d events a second\n", name, budget / ($1 + 0.0005) }'
 }
 
 # waiting COUNT: an endless reaction beside so many messages that no rule takes
@@ -27,19 +30,46 @@ waiting() {
     printf ' ]\n'
 }
 
-# builds the program where it is missing or old
-"$join" alone --budget 0 <"$(dirname "$join")/examples/first.join" >/dev/null || true
+# locations COUNT: an endless reaction in the last one of so many locations
+locations() {
+    printf 'site s [ '
+    for ((i = 1; i < $1; i++)); do printf 'l%d [ none : 0 ] and ' "$i"; done
+    printf 'm [ c(x) => c(x) : c(m) ] : 0 ]\n'
+}
 
-events 'an endless reaction' <<<'site s [ c(x) => c(x) : c(s) ]'
-events 'a ping-pong of two sites' <<'TEXT'
+# rules COUNT: an endless reaction by the last one of so many rules, each with a channel of its own
+rules() {
+    printf 'site s [ '
+    for ((i = 1; i < $1; i++)); do printf 'n%d() => 0 and ' "$i"; done
+    printf 'c(x) => c(x) : c(s) ]\n'
+}
+
+# builds the program where it is missing or old
+"$root/join" alone --budget 0 <"$root/examples/first.join" >/dev/null || true
+
+events 'an endless reaction' 1000000 <<<'site s [ c(x) => c(x) : c(s) ]'
+events 'a ping-pong of two sites' 1000000 <<'TEXT'
 site a [ ping(x) => pong(x) : ping(a) ]
 site b [ pong(x) => ping(x) : 0 ]
 TEXT
-events 'an agent that tours' <<'TEXT'
+events 'an agent that tours' 1000000 <<'TEXT'
 site a [ none : 0 ]
 site b [ none : 0 ]
 site c [ agent [ to_a() => go(a, to_b) and to_b() => go(b, to_a) : go(a, to_b) ] : 0 ]
 TEXT
 for count in 100 1000 10000; do
-    events "an endless reaction, $count messages waiting" < <(waiting "$count")
+    events "an endless reaction, $count messages waiting" 20000 < <(waiting "$count")
+done
+for count in 100 1000 10000; do
+    events "an endless reaction in the last of $count locations" 20000 < <(locations "$count")
+done
+for count in 100 1000 10000; do
+    events "an endless reaction by the last of $count rules" 20000 < <(rules "$count")
+done
+for count in 1000 10000 30000; do
+    echo "$count reactions that each make a name and its rule: $(seconds "$count" <<<'site s [ c() => def d() => 0 in c() : c() ]') seconds"
+done
+printed='observe out/1; site s [ c() => def d() => 0 in out(d) | c() : c() ]'
+for count in 1000 10000 30000; do
+    echo "$count reactions that each make a name and print it: $(seconds "$count" <<<"$printed") seconds"
 done

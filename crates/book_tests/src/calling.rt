@@ -1,0 +1,37 @@
+// The crates as a library, by the lines of docs/CALLING.md.
+
+use chem_model::Text;
+use join_base::Front;
+use join_lex::lex;
+use join_parse::parse;
+use scope_check::check;
+use std::alloc::Global;
+use std::test::Fail;
+use trace_history::Book;
+use trace_text::{Ending, trace_bytes};
+
+/// What a text's program shows after the event that comes first, where one is possible.
+fn after_one_event(alloc: Global, text: &str) -> Result<Text, Front> {
+    let tokens = lex(alloc, text.as_bytes())?;
+    let tree = parse(alloc, &tokens)?;
+    let program = check(alloc, &tree)?;
+    let _ = &program.tops;
+    let mut book = Book::start(alloc, &program)?;
+    if let Some(found) = book.first_enabled(alloc, 0)? {
+        book.commit(alloc, &found.event)?;
+    }
+    let ending = if book.quiet() {
+        Ending::Quiescent
+    } else {
+        Ending::Stopped
+    };
+    Ok(trace_bytes(alloc, &book, ending)?)
+}
+
+#[test]
+fn the_lines_of_the_document(rt: HostRuntime) -> Result<(), Fail> {
+    let text = "observe out/1; site s [ x(u) => out(u) : x(s) ]";
+    let shown = after_one_event(rt.alloc(), text).or(Err("the text is refused"))?;
+    assert_eq!(rt; shown.as_slice(), b"out(s)\nquiescent\n".as_slice());
+    Ok(())
+}
