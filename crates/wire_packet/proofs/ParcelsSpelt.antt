@@ -40,6 +40,19 @@ two_is m t = let lt = ltb-true (suc (suc m)) 3 (right (nat_lt 0 (suc (suc m))) (
 pub joined : (a b c d e f g h : List ℕ) → a ++ (b ++ (c ++ (d ++ (e ++ (f ++ (g ++ h)))))) ≡ (a ++ (b ++ (c ++ (d ++ (e ++ (f ++ g)))))) ++ h
 joined a b c d e f g h = simp append_assoc refl
 
+all_joined : (l : Loc) (gs : List GroupInst) (ws : List Waiting) (rs : List Request) (bytes after_gs after_ws rest : List ℕ)
+    → bytes ≡ pair l.site l.k ++ (digits four (length gs) ++ (flat_map group gs ++ after_gs))
+    → after_gs ≡ digits four (length ws) ++ (flat_map waiting_message ws ++ after_ws)
+    → after_ws ≡ digits four (length rs) ++ (flat_map request rs ++ rest)
+    → bytes ≡ parcel (record { loc = l; groups = gs; waiting = ws; requests = rs }) ++ rest
+all_joined l gs ws rs bytes after_gs after_ws rest e f g =
+    e ∙ ap (λ (t : List ℕ). pair l.site l.k ++ (digits four (length gs) ++ (flat_map group gs ++ t))) (f ∙ ap (λ (t : List ℕ). digits four (length ws) ++ (flat_map waiting_message ws ++ t)) g)
+    ∙ joined (pair l.site l.k) (digits four (length gs)) (flat_map group gs) (digits four (length ws)) (flat_map waiting_message ws) (digits four (length rs)) (flat_map request rs) rest
+
+-- the length of a list, and what follows it
+counted : (n m : ℕ) (bytes rest after : List ℕ) → n ≡ m → bytes ≡ digits four m ++ rest → rest ≡ after → bytes ≡ digits four n ++ after
+counted n m bytes rest after e f g = f ∙ ap (λ (k : ℕ). digits four k ++ rest) (sym e) ∙ ap (λ (t : List ℕ). digits four n ++ t) g
+
 module _ {A : Type 0} where
   group_spelt : (l : Loc) (y : A) (front : List GroupInst) (next : GroupInst → Format A) (bytes : List ℕ) → Spells (group_member l front next) y bytes
       → (g : GroupInst) × GroupAt l g × Begins group next y bytes g
@@ -102,19 +115,15 @@ module _ {A : Type 0} where
       let hr = w.5 in
       let r = members_spelt (request_member l (is_waiting w.0)) (Asks l w.0) request y (full l next g.0 w.0) (λ front follows some x. request_spelt l w.0 y front follows some x) hr.0 [] hr.1 hr.5 in
       let eg : bytes ≡ pair s k ++ (digits four (length g.0) ++ (flat_map group g.0 ++ g.3)) =
-      e1 ∙ ap (λ (t : List ℕ). digits four s ++ t) (e2 ∙ ap (λ (t : List ℕ). digits eight k ++ t)
-      (e3 ∙ ap (λ (m : ℕ). digits four m ++ r3) (sym g.1) ∙ ap (λ (t : List ℕ). digits four (length g.0) ++ t) g.4)) in
-      let ew : g.3 ≡ digits four (length w.0) ++ (flat_map waiting_message w.0 ++ w.3) =
-      hw.3 ∙ ap (λ (m : ℕ). digits four m ++ hw.1) (sym w.1) ∙ ap (λ (t : List ℕ). digits four (length w.0) ++ t) w.4 in
-      let er : w.3 ≡ digits four (length r.0) ++ (flat_map request r.0 ++ r.3) =
-      hr.3 ∙ ap (λ (m : ℕ). digits four m ++ hr.1) (sym r.1) ∙ ap (λ (t : List ℕ). digits four (length r.0) ++ t) r.4 in
+      e1 ∙ ap (λ (t : List ℕ). digits four s ++ t) (e2 ∙ ap (λ (t : List ℕ). digits eight k ++ t) (counted (length g.0) n r2 r3 (flat_map group g.0 ++ g.3) g.1 e3 g.4)) in
+      let ew : g.3 ≡ digits four (length w.0) ++ (flat_map waiting_message w.0 ++ w.3) = counted (length w.0) hw.0 g.3 hw.1 (flat_map waiting_message w.0 ++ w.3) w.1 hw.3 w.4 in
+      let er : w.3 ≡ digits four (length r.0) ++ (flat_map request r.0 ++ r.3) = counted (length r.0) hr.0 w.3 hr.1 (flat_map request r.0 ++ r.3) r.1 hr.3 r.4 in
       let p : ParcelParts = record { loc = l; groups = g.0; waiting = w.0; requests = r.0 } in (
         p,
         record { loc = (lt1, lt2); few_groups = omega (arith, g.1, lt3); groups = g.2; few_waiting = omega (arith, w.1, hw.2); waiting = w.2; few_requests = omega (arith, r.1, hr.2); requests = r.2 },
         (
           r.3,
-          eg ∙ ap (λ (t : List ℕ). pair s k ++ (digits four (length g.0) ++ (flat_map group g.0 ++ t))) (ew ∙ ap (λ (t : List ℕ). digits four (length w.0) ++ (flat_map waiting_message w.0 ++ t)) er)
-              ∙ joined (pair s k) (digits four (length g.0)) (flat_map group g.0) (digits four (length w.0)) (flat_map waiting_message w.0) (digits four (length r.0)) (flat_map request r.0) r.3,
+          all_joined l g.0 w.0 r.0 bytes g.3 w.3 r.3 eg ew er,
           r.5,
         ),
       )
