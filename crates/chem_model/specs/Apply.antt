@@ -89,7 +89,7 @@ abbrev pub react_rule : Numbered → List AtomId → Option NumberedRule → Opt
 react_rule n took None = None
 react_rule n took (Some r) =
     cond (live (standing n.places) r.loc)
-        (react_received n r took (received_all n.atoms r.loc r.pats took)) None
+    (react_received n r took (received_all n.atoms r.loc r.pats took)) None
 
 -- ---- requests
 
@@ -149,7 +149,7 @@ halt_atom n i l (Fail a k) = None
 abbrev pub detect_of : Numbered → AtomId → Loc → Ref → Loc → Option Numbered
 detect_of n i l k a =
     cond (can_detect n l a)
-        (Some (pour_at (record n { atoms = without i n.atoms }) [] l (continuation k))) None
+    (Some (pour_at (record n { atoms = without i n.atoms }) [] l (continuation k))) None
 
 abbrev pub detect_atom : Numbered → AtomId → Loc → Process → Option Numbered
 detect_atom n i l (Fail a k) = at_location a (detect_of n i l k)

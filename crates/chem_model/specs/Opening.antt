@@ -69,7 +69,7 @@ abbrev pub open_sites : Naming → ℕ → List SiteTerm → Numbered → Number
 open_sites m i [] n = n
 open_sites m i (t ∷ ts) n =
     open_sites m (i + 1) ts
-        (pour_at (lay_at n m (root_of i) (definitions t.defs)) m (root_of i) t.body)
+    (pour_at (lay_at n m (root_of i) (definitions t.defs)) m (root_of i) t.body)
 
 abbrev pub opening : ProgramTerms → Numbered
 opening p = open_sites (site_names p.sites) 0 p.sites (named_sites (counts_of p.seen) p.sites)

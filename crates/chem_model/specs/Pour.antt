@@ -71,7 +71,7 @@ abbrev pub message_made : List ℕ → ℕ → Loc → ℕ → Ref → List Ref 
 message_made seen s l k (Binder b) vs = atom_made s l k (Msg (Binder b) vs)
 message_made seen s l k (Known (name.Seen i)) vs =
     cond (is_count (slice_get seen i) (length vs)) (out_made k i (known vs))
-        (atom_made s l k (Msg (Known (name.Seen i)) vs))
+    (atom_made s l k (Msg (Known (name.Seen i)) vs))
 message_made seen s l k (Known (name.Place a)) vs = atom_made s l k (Msg (Known (name.Place a)) vs)
 message_made seen s l k (Known (name.Chan t j h)) vs =
     atom_made s h k (Msg (Known (name.Chan t j h)) vs)

@@ -48,7 +48,7 @@ abbrev mutual
   definition_code (Rule ps p) = gcons (gnum 0) (gcons (pats_code.code ps) (process_code p))
   definition_code (Place a ds p) =
       gcons (gnum 1) (gcons (ref.the_row.coded.code a)
-          (gcons (definitions_code ds) (process_code p)))
+      (gcons (definitions_code ds) (process_code p)))
 
   pub definitions_code : Definitions → Gv
   definitions_code no_definition = gnil
@@ -58,17 +58,17 @@ mutual
   pub process_inj : (x y : Process) → process_code x ≡ process_code y → x ≡ y
   process_inj (Msg x vs) (Msg y ws) p =
       λ i. Msg (ref.the_row.coded.inj x y (ap (λ g. head (tail g)) p) i)
-          (refs_code.inj vs ws (ap (λ g. tail (tail g)) p) i)
+      (refs_code.inj vs ws (ap (λ g. tail (tail g)) p) i)
   process_inj (Par ps) (Par qs) p = ap Par (processes_inj ps qs (ap tail p))
   process_inj (Def ds a) (Def es b) p =
       λ i. Def (definitions_inj ds es (ap (λ g. head (tail g)) p) i)
-          (process_inj a b (ap (λ g. tail (tail g)) p) i)
+      (process_inj a b (ap (λ g. tail (tail g)) p) i)
   process_inj (Go x u) (Go y v) p =
       λ i. Go (ref.the_row.coded.inj x y (ap (λ g. head (tail g)) p) i)
-          (ref.the_row.coded.inj u v (ap (λ g. tail (tail g)) p) i)
+      (ref.the_row.coded.inj u v (ap (λ g. tail (tail g)) p) i)
   process_inj (Fail x u) (Fail y v) p =
       λ i. Fail (ref.the_row.coded.inj x y (ap (λ g. head (tail g)) p) i)
-          (ref.the_row.coded.inj u v (ap (λ g. tail (tail g)) p) i)
+      (ref.the_row.coded.inj u v (ap (λ g. tail (tail g)) p) i)
   process_inj Halt Halt p = refl
   process_inj _ _ p = absurd (apart _ _ (omega arith) p)
 
@@ -81,11 +81,11 @@ mutual
   pub definition_inj : (x y : Definition) → definition_code x ≡ definition_code y → x ≡ y
   definition_inj (Rule ps a) (Rule qs b) p =
       λ i. Rule (pats_code.inj ps qs (ap (λ g. head (tail g)) p) i)
-          (process_inj a b (ap (λ g. tail (tail g)) p) i)
+      (process_inj a b (ap (λ g. tail (tail g)) p) i)
   definition_inj (Place x ds a) (Place y es b) p =
       λ i. Place (ref.the_row.coded.inj x y (ap (λ g. head (tail g)) p) i)
-          (definitions_inj ds es (ap (λ g. head (tail (tail g))) p) i)
-          (process_inj a b (ap (λ g. tail (tail (tail g))) p) i)
+      (definitions_inj ds es (ap (λ g. head (tail (tail g))) p) i)
+      (process_inj a b (ap (λ g. tail (tail (tail g))) p) i)
   definition_inj _ _ p = absurd (apart _ _ (omega arith) p)
 
   pub definitions_inj : (xs ys : Definitions) → definitions_code xs ≡ definitions_code ys → xs ≡ ys

@@ -11,6 +11,6 @@ abbrev pub program_code : Coded ProgramTerms
 program_code =
     code_by (List SeenDecl × (List SiteTerm × (ℕ × List (List ℕ))))
     (coded× (coded_list seen.the_row.coded)
-        (coded× (coded_list site.the_row.coded) (coded× coded_ℕ (coded_list (coded_list coded_ℕ)))))
+    (coded× (coded_list site.the_row.coded) (coded× coded_ℕ (coded_list (coded_list coded_ℕ)))))
     (λ p. (p.seen, (p.sites, (p.tops, p.spell))))
     (λ t. record { seen = t.0; sites = t.1.0; tops = t.1.1.0; spell = t.1.1.1 }) (λ _. refl)
