@@ -56,7 +56,8 @@ fn first_request(alloc: Global, text: &str) -> Result<Option<(u32, u64)>, Front>
     }
 }
 
-/// What becomes of two moves, one after the other, from the opening of a text, and how many events there are then.
+/// What becomes of two moves, one after the other, from the opening of a text, and how many events
+/// there are then.
 fn moved(
     alloc: Global,
     text: &str,
@@ -86,7 +87,8 @@ fn is_quiet(alloc: Global, text: &str) -> Result<bool, Front> {
     Ok(book.quiet())
 }
 
-/// The names are 0.1 to 0.4, the rules 0.5 and 0.7, and the requests 0.6 and 0.8. The second target isn't a site.
+/// The names are 0.1 to 0.4, the rules 0.5 and 0.7, and the requests 0.6 and 0.8. The second target
+/// isn't a site.
 const TWO_MOVES: &str = "site a [ m[ k() => 0 : go(a, k) ] and n[ j() => 0 : go(m, j) ] : 0 ]";
 
 const FOUR_LOCATIONS: &str = "observe out/1; site a [ m[ none : out(m) ] : out(a) ] \

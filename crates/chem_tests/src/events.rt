@@ -16,8 +16,8 @@ fn moved(alloc: Global) -> Result<Numbered, Fail> {
     Ok(moved)
 }
 
-/// `site a [ m[ k() => out(m) : go(b, k) ] : 0 ] site b [ none : 0 ]`: the message that the request becomes is numbered
-/// by the new root's site.
+/// `site a [ m[ k() => out(m) : go(b, k) ] : 0 ] site b [ none : 0 ]`: the message that the request
+/// becomes is numbered by the new root's site.
 #[test]
 fn a_move_between_sites(rt: HostRuntime) -> Result<(), Fail> {
     let numbered = moved(rt.alloc())?;
@@ -42,7 +42,8 @@ fn a_rule_that_moved(rt: HostRuntime) -> Result<(), Fail> {
     Ok(())
 }
 
-/// `site s [ x() => def y() => 0 in out(y) : x() & x() ]`: each reaction makes a channel of its own.
+/// `site s [ x() => def y() => 0 in out(y) : x() & x() ]`: each reaction makes a channel of its
+/// own.
 #[test]
 fn a_fresh_channel(rt: HostRuntime) -> Result<(), Fail> {
     let numbered = channels_to_come(rt.alloc())?;
@@ -101,7 +102,8 @@ fn no_failure_before_a_halt(rt: HostRuntime) -> Result<(), Fail> {
     Ok(())
 }
 
-/// `site s [ x(u) => 0 and m[ none : go(x, x) ] : x() & go(s, x) ]`: a message with a wrong count isn't taken.
+/// `site s [ x(u) => 0 and m[ none : go(x, x) ] : x() & go(s, x) ]`: a message with a wrong count
+/// isn't taken.
 #[test]
 fn a_wrong_count(rt: HostRuntime) -> Result<(), Fail> {
     let numbered = nothing_to_happen(rt.alloc())?;

@@ -40,7 +40,8 @@ fn the_order_of_an_opening(rt: HostRuntime) -> Result<(), Fail> {
     Ok(())
 }
 
-/// `site s [ none : def m[ none : k() ] and n[ k() => 0 : 0 ] in 0 ]`: the message is put before the rule, at `n`.
+/// `site s [ none : def m[ none : k() ] and n[ k() => 0 : 0 ] in 0 ]`: the message is put before
+/// the rule, at `n`.
 #[test]
 fn a_message_before_its_rule(rt: HostRuntime) -> Result<(), Fail> {
     let numbered = a_place_that_sends(rt.alloc())?;

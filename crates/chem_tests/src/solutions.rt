@@ -13,7 +13,8 @@ fn leaving_place(alloc: Global) -> Result<Defn, Memory> {
     place(alloc, 1, one_def(alloc, tells)?, moves)
 }
 
-/// `site a [ m[ k() => out(m) : go(b, k) ] : 0 ] site b [ none : 0 ]`, in which `a` is the binder 0.
+/// `site a [ m[ k() => out(m) : go(b, k) ] : 0 ] site b [ none : 0 ]`, in which `a` is the binder
+/// 0.
 pub fn a_place_that_leaves(alloc: Global) -> Result<Numbered, Memory> {
     let defs = one_def(alloc, leaving_place(alloc)?)?;
     let a = SiteTerm {
@@ -93,7 +94,8 @@ pub fn a_place_to_come(alloc: Global) -> Result<Numbered, Memory> {
     open_one(alloc, 0, defs, signal(alloc, 1))
 }
 
-/// `site s [ m[ none : halt() ] and d() => 0 : fail(m, d) ]`, in which `m` and `d` are the binders 1 and 2.
+/// `site s [ m[ none : halt() ] and d() => 0 : fail(m, d) ]`, in which `m` and `d` are the binders
+/// 1 and 2.
 pub fn a_place_that_halts(alloc: Global) -> Result<Numbered, Memory> {
     let halts = place(alloc, 1, no_defs(alloc), Proc::halt())?;
     let hears = rule(alloc, 2, &[], nothing(alloc))?;
@@ -101,7 +103,8 @@ pub fn a_place_that_halts(alloc: Global) -> Result<Numbered, Memory> {
     open_one(alloc, 0, defs, Proc::fail(Ref::Binder(1), Ref::Binder(2)))
 }
 
-/// `site s [ x(u) => 0 and m[ none : go(x, x) ] : x() & go(s, x) ]`, in which `x`, `u` and `m` are the binders 1 to 3.
+/// `site s [ x(u) => 0 and m[ none : go(x, x) ] : x() & go(s, x) ]`, in which `x`, `u` and `m` are
+/// the binders 1 to 3.
 pub fn nothing_to_happen(alloc: Global) -> Result<Numbered, Memory> {
     let takes = rule(alloc, 1, &[2], nothing(alloc))?;
     let moves = Proc::go(Ref::Binder(1), Ref::Binder(1));

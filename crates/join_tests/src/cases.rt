@@ -9,8 +9,8 @@ use std::alloc::Global;
 use std::process::Abort;
 use std::test::Fail;
 
-/// The words, the text as its pieces, each so many times, and what comes of them: the status, the bytes on the two
-/// sinks, and how many events are kept.
+/// The words, the text as its pieces, each so many times, and what comes of them: the status, the
+/// bytes on the two sinks, and how many events are kept.
 pub struct Case {
     pub words: &'static [&'static str],
     pub text: &'static [(u32, &'static str)],

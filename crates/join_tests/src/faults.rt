@@ -12,7 +12,8 @@ const FIRST: &[u8] = b"observe out/1; site s [ x(u) => out(u) : x(s) ]";
 
 const WORDS: [&str; 3] = ["alone", "--budget", "10"];
 
-/// Whichever read fails, also the one that would find the end, nothing but the line of the fault is written.
+/// Whichever read fails, also the one that would find the end, nothing but the line of the fault is
+/// written.
 #[test]
 fn each_read_fails(rt: HostRuntime) -> Result<(), Fail> {
     for read in &[1, 2, 3, 4] {

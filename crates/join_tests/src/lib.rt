@@ -1,4 +1,5 @@
-//! Tests of the whole program: worked cases, faults and terms, from the bytes read to the bytes written.
+//! Tests of the whole program: worked cases, faults and terms, from the bytes read to the bytes
+//! written.
 #![tactic(auto)]
 
 #[cfg(test)]

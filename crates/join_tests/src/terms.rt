@@ -138,7 +138,8 @@ fn the_kept_event(rt: HostRuntime) -> Result<(), Fail> {
     Ok(())
 }
 
-/// How many observables, and how many messages and requests, the replay of a kept journal ends with.
+/// How many observables, and how many messages and requests, the replay of a kept journal ends
+/// with.
 fn replayed(alloc: Global, text: &str) -> Result<Option<(usize, usize)>, Memory> {
     let run = run(alloc, "10", text)?;
     let Some(kept) = run.ended.kept.as_ref() else {

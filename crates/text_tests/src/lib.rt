@@ -1,5 +1,5 @@
-//! Tests of what leads from bytes and words to a program: sources and sinks, the words of a line, tokens, trees and
-//! programs.
+//! Tests of what leads from bytes and words to a program: sources and sinks, the words of a line,
+//! tokens, trees and programs.
 #![tactic(auto)]
 
 #[cfg(test)]

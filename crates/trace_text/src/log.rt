@@ -45,8 +45,8 @@ fn each_reaction_takes(book: &Book)
     event_is_a_reduction();
 }
 
-/// The text of the log of these parts, the last of which is the text of a trace, whether or not the events are a run of
-/// the source. It fails for want of memory alone.
+/// The text of the log of these parts, the last of which is the text of a trace, whether or not the
+/// events are a run of the source. It fails for want of memory alone.
 pub fn log_of_parts(
     alloc: Global,
     source: &[u8],

@@ -1,6 +1,7 @@
 -- Formats: which fields stand one behind the other, what bytes spell by a format, and where they
 -- are wrong first.
-use Rattle.std.specs.Prelude.{◌≡◌, ℕ, ◌+◌, ◌<◌, ◌^◌, List, [], ◌∷◌, ◌++◌, length, Bool, true, false, ◌⊎◌}
+use Rattle.std.specs.Prelude.{◌≡◌, ℕ, ◌+◌, ◌<◌, ◌^◌, List, [], ◌∷◌, ◌++◌, length, Bool, true, false}
+use Rattle.std.specs.Prelude.{◌⊎◌}
 use Rattle.std.specs.Int.{w32, w64, to_be_bytes}
 
 -- how many bytes a field has

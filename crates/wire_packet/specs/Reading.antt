@@ -1,6 +1,7 @@
 -- Reading a format from left to right: private contracts alone cite this. An error is how many
 -- bytes are left where the field that is wrong begins.
-use Rattle.std.specs.Prelude.{◌≡◌, ℕ, List, [], ◌∷◌, length, take, drop, Result, Ok, Err, nat_lt, if◌then◌else◌}
+use Rattle.std.specs.Prelude.{◌≡◌, ℕ, List, [], ◌∷◌, length, take, drop, Result, Ok, Err, nat_lt}
+use Rattle.std.specs.Prelude.{if◌then◌else◌}
 use Rattle.std.specs.Int.{w32, w64, from_be_bytes}
 use Rattle.wire_packet.specs.ParcelFacts.{ParcelParts}
 use Rattle.wire_packet.specs.declared.fault.Fault.{Fault}

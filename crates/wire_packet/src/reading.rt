@@ -1,14 +1,20 @@
 // Bytes read as a packet, from left to right.
-ghost use Rattle.std.specs.Prelude.{◌≡◌, ◌+◌, ◌++◌, ◌≤◌, ◌<◌, ◌^◌, ◌↔◌, ℕ, List, [], ◌==◌, ◌&&◌, ◌||◌, length, not, Ok, Err, IfOk, IfErr};
+ghost use Rattle.std.specs.Prelude.{◌≡◌, ◌+◌, ◌++◌, ◌≤◌, ◌<◌, ◌^◌, ◌↔◌, ℕ, List, [], ◌==◌, ◌&&◌};
+ghost use Rattle.std.specs.Prelude.{◌||◌, length, not, Ok, Err, IfOk, IfErr};
 ghost use Rattle.chem_model.specs.Each.{Each};
 ghost use Rattle.chem_model.specs.declared.name.Name.{Name};
 ghost use Rattle.wire_packet.specs.declared.fault.DecodeEnd.TheVariants as end;
 ghost use Rattle.wire_packet.specs.declared.parcel.Packet.{Packet};
 ghost use Rattle.wire_packet.specs.ParcelFacts.{IsParcel, waiting_ids};
 ghost use Rattle.wire_packet.specs.Format.{one, four, eight, Spells, WrongAt, HasOneOutcome};
-ghost use Rattle.wire_packet.specs.Packets.{one_name, names, message_after, message_body, packets, two_names, one_ask, above, one_request, may_request, request_list, parcel_body, group_member, group_list, one_waiting, waiting_list, has, may_site as site_may_be, may_k as k_may_be};
+ghost use Rattle.wire_packet.specs.Packets.{one_name, names, message_after, message_body, packets};
+ghost use Rattle.wire_packet.specs.Packets.{two_names, one_ask, above, one_request, may_request};
+ghost use Rattle.wire_packet.specs.Packets.{request_list, parcel_body, group_member, group_list};
+ghost use Rattle.wire_packet.specs.Packets.{one_waiting, waiting_list, has};
+ghost use Rattle.wire_packet.specs.Packets.{may_site as site_may_be, may_k as k_may_be};
 ghost use Rattle.wire_packet.specs.Codec.{IsSpelledBy, NamesWrong, IsOrMemory};
-ghost use Rattle.wire_packet.specs.Reading.{Gives, Reads, number_at, read, drafted, ended as no_more};
+ghost use Rattle.wire_packet.specs.Reading.{Gives, Reads, number_at, read, drafted};
+ghost use Rattle.wire_packet.specs.Reading.{ended as no_more};
 ghost use Rattle.wire_packet.specs.Ids.{holds};
 
 use crate::fault::{DecodeEnd, Fault};

@@ -3,8 +3,11 @@ ghost use Rattle.std.specs.Prelude.{◌≡◌, ◌++◌, ◌<◌, ◌^◌, OnOk,
 ghost use Rattle.std.specs.List.{flat_map};
 ghost use Rattle.chem_model.specs.Each.{Each};
 ghost use Rattle.wire_packet.specs.Format.{four, digits};
-ghost use Rattle.wire_packet.specs.Spelling.{pair, name_bytes, message, group, waiting_message, ask_bytes, request, parcel};
-ghost use Rattle.wire_packet.specs.Allowed.{IsPair, IsName, IsMessageValue, IsWaitingValue, IsGroupValue, IsAskValue, IsRequestValue, IsParcelValue};
+ghost use Rattle.wire_packet.specs.Spelling.{pair, name_bytes, message, group, waiting_message};
+ghost use Rattle.wire_packet.specs.Spelling.{ask_bytes, request, parcel};
+ghost use Rattle.wire_packet.specs.Allowed.{IsPair, IsName, IsMessageValue, IsWaitingValue};
+ghost use Rattle.wire_packet.specs.Allowed.{IsGroupValue, IsAskValue, IsRequestValue};
+ghost use Rattle.wire_packet.specs.Allowed.{IsParcelValue};
 ghost use Rattle.wire_packet.specs.Codec.{IsSpelledBy};
 
 use crate::packet::{Ask, GroupInst, Msg, Request, Waiting};
