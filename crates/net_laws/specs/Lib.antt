@@ -1,0 +1,13 @@
+pub mod Site
+pub mod Net
+pub mod Changes
+pub mod Kept
+pub mod Holding
+pub mod Posting
+pub mod Parcels
+pub mod Opening
+pub mod Choices
+pub mod Play
+pub mod Enabled
+pub mod Parts
+pub mod Rounds

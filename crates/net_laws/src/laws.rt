@@ -1,0 +1,94 @@
+// The laws of sites and networks. Whoever calls one of these functions has its law, for whatever
+// rules groups stand for.
+ghost use Rattle.std.specs.Prelude.{List};
+ghost use Rattle.chem_model.specs.declared.numbered.NumberedRule.{NumberedRule};
+ghost use Rattle.wire_packet.specs.declared.packet.GroupInst.{GroupInst};
+ghost use Rattle.net_laws.specs.Site.{Told};
+ghost use Rattle.net_laws.specs.Parcels.{ParcelCarries};
+ghost use Rattle.net_laws.specs.Parts.{ReactionOfAPart, DetectionOfAPart, HaltOfAPart, MoveOfAPart};
+ghost use Rattle.net_laws.specs.Parts.{DeliveryToAPart, MoveOfTwoParts};
+ghost use Rattle.net_laws.specs.Choices.{ChoiceIsOneEvent};
+ghost use Rattle.net_laws.specs.Enabled.{NoChoiceIsQuiet, ChoicesCanBeMade};
+ghost use Rattle.net_laws.specs.Opening.{StartStands};
+ghost use Rattle.net_laws.specs.Play.{NetworkRuns, ChoicesReplay};
+ghost use Rattle.net_laws.specs.Rounds.{RoundIsChoices};
+
+/// A reaction of a site is one React of each sound solution of which the site is a part, whatever
+/// else stands in that. It does nothing.
+pub fn reaction_of_a_part()
+    ensures { (rules_of : GroupInst → List NumberedRule) → ReactionOfAPart rules_of }
+{}
+
+/// A site that meets a request to detect a failure makes one Detect. It does nothing.
+pub fn detection_of_a_part()
+    ensures { (rules_of : GroupInst → List NumberedRule) → DetectionOfAPart rules_of }
+{}
+
+/// A site that meets a request to halt makes one Halt. It does nothing.
+pub fn halt_of_a_part()
+    ensures { (rules_of : GroupInst → List NumberedRule) → HaltOfAPart rules_of }
+{}
+
+/// A site that meets a request to go to the host that a location has already makes one Go. It does
+/// nothing.
+pub fn move_of_a_part()
+    ensures { (rules_of : GroupInst → List NumberedRule) → MoveOfAPart rules_of }
+{}
+
+/// Two sites, of which the one hands a location to the other, make one Go. It does nothing.
+pub fn move_of_two_parts()
+    ensures { (rules_of : GroupInst → List NumberedRule) → MoveOfTwoParts rules_of }
+{}
+
+/// A message that comes to its home stood for the same before. It does nothing.
+pub fn delivery_to_a_part()
+    ensures { (rules_of : GroupInst → List NumberedRule) → DeliveryToAPart rules_of }
+{}
+
+/// What arrives in a parcel is what was packed, where the code tells of each group what was told
+/// when it was laid. It does nothing.
+pub fn parcel_carries()
+    ensures { (told : GroupInst → Told) → ParcelCarries told }
+{}
+
+/// Where a network stands for a solution, a choice is one event of that solution, or none, and the
+/// network then stands for what this leads to. It does nothing.
+pub fn choice_is_one_event()
+    ensures { (rules_of : GroupInst → List NumberedRule) → ChoiceIsOneEvent rules_of }
+{}
+
+/// For every list of choices, the events replay from the solution for which the network stood, to
+/// one for which it then stands. It does nothing.
+pub fn choices_replay()
+    ensures { (rules_of : GroupInst → List NumberedRule) → ChoicesReplay rules_of }
+{}
+
+/// A network in which only locations stand, and whose sites then open one after another, stands for
+/// the program's opening. It does nothing.
+pub fn start_stands()
+    ensures { (rules_of : GroupInst → List NumberedRule) → StartStands rules_of }
+{}
+
+/// From a program's start on, for every list of choices, the events replay from the program, what
+/// they pass is a run of the machine, and no choice is enabled exactly where nothing is under way
+/// and the machine is quiet. It does nothing.
+pub fn network_runs()
+    ensures { (rules_of : GroupInst → List NumberedRule) → NetworkRuns rules_of }
+{}
+
+/// No choice is enabled exactly where nothing is under way and no event of the solution is
+/// possible. It does nothing.
+pub fn no_choice_is_quiet()
+    ensures { (rules_of : GroupInst → List NumberedRule) → NoChoiceIsQuiet rules_of }
+{}
+
+/// Each choice that is enabled can be made, where the code runs. It does nothing.
+pub fn choices_can_be_made()
+    ensures { (rules_of : GroupInst → List NumberedRule) → ChoicesCanBeMade rules_of }
+{}
+
+/// Where all sites are lent at once, each with its mail, and come back in order, what they did are
+/// choices of the network, site after site. It does nothing.
+pub fn round_is_choices()
+    ensures { (rules_of : GroupInst → List NumberedRule) → RoundIsChoices rules_of }
+{}

@@ -1,0 +1,14 @@
+//! What a site, a part of a solution and a network stand for, and the laws of their events: no
+//! code, definitions and laws alone. What a call does at a site is a function of what contracts see
+//! of that (`put`, `lay`, `pour_here`, `pack`, `remove`, `take_in`); a site is a part of a numbered
+//! solution beside any other rules and atoms; and what a site or a network does is one event of
+//! that solution, or none.
+#![tactic(auto)]
+
+mod laws;
+
+pub use laws::{
+    choice_is_one_event, choices_can_be_made, choices_replay, delivery_to_a_part,
+    detection_of_a_part, halt_of_a_part, move_of_a_part, move_of_two_parts, network_runs,
+    no_choice_is_quiet, parcel_carries, reaction_of_a_part, round_is_choices, start_stands,
+};
