@@ -1,0 +1,15 @@
+//! Queues of messages, gathered in groups, as linked cells of one slab, with status words that tell
+//! which queues hold a message: the queues of join definitions (Le Fessant and Maranget, *Compiling
+//! Join Patterns*, 1998).
+#![tactic(auto)]
+
+mod cells;
+mod groups;
+mod rows;
+#[cfg(test)]
+mod tests;
+mod walk;
+
+pub use groups::Groups;
+pub use rows::Idle;
+pub use walk::Iter;

@@ -1,0 +1,115 @@
+// Queues of numbers. The expected values were worked out by hand.
+use crate::groups::Groups;
+use crate::rows::Idle;
+use chem_model::Memory;
+use std::process::Abort;
+use std::test::Fail;
+
+type Numbers = Groups<u32, u64>;
+
+fn put(rt: &impl Abort, groups: &mut Numbers, group: usize, chan: u32, message: u64)
+-> Result<(), Memory> {
+    assert!(rt; group < groups.len());
+    assert!(rt; chan < groups.width(group));
+    groups.push_back(group, chan, message).map_err(|back| back.1)
+}
+
+fn expect_queue(rt: &impl Abort, groups: &Numbers, group: usize, chan: u32, want: &[u64]) {
+    assert!(rt; group < groups.len());
+    assert!(rt; chan < groups.width(group));
+    assert_eq!(rt; groups.front(group, chan), want.first());
+    let mut place = 0;
+    for message in groups.queue(group, chan) {
+        assert!(rt; place < want.len());
+        assert_eq!(rt; *message, want[place]);
+        place += 1;
+    }
+    assert_eq!(rt; place, want.len());
+}
+
+fn expect_taken(rt: &impl Abort, groups: &mut Numbers, group: usize, chan: u32, want: u64) {
+    assert!(rt; group < groups.len());
+    assert!(rt; chan < groups.width(group));
+    assert!(rt; groups.front(group, chan).is_some());
+    assert_eq!(rt; groups.take_front(group, chan), want);
+}
+
+fn expect_told(rt: &impl Abort, groups: &Numbers, group: usize, told: u32, width: u32) {
+    assert!(rt; group < groups.len());
+    assert_eq!(rt; *groups.told(group), told);
+    assert_eq!(rt; groups.width(group), width);
+}
+
+fn expect_covers(rt: &impl Abort, groups: &Numbers, group: usize, mask: &[u64], want: bool) {
+    assert!(rt; group < groups.len());
+    assert_eq!(rt; mask.len(), (groups.width(group) as usize).div_ceil(64));
+    assert_eq!(rt; groups.covers(group, mask), want);
+}
+
+fn clear(rt: &impl Abort, groups: &mut Numbers, group: usize, chan: u32) {
+    assert!(rt; group < groups.len());
+    assert!(rt; chan < groups.width(group));
+    groups.clear(group, chan);
+}
+
+fn remove(rt: &impl Abort, groups: &mut Numbers, group: usize) {
+    assert!(rt; group < groups.len());
+    groups.remove(group);
+}
+
+#[test]
+fn messages_are_taken_in_order(rt: HostRuntime) -> Result<(), Fail> {
+    let mut groups = Groups::new(rt.alloc());
+    groups.add(rt.alloc(), 7, 2)?;
+    groups.reserve_groups(1)?;
+    groups.add_reserved(Idle::new(rt.alloc(), 8, 65)?);
+    groups.reserve(6)?;
+    for number in 0..3 {
+        put(&rt, &mut groups, 0, 0, number)?;
+        put(&rt, &mut groups, 1, 64, number + 10)?;
+        put(&rt, &mut groups, 0, 1, number + 20)?;
+    }
+    expect_told(&rt, &groups, 1, 8, 65);
+    expect_queue(&rt, &groups, 0, 0, &[0, 1, 2]);
+    expect_queue(&rt, &groups, 0, 1, &[20, 21, 22]);
+    expect_queue(&rt, &groups, 1, 63, &[]);
+    expect_covers(&rt, &groups, 0, &[3], true);
+    expect_covers(&rt, &groups, 1, &[0, 1], true);
+    expect_covers(&rt, &groups, 1, &[1, 1], false);
+    expect_taken(&rt, &mut groups, 0, 0, 0);
+    expect_taken(&rt, &mut groups, 1, 64, 10);
+    put(&rt, &mut groups, 1, 0, 30)?;
+    expect_covers(&rt, &groups, 1, &[1, 1], true);
+    expect_taken(&rt, &mut groups, 1, 64, 11);
+    expect_taken(&rt, &mut groups, 1, 64, 12);
+    expect_covers(&rt, &groups, 1, &[1, 1], false);
+    expect_queue(&rt, &groups, 0, 0, &[1, 2]);
+    clear(&rt, &mut groups, 0, 0);
+    expect_queue(&rt, &groups, 0, 0, &[]);
+    expect_covers(&rt, &groups, 0, &[3], false);
+    expect_queue(&rt, &groups, 0, 1, &[20, 21, 22]);
+    Ok(())
+}
+
+#[test]
+fn a_group_in_the_middle_is_removed(rt: HostRuntime) -> Result<(), Fail> {
+    let mut groups = Groups::new(rt.alloc());
+    for told in 0..3 {
+        groups.add(rt.alloc(), told, 2)?;
+    }
+    for group in 0..3 {
+        put(&rt, &mut groups, group, 0, group as u64)?;
+        put(&rt, &mut groups, group, 1, 10)?;
+    }
+    remove(&rt, &mut groups, 1);
+    assert_eq!(rt; groups.len(), 2);
+    expect_told(&rt, &groups, 1, 2, 2);
+    put(&rt, &mut groups, 0, 0, 20)?;
+    put(&rt, &mut groups, 1, 0, 21)?;
+    put(&rt, &mut groups, 0, 0, 22)?;
+    expect_queue(&rt, &groups, 0, 0, &[0, 20, 22]);
+    expect_queue(&rt, &groups, 0, 1, &[10]);
+    expect_queue(&rt, &groups, 1, 0, &[2, 21]);
+    expect_queue(&rt, &groups, 1, 1, &[10]);
+    Ok(())
+}
