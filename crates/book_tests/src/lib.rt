@@ -4,6 +4,8 @@
 #[cfg(test)]
 mod books;
 #[cfg(test)]
+mod reading;
+#[cfg(test)]
 mod rings;
 #[cfg(test)]
 mod texts;
