@@ -1,2 +1,9 @@
 pub mod Lists
 pub mod Taking
+pub mod Fronts
+pub mod Outcome
+pub mod Pieces
+pub mod FromFields
+pub mod ToFields
+pub mod WholeLog
+pub mod Steps

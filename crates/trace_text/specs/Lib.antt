@@ -1,5 +1,9 @@
 pub mod TraceText
 pub mod LogText
+pub mod Fields
+pub mod LogFields
 pub mod Later
 pub mod Bounds
 pub mod Printed
+pub mod Reading
+pub mod ReadLog

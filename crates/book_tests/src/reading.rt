@@ -1,0 +1,109 @@
+// Logs read back, and bytes that are no log. The places were counted by hand.
+use chem_model::{AtomId, Event};
+use std::alloc::Global;
+use std::test::Fail;
+use trace_text::{LogEnd, log_of_parts, read_log};
+
+/// The log of a run of one event.
+const LOG: &[u8] =
+    b"joinlog 1\nsource 47\nobserve out/1; site s [ x(u) => out(u) : x(s) ]\nbudget 10\nevents 1\nreact 0.2 0.3\ntrace 17\nout(s)\nquiescent\n";
+
+/// Where the fields of that log begin. A number that ends with the input is a whole number, so within
+/// one of two digits the field behind it begins.
+const FIELDS: &[usize] = &[
+    0, 17, 18, 19, 20, 67, 75, 76, 77, 85, 86, 87, 93, 94, 95, 96, 97, 98, 99, 100, 101, 107, 108, 109, 110,
+];
+
+const EACH_KIND: &[u8] =
+    b"joinlog 1\nsource 0\n\nbudget 1000000\nevents 4\nreact 0.2 0.3 4294967295.18446744073709551615\nmove 4294967295.18446744073709551615\nhalt 10.100\ndetect 7.0\ntrace 8\nstopped\n";
+
+/// Bytes that are no log, and where they are wrong first. The line of an event begins at 38, and what
+/// follows `halt 7.0` at 47.
+const WRONG: &[(&[u8], u64)] = &[
+    (b"joinlog 2\nsource 0", 0),
+    (b"joinlog 1\nsource 00\n", 17),
+    (b"joinlog 1\nsource 047\n", 17),
+    (b"joinlog 1\nsource +1\n", 17),
+    (b"joinlog 1\nsource 1048577\n", 17),
+    (b"joinlog 1\nsource 1048576\nab", 25),
+    (b"joinlog 1\nsource 0\n\nBudget 1\nevents 0\ntrace 0\n", 19),
+    (b"joinlog 1\nsource 0\n\nbudget 1000001\nevents 0\ntrace 0\n", 27),
+    (b"joinlog 1\nsource 0\n\nbudget 1\nevents 2\nhalt 7.0\nhalt 7.0\ntrace 0\n", 36),
+    (b"joinlog 1\nsource 0\n\nbudget 1\nevents 1\nmoves 0.1\n", 38),
+    (b"joinlog 1\nsource 0\n\nbudget 1\nevents 1\nmove 4294967296.0\n", 43),
+    (b"joinlog 1\nsource 0\n\nbudget 1\nevents 1\nmove 4294967295.18446744073709551616\n", 54),
+    (b"joinlog 1\nsource 0\n\nbudget 1\nevents 1\nreact 0.1\n", 47),
+    (b"joinlog 1\nsource 0\n\nbudget 1\nevents 1\nreact 0.1 0.2;", 51),
+    (b"joinlog 1\nsource 0\n\nbudget 1\nevents 1\nreact 0.1 0.2 \n", 52),
+    (b"joinlog 1\nsource 0\n\nbudget 1\nevents 1\nhalt 7.0\nTrace 0\n", 47),
+    (b"joinlog 1\nsource 0\n\nbudget 1\nevents 1\nhalt 7.0\ntrace 18446744073709551616\n", 53),
+    (b"joinlog 1\nsource 0\n\nbudget 1\nevents 1\nhalt 7.0\ntrace 3\nab", 55),
+    (b"joinlog 1\nsource 0\n\nbudget 1\nevents 1\nhalt 7.0\ntrace 1\nab", 56),
+];
+
+/// Where bytes are wrong first, if they are no log.
+fn wrong_at(alloc: Global, bytes: &[u8]) -> Result<Option<u64>, Fail> {
+    match read_log(alloc, bytes) {
+        Ok(_) => Ok(None),
+        Err(LogEnd::Bad { place }) => Ok(Some(place)),
+        Err(LogEnd::Memory) => Err("out of memory".into()),
+    }
+}
+
+/// The last field of `LOG` that begins at this place or before.
+fn field_before(place: usize) -> u64 {
+    let mut last = 0;
+    for field in FIELDS {
+        if *field <= place {
+            last = *field as u64;
+        }
+    }
+    last
+}
+
+#[test]
+fn the_first_field_that_is_wrong(rt: HostRuntime) -> Result<(), Fail> {
+    for (place, _) in LOG.iter().enumerate() {
+        let (front, _) = LOG.split_at(place);
+        assert_eq!(rt; wrong_at(rt.alloc(), front)?, Some(field_before(place)));
+    }
+    for (bytes, place) in WRONG {
+        assert_eq!(rt; wrong_at(rt.alloc(), bytes)?, Some(*place));
+    }
+    Ok(())
+}
+
+/// The text of the log that was read, from its copy.
+fn spelled_again(alloc: Global, bytes: &[u8]) -> Result<bool, LogEnd> {
+    let read = read_log(alloc, bytes)?;
+    let log = read.copy(alloc).map_err(|_memory| LogEnd::Memory)?;
+    let text = log_of_parts(
+        alloc,
+        log.source.as_slice(),
+        log.budget,
+        &log.events,
+        log.trace.as_slice(),
+    )
+    .map_err(|_memory| LogEnd::Memory)?;
+    Ok(text.as_slice() == bytes)
+}
+
+/// The last atom that the first event of a log takes.
+fn last_taken(alloc: Global, bytes: &[u8]) -> Result<Option<AtomId>, LogEnd> {
+    let log = read_log(alloc, bytes)?;
+    match log.events.as_slice().first() {
+        Some(Event::React { took, .. }) => Ok(took.as_slice().last().copied()),
+        _ => Ok(None),
+    }
+}
+
+#[test]
+fn logs_there_and_back(rt: HostRuntime) {
+    let last = AtomId {
+        site: 4_294_967_295,
+        k: 18_446_744_073_709_551_615,
+    };
+    assert_eq!(rt; spelled_again(rt.alloc(), LOG), Ok(true));
+    assert_eq!(rt; spelled_again(rt.alloc(), EACH_KIND), Ok(true));
+    assert_eq!(rt; last_taken(rt.alloc(), EACH_KIND), Ok(Some(last)));
+}
