@@ -40,6 +40,9 @@ pub struct Ended {
 /// Does all that the program does, from its words and the bytes of its source to the bytes on `out`
 /// and `err`. Only workers on threads pass the gate, and there are none yet.
 ///
+/// The clauses are in the words of `specs/RunJoin.antt` and `specs/Task.antt`. They see a source by
+/// the bytes that it has left, and a sink by those that it holds, where these are told.
+///
 /// | status | comes |
 /// |---|---|
 /// | 0 | the run ended quiet, and its whole text was written |
