@@ -1,0 +1,10 @@
+use Rattle.std.proofs.Common.{◌≡◌, drop}
+use Rattle.chem_model.specs.Process.{definitions}
+use Rattle.chem_model.specs.Pour.{name_places}
+use Rattle.guard_compile.specs.Drawing.{drawn}
+use Rattle.guard_compile.proofs.names.Drawing.name_places.Given as goal
+
+abbrev pub invariant-loop-definition : goal.invariant-loop-definition
+invariant-loop-definition l =
+    name_places l.site (definitions (drop l.definition-index l.definition-items)) (drawn l.self)
+    ≡ name_places l.site (definitions l.definition-items) (drawn l.initial.self)
