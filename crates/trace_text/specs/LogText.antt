@@ -34,7 +34,8 @@ events_text (e ∷ events) = event_text e ++ events_text events
 abbrev pub log_text : LogParts → List ℕ
 log_text log =
     codes "joinlog 1\nsource " ++ decimal (length log.source) ++ codes "\n" ++ log.source
-    ++ codes "\nbudget " ++ decimal log.budget ++ codes "\nevents " ++ decimal (length log.events) ++ codes "\n" ++ events_text log.events
+    ++ codes "\nbudget " ++ decimal log.budget
+    ++ codes "\nevents " ++ decimal (length log.events) ++ codes "\n" ++ events_text log.events
     ++ codes "trace " ++ decimal (length log.trace) ++ codes "\n" ++ log.trace
 
 -- a pair of a log: its site is a number of 32 bits, and its number one of 64
@@ -59,3 +60,7 @@ pub record Spells (log : LogParts) (bytes : List ℕ) : Type 0 where
   pub events : length log.events ≤ log.budget
   pub logged : Each IsLogged log.events
   pub trace : length log.trace < 2 ^ 64
+
+-- the log has at most one spelling
+abbrev pub HasOneSpelling : LogParts → Type 0
+HasOneSpelling log = (one other : List ℕ) → Spells log one → Spells log other → one ≡ other

@@ -12,4 +12,9 @@ IsTraceOf b ending text = OnSolution b (λ n. text ≡ trace_text b.program n.na
 
 -- the text spells the log of a book: the source, the budget, the journal, and the text of its trace
 abbrev pub IsLogOf : List ℕ → ℕ → Kept → Ending → List ℕ → Type 0
-IsLogOf source budget b ending text = OnSolution b (λ n. Spells (record { source = source; budget = budget; events = b.journal; trace = trace_text b.program n.named n.trace ending }) text)
+IsLogOf source budget b ending text = OnSolution b (λ n. Spells (record {
+  source = source;
+  budget = budget;
+  events = b.journal;
+  trace = trace_text b.program n.named n.trace ending;
+}) text)

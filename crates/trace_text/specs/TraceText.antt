@@ -1,5 +1,6 @@
 -- The text of a trace: a line an observable, in order, and then how the run ended.
-use Rattle.std.specs.Prelude.{ℕ, ◌+◌, List, [], ◌∷◌, ◌++◌, Bool, true, false, ◌&&◌, not, cond, nat_lt, Option, Some, None, codes, decimal, slice_get, slice_index_or}
+use Rattle.std.specs.Prelude.{ℕ, ◌+◌, List, [], ◌∷◌, ◌++◌, Bool, true, false, ◌&&◌, not, cond}
+use Rattle.std.specs.Prelude.{nat_lt, Option, Some, None, codes, decimal, slice_get, slice_index_or}
 use Rattle.chem_model.specs.declared.name.Name.{Name}
 use Rattle.chem_model.specs.declared.name.Name.TheVariants as name
 use Rattle.chem_model.specs.declared.event.Out.{Out}
@@ -44,7 +45,9 @@ is_in x (y ∷ ys) = cond (same_name y x) true (is_in x ys)
 -- the ranked names in order of first appearance, after these
 abbrev pub ranked_after : ProgramTerms → Naming → List Name → List Name → List Name
 ranked_after p named before [] = before
-ranked_after p named before (x ∷ xs) = ranked_after p named (cond (is_ranked p named x && not (is_in x before)) (before ++ x ∷ []) before) xs
+ranked_after p named before (x ∷ xs) =
+    ranked_after p named
+    (cond (is_ranked p named x && not (is_in x before)) (before ++ x ∷ []) before) xs
 
 -- the arguments of a trace, in order and from left to right
 abbrev pub arguments : List Out → List Name
@@ -63,7 +66,9 @@ place_in x (y ∷ ys) = cond (same_name y x) 0 (place_in x ys + 1)
 
 -- a name that was made: its spelling, and behind it `'` and its rank, from 1, where it has one
 abbrev pub made_text : ProgramTerms → Naming → List Name → Name → List ℕ
-made_text p named ranks x = binder_spelling p (binder_in named x) ++ cond (is_ranked p named x) (codes "'" ++ decimal (place_in x ranks + 1)) []
+made_text p named ranks x =
+    binder_spelling p (binder_in named x)
+    ++ cond (is_ranked p named x) (codes "'" ++ decimal (place_in x ranks + 1)) []
 
 abbrev pub name_text : ProgramTerms → Naming → List Name → Name → List ℕ
 name_text p named ranks (name.Seen i) = seen_spelling p.seen i
@@ -74,11 +79,13 @@ name_text p named ranks (name.Chan s k h) = made_text p named ranks (name.Chan s
 abbrev pub names_text : ProgramTerms → Naming → List Name → List Name → List ℕ
 names_text p named ranks [] = []
 names_text p named ranks (x ∷ []) = name_text p named ranks x
-names_text p named ranks (x ∷ y ∷ more) = name_text p named ranks x ++ codes ", " ++ names_text p named ranks (y ∷ more)
+names_text p named ranks (x ∷ y ∷ more) =
+    name_text p named ranks x ++ codes ", " ++ names_text p named ranks (y ∷ more)
 
 -- the line of an observable
 abbrev pub out_text : ProgramTerms → Naming → List Name → Out → List ℕ
-out_text p named ranks o = seen_spelling p.seen o.on ++ codes "(" ++ names_text p named ranks o.args ++ codes ")\n"
+out_text p named ranks o =
+    seen_spelling p.seen o.on ++ codes "(" ++ names_text p named ranks o.args ++ codes ")\n"
 
 abbrev pub outs_text : ProgramTerms → Naming → List Name → List Out → List ℕ
 outs_text p named ranks [] = []

@@ -1,6 +1,7 @@
-ghost use Rattle.std.specs.Prelude.{◌≡◌, ◌≤◌, ◌++◌, ℕ, List, length, codes, decimal, IfOk, OnOk};
+ghost use Rattle.std.specs.Prelude.{◌≡◌, ◌≤◌, ◌++◌, length, codes, decimal, IfOk, OnOk};
 ghost use Rattle.chem_model.specs.Each.{Each};
-ghost use Rattle.trace_text.specs.LogText.{LogParts, IsPair, IsAtom, Spells, pair_text, atoms_text, event_text, events_text, log_text};
+ghost use Rattle.trace_text.specs.LogText.{LogParts, HasOneSpelling, IsPair, IsAtom, pair_text};
+ghost use Rattle.trace_text.specs.LogText.{atoms_text, event_text, events_text, log_text};
 ghost use Rattle.trace_text.specs.Bounds.{IsBounded, TakesSome};
 ghost use Rattle.trace_text.specs.Printed.{IsLogOf};
 
@@ -11,11 +12,11 @@ use chem_model::{Atoms, Event, Items, Journal, Memory, Text};
 use std::alloc::Global;
 use trace_history::Book;
 
-/// The log of a run: its source, its budget of events, the journal of its book, and the text of its trace, where it
-/// ends so.
+/// The log of a run: its source, its budget of events, the journal of its book, and the text of its
+/// trace, where it ends so.
 ///
-/// Source and trace stand there as they are, each behind its length in bytes, and the journal behind its length in
-/// events.
+/// Source and trace stand there as they are, each behind its length in bytes, and the journal
+/// behind its length in events.
 pub fn log_bytes(
     alloc: Global,
     source: &[u8],
@@ -44,8 +45,8 @@ fn each_reaction_takes(book: &Book)
     event_is_a_reduction();
 }
 
-/// The text of the log of these parts, the last of which is the text of a trace, whether or not the events are a run of
-/// the source. It fails for want of memory alone.
+/// The text of the log of these parts, the last of which is the text of a trace, whether or not the
+/// events are a run of the source. It fails for want of memory alone.
 pub fn log_of_parts(
     alloc: Global,
     source: &[u8],
@@ -53,7 +54,12 @@ pub fn log_of_parts(
     journal: &Journal,
     trace: &[u8],
 ) -> Result<Text, Memory>
-    ensures is { IfOk result (λ text. text ≡ log_text (record { source = source.now; budget = budget; events = journal.now; trace = trace.now })) }
+    ensures is { IfOk result (λ text. text ≡ log_text (record {
+      source = source.now;
+      budget = budget;
+      events = journal.now;
+      trace = trace.now;
+    })) }
     ensures bounded { OnOk result (Each IsBounded journal.now) }
 {
     let mut text = Items::new(alloc);
@@ -68,7 +74,7 @@ pub fn log_of_parts(
 
 /// Each log has at most one spelling.
 pub fn one_spelling()
-    ensures { (log : LogParts) (one other : List ℕ) → Spells log one → Spells log other → one ≡ other }
+    ensures { (log : LogParts) → HasOneSpelling log }
 {}
 
 /// Appends a literal, and a number behind it.
@@ -81,7 +87,8 @@ fn push_field(text: &mut Text, literal: &[u8], number: u64) -> Result<(), Memory
 
 /// Appends a literal, and behind it how many bytes there are, and on a new line the bytes.
 fn push_counted(text: &mut Text, literal: &[u8], bytes: &[u8]) -> Result<(), Memory>
-    ensures { OnOk result (text.new ≡ text.old ++ literal.now ++ decimal (length bytes.now) ++ codes "\n" ++ bytes.now) }
+    ensures { OnOk result (text.new ≡
+        text.old ++ literal.now ++ decimal (length bytes.now) ++ codes "\n" ++ bytes.now) }
 {
     push_field(text, literal, bytes.len() as u64)?;
     push_all(text, b"\n")?;

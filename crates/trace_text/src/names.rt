@@ -1,6 +1,7 @@
 // The names of a trace: their spellings and their ranks.
 ghost use Rattle.std.specs.Prelude.{◌≡◌, ◌<◌, ◌^◌, IfOk, OnOk};
-ghost use Rattle.trace_text.specs.TraceText.{seen_spelling, binder_spelling, is_ranked, is_in, ranked_after, ranked, place_in};
+ghost use Rattle.trace_text.specs.TraceText.{seen_spelling, binder_spelling, is_ranked};
+ghost use Rattle.trace_text.specs.TraceText.{is_in, ranked_after, ranked, place_in};
 
 use chem_model::{Items, Memory, Name, Names, Naming, Outs, Program, binder_in, same_name};
 use std::alloc::Global;

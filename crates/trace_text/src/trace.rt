@@ -1,5 +1,6 @@
 ghost use Rattle.std.specs.Prelude.{◌≡◌, ◌+◌, ◌++◌, codes, decimal, IfOk, OnOk, OnErr};
-ghost use Rattle.trace_text.specs.TraceText.{place_in, name_text, made_text, names_text, out_text, outs_text, ending_text, trace_text};
+ghost use Rattle.trace_text.specs.TraceText.{place_in, name_text, made_text, names_text};
+ghost use Rattle.trace_text.specs.TraceText.{out_text, outs_text, ending_text, trace_text};
 ghost use Rattle.trace_text.specs.Later.{later_text};
 ghost use Rattle.trace_text.specs.Printed.{IsTraceOf};
 
@@ -9,11 +10,12 @@ use chem_model::{Items, Memory, Name, Names, Naming, Out, Outs, Program, Text, b
 use std::alloc::Global;
 use trace_history::Book;
 
-/// The text of a book's trace, where the run ends so: a line for each observable in order, then how the run ended. Each line ends with a line feed.
+/// The text of a book's trace, where the run ends so: a line for each observable in order, then how
+/// the run ended. Each line ends with a line feed.
 ///
-/// A line is the observed name's spelling and, in round brackets, the arguments joined by a comma and a space.
-/// Observed and site-level names are written by their spelling. Any other name has `'` and its rank behind it, which
-/// counts such names from 1 by first appearance in the trace.
+/// A line is the observed name's spelling and, in round brackets, the arguments joined by a comma
+/// and a space. Observed and site-level names are written by their spelling. Any other name has `'`
+/// and its rank behind it, which counts such names from 1 by first appearance in the trace.
 pub fn trace_bytes(alloc: Global, book: &Book, ending: Ending) -> Result<Text, Memory>
     ensures { IfOk result (λ text. IsTraceOf book.now ending text) }
 {
@@ -56,7 +58,8 @@ fn push_outs(
     ranks: &Names,
     outs: &Outs,
 ) -> Result<(), Memory>
-    ensures { OnOk result (text.new ≡ text.old ++ outs_text program.now named.now ranks.now outs.now) }
+    ensures { OnOk result (text.new ≡
+        text.old ++ outs_text program.now named.now ranks.now outs.now) }
 {
     for out in outs.as_slice() {
         push_out(text, program, named, ranks, out)?;
@@ -71,7 +74,8 @@ fn push_out(
     ranks: &Names,
     out: &Out,
 ) -> Result<(), Memory>
-    ensures { OnOk result (text.new ≡ text.old ++ out_text program.now named.now ranks.now out.now) }
+    ensures { OnOk result (text.new ≡
+        text.old ++ out_text program.now named.now ranks.now out.now) }
 {
     push_all(text, seen_spelling(program, out.on))?;
     push_all(text, b"(")?;
@@ -87,7 +91,8 @@ fn push_names(
     ranks: &Names,
     names: &Names,
 ) -> Result<(), Memory>
-    ensures { OnOk result (text.new ≡ text.old ++ names_text program.now named.now ranks.now names.now) }
+    ensures { OnOk result (text.new ≡
+        text.old ++ names_text program.now named.now ranks.now names.now) }
 {
     let members = names.as_slice();
     let [first, others @ ..] = members else {
@@ -106,7 +111,8 @@ fn push_later(
     ranks: &Names,
     names: &[Name],
 ) -> Result<(), Memory>
-    ensures { OnOk result (text.new ≡ text.old ++ later_text program.now named.now ranks.now names.now) }
+    ensures { OnOk result (text.new ≡
+        text.old ++ later_text program.now named.now ranks.now names.now) }
 {
     for name in names {
         push_all(text, b", ")?;
@@ -150,7 +156,8 @@ fn push_made(
 
 /// Appends `'` and the rank of a name.
 fn push_rank(text: &mut Text, ranks: &Names, name: Name) -> Result<(), Memory>
-    ensures { OnOk result (text.new ≡ text.old ++ codes "'" ++ decimal (place_in name ranks.now + 1)) }
+    ensures { OnOk result (text.new ≡
+        text.old ++ codes "'" ++ decimal (place_in name ranks.now + 1)) }
 {
     push_all(text, b"'")?;
     push_number(text, place_in(name, ranks) as u64 + 1)
