@@ -232,6 +232,9 @@ module _ {A : Type 0} (y : A) where
         follows = q.3;
       }
 
+the_log : (made log : LogParts) (bytes : List ℕ) → made ≡ log → Spells made bytes → Spells log bytes
+the_log made log bytes e h = subst (λ (l : LogParts). Spells l bytes) e h
+
 pub log_spelt : (n : ℕ) (log : LogParts) (bytes : List ℕ) → SpellsBy (log_fields n) log bytes → Spells log bytes
 unfolding log_fields
 log_spelt n log bytes h =
@@ -259,4 +262,4 @@ log_spelt n log bytes h =
       logged = events.logged;
       trace = omega (arith, trace.small);
     } in
-    subst (λ (l : LogParts). Spells l bytes) is_log spells
+    the_log made log bytes is_log spells

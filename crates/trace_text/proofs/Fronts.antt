@@ -142,7 +142,8 @@ numeral_is most (d ∷ ds) digits e =
     let q = true_both _ _ p.1 in
     let bits : value_of (d ∷ ds) < 2 ^ 64 = grind (arith, nat_tests, q.1) in
     let alone : d ≡ 48 → length (d ∷ ds) ≡ 1 = λ zero_first. lone d ds zero_first p.0 in
-    (leb-true _ _ q.0, bits, decimal-digits_value own (d ∷ ds) digits (omega arith) alone bits)
+    let some : 0 < length (d ∷ ds) = omega arith in
+    (leb-true _ _ q.0, bits, decimal-digits_value own (d ∷ ds) digits some alone bits)
   where
     lone : (d : ℕ) (ds : List ℕ) → d ≡ 48 → (not (d == 48) || length ds == 0) ≡ true → length (d ∷ ds) ≡ 1
     lone d [] first e = refl
