@@ -6,19 +6,22 @@ use trace_text::{LogEnd, log_of_parts, read_log};
 
 /// The log of a run of one event.
 const LOG: &[u8] =
-    b"joinlog 1\nsource 47\nobserve out/1; site s [ x(u) => out(u) : x(s) ]\nbudget 10\nevents 1\nreact 0.2 0.3\ntrace 17\nout(s)\nquiescent\n";
+    b"joinlog 1\nsource 47\nobserve out/1; site s [ x(u) => out(u) : x(s) ]\nbudget 10\nevents 1\n\
+    react 0.2 0.3\ntrace 17\nout(s)\nquiescent\n";
 
-/// Where the fields of that log begin. A number that ends with the input is a whole number, so within
-/// one of two digits the field behind it begins.
+/// Where the fields of that log begin. A number that ends with the input is a whole one, so within
+/// a number of two digits the field behind it begins, too.
 const FIELDS: &[usize] = &[
-    0, 17, 18, 19, 20, 67, 75, 76, 77, 85, 86, 87, 93, 94, 95, 96, 97, 98, 99, 100, 101, 107, 108, 109, 110,
+    0, 17, 18, 19, 20, 67, 75, 76, 77, 85, 86, 87, 93, 94, 95, 96, 97, 98, 99, 100, 101, 107, 108,
+    109, 110,
 ];
 
-const EACH_KIND: &[u8] =
-    b"joinlog 1\nsource 0\n\nbudget 1000000\nevents 4\nreact 0.2 0.3 4294967295.18446744073709551615\nmove 4294967295.18446744073709551615\nhalt 10.100\ndetect 7.0\ntrace 8\nstopped\n";
+const EACH_KIND: &[u8] = b"joinlog 1\nsource 0\n\nbudget 1000000\nevents 4\n\
+    react 0.2 0.3 4294967295.18446744073709551615\n\
+    move 4294967295.18446744073709551615\nhalt 10.100\ndetect 7.0\ntrace 8\nstopped\n";
 
-/// Bytes that are no log, and where they are wrong first. The line of an event begins at 38, and what
-/// follows `halt 7.0` at 47.
+/// Bytes that are no log, and where they are wrong first. The line of an event begins at 38, and
+/// what follows `halt 7.0` at 47.
 const WRONG: &[(&[u8], u64)] = &[
     (b"joinlog 2\nsource 0", 0),
     (b"joinlog 1\nsource 00\n", 17),
@@ -27,18 +30,54 @@ const WRONG: &[(&[u8], u64)] = &[
     (b"joinlog 1\nsource 1048577\n", 17),
     (b"joinlog 1\nsource 1048576\nab", 25),
     (b"joinlog 1\nsource 0\n\nBudget 1\nevents 0\ntrace 0\n", 19),
-    (b"joinlog 1\nsource 0\n\nbudget 1000001\nevents 0\ntrace 0\n", 27),
-    (b"joinlog 1\nsource 0\n\nbudget 1\nevents 2\nhalt 7.0\nhalt 7.0\ntrace 0\n", 36),
-    (b"joinlog 1\nsource 0\n\nbudget 1\nevents 1\nmoves 0.1\n", 38),
-    (b"joinlog 1\nsource 0\n\nbudget 1\nevents 1\nmove 4294967296.0\n", 43),
-    (b"joinlog 1\nsource 0\n\nbudget 1\nevents 1\nmove 4294967295.18446744073709551616\n", 54),
-    (b"joinlog 1\nsource 0\n\nbudget 1\nevents 1\nreact 0.1\n", 47),
-    (b"joinlog 1\nsource 0\n\nbudget 1\nevents 1\nreact 0.1 0.2;", 51),
-    (b"joinlog 1\nsource 0\n\nbudget 1\nevents 1\nreact 0.1 0.2 \n", 52),
-    (b"joinlog 1\nsource 0\n\nbudget 1\nevents 1\nhalt 7.0\nTrace 0\n", 47),
-    (b"joinlog 1\nsource 0\n\nbudget 1\nevents 1\nhalt 7.0\ntrace 18446744073709551616\n", 53),
-    (b"joinlog 1\nsource 0\n\nbudget 1\nevents 1\nhalt 7.0\ntrace 3\nab", 55),
-    (b"joinlog 1\nsource 0\n\nbudget 1\nevents 1\nhalt 7.0\ntrace 1\nab", 56),
+    (
+        b"joinlog 1\nsource 0\n\nbudget 1000001\nevents 0\ntrace 0\n",
+        27,
+    ),
+    (
+        b"joinlog 1\nsource 0\n\nbudget 1\nevents 2\nhalt 7.0\nhalt 7.0\ntrace 0\n",
+        36,
+    ),
+    (
+        b"joinlog 1\nsource 0\n\nbudget 1\nevents 1\nmoves 0.1\n",
+        38,
+    ),
+    (
+        b"joinlog 1\nsource 0\n\nbudget 1\nevents 1\nmove 4294967296.0\n",
+        43,
+    ),
+    (
+        b"joinlog 1\nsource 0\n\nbudget 1\nevents 1\nmove 4294967295.18446744073709551616\n",
+        54,
+    ),
+    (
+        b"joinlog 1\nsource 0\n\nbudget 1\nevents 1\nreact 0.1\n",
+        47,
+    ),
+    (
+        b"joinlog 1\nsource 0\n\nbudget 1\nevents 1\nreact 0.1 0.2;",
+        51,
+    ),
+    (
+        b"joinlog 1\nsource 0\n\nbudget 1\nevents 1\nreact 0.1 0.2 \n",
+        52,
+    ),
+    (
+        b"joinlog 1\nsource 0\n\nbudget 1\nevents 1\nhalt 7.0\nTrace 0\n",
+        47,
+    ),
+    (
+        b"joinlog 1\nsource 0\n\nbudget 1\nevents 1\nhalt 7.0\ntrace 18446744073709551616\n",
+        53,
+    ),
+    (
+        b"joinlog 1\nsource 0\n\nbudget 1\nevents 1\nhalt 7.0\ntrace 3\nab",
+        55,
+    ),
+    (
+        b"joinlog 1\nsource 0\n\nbudget 1\nevents 1\nhalt 7.0\ntrace 1\nab",
+        56,
+    ),
 ];
 
 /// Where bytes are wrong first, if they are no log.

@@ -1,5 +1,5 @@
 -- What the fields of a log spell is the log's text.
-use Rattle.std.proofs.Common.{◌≡◌, ℕ, zero, suc, ◌+◌, ◌<◌, ◌≤◌, ◌^◌, List, [], ◌∷◌, ◌++◌, length, codes, refl, sym, ap, subst, ◌∙◌, append-nil, append_assoc, arith}
+use Rattle.std.proofs.Common.{◌≡◌, ℕ, zero, suc, ◌<◌, ◌≤◌, List, [], ◌∷◌, ◌++◌, length, codes, refl, sym, ap, subst, ◌∙◌, append-nil, append_assoc, arith}
 use Rattle.std.specs.Prelude.{decimal}
 use Rattle.chem_model.specs.declared.event.AtomId.{AtomId}
 use Rattle.chem_model.specs.declared.event.Event.{Event}
@@ -7,7 +7,7 @@ use Rattle.chem_model.specs.declared.event.Event.TheVariants.{React, Move, Halt,
 use Rattle.chem_model.specs.Each.{Each}
 use Rattle.trace_text.specs.LogText.{LogParts, IsAtom, IsLogged, Spells, pair_text, atoms_text, event_text, events_text, log_text}
 use Rattle.trace_text.proofs.Pieces.{three, four, log_cut}
-use Rattle.trace_text.specs.Fields.{Format, whole, field, word, number, counted, IsNumber, IsWord, SpellsBy}
+use Rattle.trace_text.specs.Fields.{Format, whole, field, number, counted, IsNumber, SpellsBy}
 use Rattle.trace_text.specs.LogFields.{literal, pair, further, taken, one_pair, event_line, lines, counted_text, last_part, events_part, budget_part, log_fields}
 
 -- an atom behind a space, and those behind it
@@ -232,6 +232,9 @@ module _ {A : Type 0} (y : A) where
         follows = q.3;
       }
 
+the_log : (made log : LogParts) (bytes : List ℕ) → made ≡ log → Spells made bytes → Spells log bytes
+the_log made log bytes e h = subst (λ (l : LogParts). Spells l bytes) e h
+
 pub log_spelt : (n : ℕ) (log : LogParts) (bytes : List ℕ) → SpellsBy (log_fields n) log bytes → Spells log bytes
 unfolding log_fields
 log_spelt n log bytes h =
@@ -259,4 +262,4 @@ log_spelt n log bytes h =
       logged = events.logged;
       trace = omega (arith, trace.small);
     } in
-    subst (λ (l : LogParts). Spells l bytes) is_log spells
+    the_log made log bytes is_log spells

@@ -1,5 +1,5 @@
 -- What is at the front of bytes: a field and a rest, in one way, or no such field.
-use Rattle.std.proofs.Common.{◌≡◌, ◌≢◌, ℕ, zero, suc, ◌+◌, ◌-◌, ◌*◌, ◌^◌, ◌<◌, ◌≤◌, Bool, true, false, cond, ltb, leb, eqb, List, [], ◌∷◌, ◌++◌, length, get_or, take, drop, rules, Result, Ok, Err, Option, Some, None, Bor, option_map, refl, sym, ap, subst, ◌∙◌, arith, inl, inr}
+use Rattle.std.proofs.Common.{◌≡◌, ◌≢◌, ℕ, zero, suc, ◌+◌, ◌-◌, ◌*◌, ◌^◌, ◌<◌, ◌≤◌, Bool, true, false, cond, leb, eqb, List, [], ◌∷◌, ◌++◌, length, get_or, take, drop, rules, Ok, Err, Option, Some, None, Bor, option_map, refl, sym, ap, arith, inl, inr}
 use Rattle.std.specs.Prelude.{◌⊎◌, ◌&&◌, ◌||◌, ◌==◌, not, nat_le, nat_lt, decimal, fold, MatchOption}
 use Rattle.std.specs.List.{prefix_len}
 use Rattle.std.proofs.lemmas.Bool.{cases_lt, eqb-true, le-leb, lt-leb, leb-true}
@@ -8,7 +8,7 @@ use Rattle.std.proofs.lemmas.Fmt.{digits_decimal, digits_value-decimal, decimal-
 use Rattle.std.proofs.lemmas.List.{take_at, drop_at, take-append-drop, length-append, length-take}
 use Rattle.std.proofs.lemmas.Str.Parse.{IsNumeralModel, IsDigitsTest, numerals_by_fold}
 use Rattle.trace_text.specs.Fields.{Field, word, number, counted, ValueOf, is_digit, NoDigit, IsWord, IsNumber, IsField, IsNoField}
-use Rattle.trace_text.specs.Reading.{◌>>=◌, behind, first_word, word_at, value_of, is_numeral, number_at, front}
+use Rattle.trace_text.specs.Reading.{behind, first_word, word_at, value_of, is_numeral, front}
 
 -- ---- words
 
@@ -142,7 +142,8 @@ numeral_is most (d ∷ ds) digits e =
     let q = true_both _ _ p.1 in
     let bits : value_of (d ∷ ds) < 2 ^ 64 = grind (arith, nat_tests, q.1) in
     let alone : d ≡ 48 → length (d ∷ ds) ≡ 1 = λ zero_first. lone d ds zero_first p.0 in
-    (leb-true _ _ q.0, bits, decimal-digits_value own (d ∷ ds) digits (omega arith) alone bits)
+    let some : 0 < length (d ∷ ds) = omega arith in
+    (leb-true _ _ q.0, bits, decimal-digits_value own (d ∷ ds) digits some alone bits)
   where
     lone : (d : ℕ) (ds : List ℕ) → d ≡ 48 → (not (d == 48) || length ds == 0) ≡ true → length (d ∷ ds) ≡ 1
     lone d [] first e = refl

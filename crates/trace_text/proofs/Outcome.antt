@@ -1,8 +1,8 @@
 -- What reading gives is what the format says: a value that the bytes spell, or the first wrong field, and never both.
-use Rattle.std.proofs.Common.{◌≡◌, ℕ, zero, suc, ◌+◌, ◌-◌, ◌<◌, ◌≤◌, List, [], ◌∷◌, ◌++◌, length, Result, Ok, Err, refl, sym, ap, subst, ◌∙◌, arith, inl, inr}
+use Rattle.std.proofs.Common.{◌≡◌, ℕ, ◌+◌, ◌-◌, ◌≤◌, List, [], ◌∷◌, length, Result, Ok, Err, refl, sym, subst, ◌∙◌, arith, inl, inr}
 use Rattle.std.specs.Prelude.{◌⊎◌}
 use Rattle.trace_text.specs.Fields.{Field, ValueOf, IsField, Format, whole, field, SpellsBy, WrongBy}
-use Rattle.trace_text.specs.Reading.{◌>>=◌, front, read}
+use Rattle.trace_text.specs.Reading.{read}
 use Rattle.trace_text.proofs.Fronts.{stands, stands_or_not, stands_not, fails, shorter}
 
 -- what the answer says of the bytes

@@ -1,5 +1,5 @@
 -- Reading one member after the other, as a loop does.
-use Rattle.std.proofs.Common.{◌≡◌, ◌≢◌, ℕ, zero, suc, ◌-◌, ◌+◌, ◌≤◌, ◌<◌, List, [], ◌∷◌, ◌++◌, length, codes, Result, Ok, Err, Option, Some, None, refl, sym, ap, subst, ◌∙◌, arith}
+use Rattle.std.proofs.Common.{◌≡◌, ℕ, zero, suc, ◌-◌, ◌+◌, ◌≤◌, ◌<◌, List, [], ◌∷◌, ◌++◌, length, codes, Result, Ok, Err, Option, Some, None, refl, subst, arith}
 use Rattle.std.proofs.lemmas.List.{length-append}
 use Rattle.chem_model.specs.declared.event.AtomId.{AtomId}
 use Rattle.chem_model.specs.declared.event.Event.{Event}
@@ -7,7 +7,7 @@ use Rattle.trace_text.specs.declared.fault.Fault.{Fault}
 use Rattle.trace_text.specs.declared.fault.Fault.TheVariants as fault
 use Rattle.trace_text.specs.Fields.{Format, word}
 use Rattle.trace_text.specs.LogFields.{literal, pair, further, taken, by_mark, event_line, lines}
-use Rattle.trace_text.specs.Reading.{◌>>=◌, behind, first_word, word_at, front, read, ended, FailsAs}
+use Rattle.trace_text.specs.Reading.{◌>>=◌, behind, first_word, front, read, FailsAs}
 
 abbrev later_word : ℕ × List ℕ → Result (ℕ × List ℕ) ℕ
 later_word x = Ok (suc x.0, x.1)

@@ -8,8 +8,8 @@ use Rattle.chem_model.specs.declared.event.Event.TheVariants.{React, Move, Halt,
 use Rattle.chem_model.specs.Each.{Each}
 use Rattle.trace_text.specs.LogText.{LogParts, IsAtom, IsLogged, Spells, pair_text, atoms_text, event_text, events_text, log_text}
 use Rattle.trace_text.proofs.Pieces.{three, four, last_five, log_cut}
-use Rattle.trace_text.specs.Fields.{Format, whole, field, word, number, counted, NoDigit, IsNumber, IsWord, SpellsBy}
-use Rattle.trace_text.specs.LogFields.{literal, pair, further, taken, one_pair, event_words, event_line, lines, counted_text, last_part, events_part, budget_part, log_fields}
+use Rattle.trace_text.specs.Fields.{Format, whole, NoDigit, IsNumber, SpellsBy}
+use Rattle.trace_text.specs.LogFields.{literal, pair, further, taken, one_pair, event_line, lines, counted_text, last_part, events_part, budget_part, log_fields}
 
 pair_cut : (bytes a b c rest : List ℕ) → bytes ≡ (a ++ b ++ c) ++ rest → bytes ≡ a ++ (b ++ (c ++ rest))
 pair_cut bytes a b c rest e = e ∙ three a b c rest

@@ -1,11 +1,11 @@
 -- The fields of a log and its text are the same, and what reading gives is what `read_log` promises.
-use Rattle.std.proofs.Common.{◌≡◌, ℕ, ◌-◌, ◌≤◌, List, length, Result, Ok, Err, refl, ap, inl, inr, arith}
+use Rattle.std.proofs.Common.{◌≡◌, ℕ, ◌-◌, ◌≤◌, List, length, Result, Ok, Err, ap, inl, inr, arith}
 use Rattle.std.specs.Prelude.{◌⊎◌}
 use Rattle.trace_text.specs.declared.fault.LogEnd.{LogEnd}
 use Rattle.trace_text.specs.declared.fault.LogEnd.TheVariants as end
 use Rattle.trace_text.specs.declared.read.Log.{Log}
 use Rattle.trace_text.specs.LogText.{LogParts, Spells}
-use Rattle.trace_text.specs.Fields.{SpellsBy, WrongBy}
+use Rattle.trace_text.specs.Fields.{SpellsBy}
 use Rattle.trace_text.specs.LogFields.{log_fields, WrongAt, HasOneOutcome}
 use Rattle.trace_text.specs.ReadLog.{parts, IsOrMemory}
 use Rattle.trace_text.specs.Reading.{read}

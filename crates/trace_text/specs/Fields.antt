@@ -1,6 +1,7 @@
--- Texts of fields: which fields stand one behind the other, what bytes spell by them, and where they
--- are wrong first.
-use Rattle.std.specs.Prelude.{◌≡◌, ◌≢◌, ℕ, zero, suc, ◌+◌, ◌<◌, ◌≤◌, ◌^◌, List, [], ◌∷◌, ◌++◌, length, Bool, false, ◌&&◌, nat_le, ◌⊎◌, decimal}
+-- Texts of fields: which fields stand one behind the other, what bytes spell by them, and where
+-- they are wrong first.
+use Rattle.std.specs.Prelude.{◌≡◌, ◌≢◌, ◌⊎◌, ℕ, zero, suc, ◌+◌, ◌<◌, ◌≤◌, ◌^◌, nat_le, decimal}
+use Rattle.std.specs.Prelude.{List, [], ◌∷◌, ◌++◌, length, Bool, false, ◌&&◌}
 
 -- A field is one of these words, a number that is at most this, or so many bytes.
 pub data Field : Type 0 where
@@ -57,7 +58,8 @@ pub data Format (A : Type 0) : Type 0 where
 abbrev pub SpellsBy : {A : Type 0} → Format A → A → List ℕ → Type 0
 SpellsBy (whole y) x bytes = (y ≡ x) × (bytes ≡ [])
 SpellsBy (field f next) x bytes =
-    (value : ValueOf f) × (rest : List ℕ) × IsField f value bytes rest × SpellsBy (next value) x rest
+    (value : ValueOf f) × (rest : List ℕ)
+    × IsField f value bytes rest × SpellsBy (next value) x rest
 
 -- The first field that is wrong begins at this place: all fields before it stand where they should.
 -- Behind the last field the first byte is wrong.

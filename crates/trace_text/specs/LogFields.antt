@@ -96,14 +96,15 @@ budget_part n source =
     literal (codes "\nbudget ") (
     field (number 1000000) (events_part n source))
 
--- a log in which each reaction takes at most so many atoms behind its first one
+-- A log in which each reaction takes at most so many atoms behind its first one: a format ends, so
+-- it has such a bound.
 unfoldable pub log_fields : ℕ → Format LogParts
 log_fields n =
     literal (codes "joinlog 1\nsource ") (
     counted_text 1048576 (budget_part n))
 
--- The first field at which these bytes are no log begins at this place. A reaction takes fewer atoms
--- than the input has bytes.
+-- The first field at which these bytes are no log begins at this place. No reaction takes more
+-- atoms than there are bytes.
 abbrev pub WrongAt : List ℕ → ℕ → Type 0
 WrongAt bytes place = WrongBy (log_fields (length bytes)) bytes place
 

@@ -1,11 +1,11 @@
 -- What reading a log promises.
-use Rattle.std.specs.Prelude.{◌≡◌, ℕ, List, Result, Ok, Err, ◌⊎◌}
+use Rattle.std.specs.Prelude.{◌≡◌, ℕ, List, Result, Err, ◌⊎◌}
 use Rattle.trace_text.specs.declared.fault.LogEnd.{LogEnd}
 use Rattle.trace_text.specs.declared.fault.LogEnd.TheVariants as end
 use Rattle.trace_text.specs.declared.read.Log.{Log}
 use Rattle.trace_text.specs.declared.read.Word.{Word}
 use Rattle.trace_text.specs.declared.read.Word.TheVariants as word
-use Rattle.trace_text.specs.LogText.{LogParts, Spells}
+use Rattle.trace_text.specs.LogText.{LogParts}
 use Rattle.trace_text.specs.LogFields.{WrongAt}
 
 -- what a log says

@@ -1,10 +1,13 @@
--- Reading a format from left to right: private contracts alone cite this. An error is how many bytes
--- are left where the field that is wrong begins.
-use Rattle.std.specs.Prelude.{◌≡◌, ℕ, zero, suc, ◌-◌, ◌*◌, ◌+◌, ◌^◌, ◌==◌, ◌&&◌, ◌||◌, not, List, [], ◌∷◌, length, take, drop, Bool, true, false, cond, nat_le, nat_lt, fold, Option, Some, None, Result, Ok, Err}
+-- Reading a format from left to right: private contracts alone cite this. An error is how many
+-- bytes are left where the field that is wrong begins.
+use Rattle.std.specs.Prelude.{◌≡◌, ℕ, suc, ◌-◌, ◌*◌, ◌+◌, ◌^◌, ◌==◌, ◌&&◌, ◌||◌, nat_le, nat_lt}
+use Rattle.std.specs.Prelude.{List, [], ◌∷◌, length, take, drop, fold, Bool, false, not, cond}
+use Rattle.std.specs.Prelude.{Option, Some, None, Result, Ok, Err}
 use Rattle.std.specs.List.{prefix_len}
 use Rattle.trace_text.specs.declared.fault.Fault.{Fault}
 use Rattle.trace_text.specs.declared.fault.Fault.TheVariants as fault
-use Rattle.trace_text.specs.Fields.{Field, word, number, counted, ValueOf, is_digit, Format, whole, field}
+use Rattle.trace_text.specs.Fields.{Field, word, number, counted, ValueOf, is_digit}
+use Rattle.trace_text.specs.Fields.{Format, whole, field}
 
 infixl 10 ◌>>=◌
 abbrev pub ◌>>=◌ : {A B : Type 0} → Result A ℕ → (A → Result B ℕ) → Result B ℕ
@@ -17,7 +20,7 @@ behind [] bytes = Some bytes
 behind (c ∷ w) [] = None
 behind (c ∷ w) (b ∷ bytes) = cond (b == c) (behind w bytes) None
 
--- the one word, or the one that is found among the others
+-- this word where it is there, or the one that is found among the later ones
 abbrev pub first_word : Option (List ℕ) → Result (ℕ × List ℕ) ℕ → Result (ℕ × List ℕ) ℕ
 first_word (Some rest) later = Ok (0, rest)
 first_word None later = later >>= λ x. Ok (suc x.0, x.1)
@@ -39,13 +42,16 @@ is_numeral most (d ∷ digits) =
 
 abbrev pub number_at : ℕ → ℕ → List ℕ → Result (ℕ × List ℕ) ℕ
 number_at most n bytes =
-    cond (is_numeral most (take n bytes)) (Ok (value_of (take n bytes), drop n bytes)) (Err (length bytes))
+    cond (is_numeral most (take n bytes))
+    (Ok (value_of (take n bytes), drop n bytes))
+    (Err (length bytes))
 
 -- the field at the front, and what follows it
 abbrev pub front : (f : Field) → List ℕ → Result (ValueOf f × List ℕ) ℕ
 front (word words) bytes = word_at words bytes
 front (number most) bytes = number_at most (prefix_len is_digit bytes) bytes
-front (counted n) bytes = cond (nat_le n (length bytes)) (Ok (take n bytes, drop n bytes)) (Err (length bytes))
+front (counted n) bytes =
+    cond (nat_le n (length bytes)) (Ok (take n bytes, drop n bytes)) (Err (length bytes))
 
 -- no byte follows
 abbrev pub ended : {A : Type 0} → A → List ℕ → Result A ℕ

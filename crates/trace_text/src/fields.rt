@@ -1,14 +1,15 @@
 // Single fields at the front of bytes, and what is behind them.
-ghost use Rattle.std.specs.Prelude.{◌≡◌, ◌≤◌, ◌<◌, ◌∷◌, [], Some, None, length, take, option_map, IfOk, IfSome, IfNone, true, false, min};
+ghost use Rattle.std.specs.Prelude.{◌≡◌, ◌≤◌, ◌<◌, ◌∷◌, [], Some, None, IfSome, IfNone, IfOk};
+ghost use Rattle.std.specs.Prelude.{length, take, option_map, true, false, min};
 ghost use Rattle.std.specs.List.{prefix_len};
 ghost use Rattle.trace_text.specs.Fields.{word, number, counted, is_digit};
-ghost use Rattle.trace_text.specs.Reading.{Gives, behind as text_behind, front, value_of as digits_value, is_numeral};
+ghost use Rattle.trace_text.specs.Reading.{Gives, behind, front, value_of, is_numeral};
 
 use crate::fault::Fault;
 
 /// What follows a text, where the bytes begin with it.
 pub(crate) fn behind<'a>(bytes: &'a [u8], text: &[u8]) -> Option<&'a [u8]>
-    ensures is { option_map (λ rest. rest.now) result ≡ text_behind text.now bytes.now }
+    ensures is { option_map (λ rest. rest.now) result ≡ behind text.now bytes.now }
     ensures shorter { IfSome result (λ rest. length rest.now ≤ length bytes.now) }
 {
     bytes.strip_prefix(text)
@@ -37,7 +38,7 @@ fn digits_len(bytes: &[u8]) -> usize
 
 /// The value of digits, or 2^64 for a larger one.
 fn value_of(digits: &[u8]) -> u128
-    ensures { result ≡ min (digits_value digits.now) 18446744073709551616 }
+    ensures { result ≡ min (value_of digits.now) 18446744073709551616 }
 {
     let mut value = 0u128;
     for digit in digits {
@@ -48,7 +49,8 @@ fn value_of(digits: &[u8]) -> u128
 
 /// The number that digits are, where it has no leading zero and is at most this.
 fn numeral(digits: &[u8], most: u64) -> Option<u64>
-    ensures some { IfSome result (λ n. (is_numeral most digits.now ≡ true) × (n ≡ digits_value digits.now)) }
+    ensures some { IfSome result (λ n. is_numeral most digits.now ≡ true) }
+    ensures value { IfSome result (λ n. n ≡ value_of digits.now) }
     ensures none { IfNone result (is_numeral most digits.now ≡ false) }
 {
     if let [] | [b'0', _, ..] = digits {

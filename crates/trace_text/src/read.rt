@@ -1,13 +1,13 @@
 // A log read back from its bytes.
-ghost use Rattle.std.specs.Prelude.{◌≡◌, ◌≤◌, ◌<◌, ◌^◌, ◌↔◌, ◌∷◌, [], ℕ, List, Ok, Err, length, IfOk, IfErr};
-ghost use Rattle.chem_model.specs.Each.{Each};
-ghost use Rattle.trace_text.specs.LogText.{LogParts, Spells};
-ghost use Rattle.trace_text.specs.Fields.{SpellsBy, word};
-ghost use Rattle.trace_text.specs.LogFields.{WrongAt, HasOneOutcome, pair as one_pair_field, one_pair, taken, event_words, event_line, lines, counted_text as counted_field, log_fields};
-ghost use Rattle.trace_text.specs.Reading.{Gives, Reads, front, read, ended as no_more};
-ghost use Rattle.trace_text.specs.ReadLog.{parts, index, NamesWrong, IsOrMemory};
+ghost use Rattle.std.specs.Prelude.{◌≡◌, ◌≤◌, ◌<◌, ◌↔◌, [], ℕ, List, Ok, Err, length, IfOk, IfErr};
 ghost use Rattle.trace_text.specs.declared.fault.LogEnd.TheVariants as end;
 ghost use Rattle.trace_text.specs.declared.read.Log.{Log};
+ghost use Rattle.trace_text.specs.LogText.{LogParts, Spells};
+ghost use Rattle.trace_text.specs.Fields.{SpellsBy, word};
+ghost use Rattle.trace_text.specs.LogFields.{WrongAt, HasOneOutcome, log_fields, event_words, pair};
+ghost use Rattle.trace_text.specs.LogFields.{one_pair, taken, event_line, lines, counted_text};
+ghost use Rattle.trace_text.specs.ReadLog.{parts, index, NamesWrong, IsOrMemory};
+ghost use Rattle.trace_text.specs.Reading.{Gives, Reads, front, read, ended};
 
 use crate::fault::{Fault, LogEnd};
 use crate::fields::{behind, counted_at, literal_at, number_at};
@@ -67,7 +67,7 @@ fn word_of(bytes: &[u8]) -> Result<(Word, &[u8]), Fault>
 
 /// A pair: its site, and its number there.
 fn pair_of(bytes: &[u8]) -> Result<(AtomId, &[u8]), Fault>
-    ensures reads { Reads {Z = LogParts} (λ x. x.0) (λ x. x.1.now) one_pair_field bytes.now result }
+    ensures reads { Reads {Z = LogParts} (λ x. x.0) (λ x. x.1.now) pair bytes.now result }
     ensures shorter { IfOk result (λ x. length x.1.now < length bytes.now) }
 {
     let (site, rest) = number_at(bytes, u32::MAX as u64)?;
@@ -153,7 +153,8 @@ fn lines_of(alloc: Global, count: u64, bytes: &[u8]) -> Result<(Journal, &[u8]),
 
 /// Bytes behind their length, which is at most this.
 fn counted_text(bytes: &[u8], most: u64) -> Result<(&[u8], &[u8]), Fault>
-    ensures reads { Reads {Z = LogParts} (λ x. x.0.now) (λ x. x.1.now) (counted_field most) bytes.now result }
+    ensures reads { Reads {Z = LogParts} (λ x. x.0.now) (λ x. x.1.now)
+        (counted_text most) bytes.now result }
     ensures shorter { IfOk result (λ x. length x.1.now ≤ length bytes.now) }
 {
     let (count, rest) = number_at(bytes, most)?;
@@ -163,7 +164,7 @@ fn counted_text(bytes: &[u8], most: u64) -> Result<(&[u8], &[u8]), Fault>
 
 /// No byte may be left.
 fn ended(rest: &[u8]) -> Result<(), Fault>
-    ensures { (log : LogParts) → Gives (λ _. log) result (no_more log rest.now) }
+    ensures { (log : LogParts) → Gives (λ _. log) result (ended log rest.now) }
 {
     match rest {
         [] => Ok(()),
@@ -219,7 +220,8 @@ pub fn read_log(alloc: Global, bytes: &[u8]) -> Result<Log, LogEnd>
     }
 }
 
-/// Bytes spell one log, or they have one field that is wrong first, and never both. It does nothing.
+/// Bytes spell one log, or they have one field that is wrong first, and never both. It does
+/// nothing.
 pub fn one_outcome()
     ensures { (bytes : List ℕ) → HasOneOutcome bytes }
 {}

@@ -1,5 +1,5 @@
 -- A run of digits is no longer than the bytes.
-use Rattle.std.proofs.Common.{◌≤◌, arith}
+use Rattle.std.proofs.Common.{arith}
 use Rattle.std.proofs.lemmas.List.Sums.{prefix_len-le-length}
 use Rattle.trace_text.specs.Fields.{is_digit}
 use Rattle.trace_text.proofs.fields.number_at.Goals as goal

@@ -1,5 +1,4 @@
 -- What was read is the one log, or the one field that is wrong first.
-use Rattle.std.proofs.Common.{◌≡◌, arith}
 use Rattle.trace_text.specs.ReadLog.{parts}
 use Rattle.trace_text.proofs.Steps.{as_wrong}
 use Rattle.trace_text.proofs.WholeLog.{found, found_reads, found_refuses, bad_at_place, bad_reads, bad_refuses}

@@ -1,4 +1,4 @@
-use Rattle.std.proofs.Common.{◌≡◌, ℕ, ◌≤◌, ◌-◌, suc, ◌∷◌, [], ◌∙◌, None, Some, List, length, codes, refl, sym, arith}
+use Rattle.std.proofs.Common.{◌≡◌, ◌≤◌, ◌-◌, suc, ◌∷◌, [], ◌∙◌, None, Some, length, codes, refl, sym, arith}
 use Rattle.std.proofs.lemmas.Result.{err_from_is_err_and}
 use Rattle.std.proofs.lemmas.List.{length-append}
 use Rattle.trace_text.specs.LogFields.{further}
