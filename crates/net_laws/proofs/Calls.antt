@@ -21,7 +21,9 @@ use Rattle.net_laws.specs.Site.{Told, Group, told_in, Site, coded_atom, message_
 use Rattle.loc_tree.specs.Tree.{spot, Tree, number_in, is_alive, is_dead, can_move, with_number}
 use Rattle.net_laws.specs.Net.{Addressed, Net, AllHost, home_or, among, IsOnItsWay}
 use Rattle.net_laws.specs.Changes.{given_all, AreQueues, IsGuard, Takes, Pours, Alters}
-use Rattle.net_laws.proofs.NetEvents.{Reacts, Detects, Halts, MovesWithin, MovesBetween}
+use Rattle.net_laws.specs.Calls.{Keeps}
+use Rattle.net_laws.specs.Parts.{ReactsHere, DetectsHere, HaltsHere, StaysHere, MovesHere}
+use Rattle.chem_laws.proofs.Lists.{true_both}
 use Rattle.net_laws.specs.Kept.{AreDisjoint, AreApart, IsKept}
 use Rattle.net_laws.specs.Holding.{put, request_with, drop_request}
 use Rattle.net_laws.specs.Choices.{effects}
@@ -67,24 +69,18 @@ apart_there l (g ∷ gs) h = go (same_loc l g.told.inst.loc) (apart_there l gs h
     go true ih = (each_at l (AreDisjoint g.told) gs h.0, ih)
     go false ih = ih
 
--- the new site keeps what the old one kept, holds these definitions more, and what it sends is on channels
-pub record Goes (count : ℕ) (s : Site) (ds : List Told) (new : Site) (sends : List Addressed) : Type 0 where
-  pub kept : IsKept new
-  pub told : told_in new.groups ≡ told_in s.groups ++ ds
-  pub sent : Each (IsOnItsWay count) sends
-
 module _ (rules_of : GroupInst → List NumberedRule) where
   -- ---- a reaction: the fronts go, and the body is poured
 
-  pub react_call : (net : Net) (i j : ℕ) (s : Site) (g : Group) (r : NumberedRule) (cs : List ℕ) (ms : List MessageParts) (left : List (List MessageParts)) (next : ℕ) (births : List Loc) (ds : List Told) (ps : List Posted) (outs : List Out)
-      → IsKept s → slice_get s.groups j ≡ Some g → IsGuard rules_of g.told r cs → number_in (spot net.tree r.loc) ≡ Some i → is_alive net.tree r.loc ≡ true → Takes g.queues cs ms left
-      → Gives rules_of i (pour net.seen i (root_of i) (given_all r.pats ms) r.loc s.made r.body) next births ds ps outs → MayPour (length net.sites) net.tree (with_queues s j g left) births ds ps
-      → Reacts rules_of net i s r ms (pour_here net.tree next births ds ps (with_queues s j g left)).site (effects (pour_here net.tree next births ds ps (with_queues s j g left)) outs births)
-      × Goes (length net.sites) s ds (pour_here net.tree next births ds ps (with_queues s j g left)).site (pour_here net.tree next births ds ps (with_queues s j g left)).sends
-  react_call net i j s g r cs ms left next births ds ps outs kept at_j guard hosted lives takes gives may =
+  pub react_call : (seen : List ℕ) (count : ℕ) (t : Tree) (i j : ℕ) (s : Site) (g : Group) (r : NumberedRule) (cs : List ℕ) (ms : List MessageParts) (left : List (List MessageParts)) (next : ℕ) (births : List Loc) (ds : List Told) (ps : List Posted) (outs : List Out)
+      → IsKept s → slice_get s.groups j ≡ Some g → IsGuard rules_of g.told r cs → number_in (spot t r.loc) ≡ Some i → is_alive t r.loc ≡ true → Takes g.queues cs ms left
+      → Gives rules_of i (pour seen i (root_of i) (given_all r.pats ms) r.loc s.made r.body) next births ds ps outs → MayPour count t (with_queues s j g left) births ds ps
+      → ReactsHere rules_of seen t i s r ms (pour_here t next births ds ps (with_queues s j g left)).site (effects (pour_here t next births ds ps (with_queues s j g left)) outs births)
+      × Keeps count s ds (pour_here t next births ds ps (with_queues s j g left))
+  react_call seen count t i j s g r cs ms left next births ds ps outs kept at_j guard hosted lives takes gives may =
       let taken = fronts_go s j g cs ms left kept at_j takes in
-      let made = pour net.seen i (root_of i) (given_all r.pats ms) r.loc s.made r.body in
-      let poured = pour_here_pours rules_of (length net.sites) net.tree i made (with_queues s j g left) next births ds ps outs taken.kept gives may in
+      let made = pour seen i (root_of i) (given_all r.pats ms) r.loc s.made r.body in
+      let poured = pour_here_pours rules_of count t i made (with_queues s j g left) next births ds ps outs taken.kept gives may in
       let at_rule : (x : NumberedAtom) → atoms_of s x ≡ messages_at r.loc ms x + atoms_of (with_queues s j g left) x = λ x.
       taken.atoms x ∙ ap (λ (l : Loc). messages_at l ms x + atoms_of (with_queues s j g left) x) (sym guard.loc) in (
         record {
@@ -98,7 +94,7 @@ module _ (rules_of : GroupInst → List NumberedRule) where
           hosted = hosted;
           alive = lives;
           takes = takes;
-          pours = less_pours rules_of i (messages_at r.loc ms) made s (with_queues s j g left) (pour_here net.tree next births ds ps (with_queues s j g left)).site (effects (pour_here net.tree next births ds ps (with_queues s j g left)) outs births)
+          pours = less_pours rules_of i (messages_at r.loc ms) made s (with_queues s j g left) (pour_here t next births ds ps (with_queues s j g left)).site (effects (pour_here t next births ds ps (with_queues s j g left)) outs births)
               taken.number taken.locs taken.told at_rule poured.pours;
         },
         record { kept = poured.kept; told = poured.told ∙ ap (λ es. es ++ ds) taken.told; sent = poured.sent },
@@ -110,23 +106,23 @@ module _ (rules_of : GroupInst → List NumberedRule) where
   asked_pours : (count : ℕ) (t : Tree) (i : ℕ) (a : Made) (s : Site) (q : Request) (next : ℕ) (births : List Loc) (ds : List Told) (ps : List Posted) (outs : List Out) → IsKept s → request_with q.id s.requests ≡ Some q
       → Gives rules_of i a next births ds ps outs → MayPour count t (drop_request q.id s) births ds ps
       → Pours rules_of i (one coded_atom (request_atom q)) a s (pour_here t next births ds ps (drop_request q.id s)).site (effects (pour_here t next births ds ps (drop_request q.id s)) outs births)
-      × Goes count s ds (pour_here t next births ds ps (drop_request q.id s)).site (pour_here t next births ds ps (drop_request q.id s)).sends
+      × Keeps count s ds (pour_here t next births ds ps (drop_request q.id s))
   asked_pours count t i a s q next births ds ps outs kept there gives may =
       let gone = dropped q s kept there in
       let poured = pour_here_pours rules_of count t i a (drop_request q.id s) next births ds ps outs gone.kept gives may in
       (less_pours rules_of i (one coded_atom (request_atom q)) a s (drop_request q.id s) (pour_here t next births ds ps (drop_request q.id s)).site (effects (pour_here t next births ds ps (drop_request q.id s)) outs births) refl refl refl gone.atoms poured.pours, record { kept = poured.kept; told = poured.told; sent = poured.sent })
 
-  pub detect_call : (net : Net) (i : ℕ) (s : Site) (q : Request) (target : Loc) (cont : Name) (next : ℕ) (births : List Loc) (ds : List Told) (ps : List Posted) (outs : List Out)
-      → IsKept s → request_with q.id s.requests ≡ Some q → q.ask ≡ request.Fail (name.Place target) cont → number_in (spot net.tree q.loc) ≡ Some i → is_alive net.tree q.loc ≡ true → is_dead net.tree target ≡ true
-      → Gives rules_of i (pour net.seen i (root_of i) [] q.loc s.made (continuation (Known cont))) next births ds ps outs → MayPour (length net.sites) net.tree (drop_request q.id s) births ds ps
-      → Detects rules_of net i s q (pour_here net.tree next births ds ps (drop_request q.id s)).site (effects (pour_here net.tree next births ds ps (drop_request q.id s)) outs births)
-      × Goes (length net.sites) s ds (pour_here net.tree next births ds ps (drop_request q.id s)).site (pour_here net.tree next births ds ps (drop_request q.id s)).sends
-  detect_call net i s q target cont next births ds ps outs kept there is hosted lives gone gives may =
-      let poured = asked_pours (length net.sites) net.tree i (pour net.seen i (root_of i) [] q.loc s.made (continuation (Known cont))) s q next births ds ps outs kept there gives may in
-      (record { target = target; cont = cont; is = is; held = request_there s.requests q there; hosted = hosted; alive = lives; target_dead = gone; pours = poured.0 }, poured.1)
+  pub detect_call : (seen : List ℕ) (count : ℕ) (t : Tree) (i : ℕ) (s : Site) (q : Request) (target : Loc) (cont : Name) (next : ℕ) (births : List Loc) (ds : List Told) (ps : List Posted) (outs : List Out)
+      → IsKept s → request_with q.id s.requests ≡ Some q → q.ask ≡ request.Fail (name.Place target) cont → number_in (spot t q.loc) ≡ Some i → is_alive t q.loc ≡ true → is_dead t target ≡ true
+      → Gives rules_of i (pour seen i (root_of i) [] q.loc s.made (continuation (Known cont))) next births ds ps outs → MayPour count t (drop_request q.id s) births ds ps
+      → DetectsHere rules_of seen t i s q (pour_here t next births ds ps (drop_request q.id s)).site (effects (pour_here t next births ds ps (drop_request q.id s)) outs births)
+      × Keeps count s ds (pour_here t next births ds ps (drop_request q.id s))
+  detect_call seen count t i s q target cont next births ds ps outs kept there is hosted lives gone gives may =
+      let poured = asked_pours count t i (pour seen i (root_of i) [] q.loc s.made (continuation (Known cont))) s q next births ds ps outs kept there gives may in
+      (record { target = target; cont = cont; is = is; held = request_there s.requests q there; hosted = hosted; can = true_both (is_alive t q.loc) (is_dead t target) lives gone; pours = poured.0 }, poured.1)
 
-  pub halt_call : (net : Net) (s : Site) (q : Request) → IsKept s → request_with q.id s.requests ≡ Some q → q.ask ≡ request.Halt → is_alive net.tree q.loc ≡ true → Halts rules_of net s q (drop_request q.id s) × IsKept (drop_request q.id s)
-  halt_call net s q kept there is lives =
+  pub halt_call : (t : Tree) (s : Site) (q : Request) → IsKept s → request_with q.id s.requests ≡ Some q → q.ask ≡ request.Halt → is_alive t q.loc ≡ true → HaltsHere rules_of t s q (drop_request q.id s) × IsKept (drop_request q.id s)
+  halt_call t s q kept there is lives =
       let gone = dropped q s kept there in (
         record {
           is = is;
@@ -137,14 +133,14 @@ module _ (rules_of : GroupInst → List NumberedRule) where
         gone.kept,
       )
 
-  pub move_within_call : (net : Net) (i : ℕ) (s : Site) (q : Request) (target : Loc) (cont : Name) (next : ℕ) (births : List Loc) (ds : List Told) (ps : List Posted) (outs : List Out)
-      → IsKept s → request_with q.id s.requests ≡ Some q → q.ask ≡ request.Go (name.Place target) cont → can_move net.tree q.loc target ≡ true → number_in (spot net.tree q.loc) ≡ Some i → target.site ≡ i
-      → Gives rules_of i (pour net.seen i (root_of i) [] q.loc s.made (continuation (Known cont))) next births ds ps outs → MayPour (length net.sites) net.tree (drop_request q.id s) births ds ps
-      → MovesWithin rules_of net i s q (pour_here net.tree next births ds ps (drop_request q.id s)).site (effects (pour_here net.tree next births ds ps (drop_request q.id s)) outs births)
-      × Goes (length net.sites) s ds (pour_here net.tree next births ds ps (drop_request q.id s)).site (pour_here net.tree next births ds ps (drop_request q.id s)).sends
-  move_within_call net i s q target cont next births ds ps outs kept there is can hosted same_site gives may =
-      let poured = asked_pours (length net.sites) net.tree i (pour net.seen i (root_of i) [] q.loc s.made (continuation (Known cont))) s q next births ds ps outs kept there gives may in
-      (record { target = target; cont = cont; may = record { is = is; held = request_there s.requests q there; can = can }; hosted = hosted; same_site = same_site; pours = poured.0 }, poured.1)
+  pub move_within_call : (seen : List ℕ) (count : ℕ) (t : Tree) (i : ℕ) (s : Site) (q : Request) (target : Loc) (cont : Name) (next : ℕ) (births : List Loc) (ds : List Told) (ps : List Posted) (outs : List Out)
+      → IsKept s → request_with q.id s.requests ≡ Some q → q.ask ≡ request.Go (name.Place target) cont → can_move t q.loc target ≡ true → number_in (spot t q.loc) ≡ Some i → target.site ≡ i
+      → Gives rules_of i (pour seen i (root_of i) [] q.loc s.made (continuation (Known cont))) next births ds ps outs → MayPour count t (drop_request q.id s) births ds ps
+      → StaysHere rules_of seen t i s q (pour_here t next births ds ps (drop_request q.id s)).site (effects (pour_here t next births ds ps (drop_request q.id s)) outs births)
+      × Keeps count s ds (pour_here t next births ds ps (drop_request q.id s))
+  move_within_call seen count t i s q target cont next births ds ps outs kept there is can hosted same_site gives may =
+      let poured = asked_pours count t i (pour seen i (root_of i) [] q.loc s.made (continuation (Known cont))) s q next births ds ps outs kept there gives may in
+      (record { target = target; cont = cont; is = is; held = request_there s.requests q there; can = can; hosted = hosted; target_site = same_site; pours = poured.0 }, poured.1)
 
   -- ---- a move between sites: the request goes, its location leaves with all that stands there, and the continuation is poured at the other site
 
@@ -154,29 +150,30 @@ module _ (rules_of : GroupInst → List NumberedRule) where
   abbrev pub arrived : Tree → Request → Site → Site → ℕ → List Posted → Outcome
   arrived t q from into next ps = pour_here t next [] [] ps (take_in (parcel_of q from) into)
 
-  pub move_between_call : (net : Net) (i j : ℕ) (from into : Site) (q : Request) (target : Loc) (cont : Name) (next : ℕ) (ps : List Posted) (outs : List Out)
-      → AllHost net.tree net.sites → (i ≡ j → ⊥) → slice_get net.sites j ≡ Some into
-      → IsKept from → IsKept into → request_with q.id from.requests ≡ Some q → q.ask ≡ request.Go (name.Place target) cont → can_move net.tree q.loc target ≡ true → number_in (spot net.tree q.loc) ≡ Some i → target.site ≡ j
-      → Gives rules_of j (pour net.seen j (root_of j) [] q.loc into.made (continuation (Known cont))) next [] [] ps outs → MayPour (length net.sites) (with_number net.tree q.loc j) (take_in (parcel_of q from) into) [] [] ps
-      → MovesBetween rules_of net i j from into q (remove q.loc (drop_request q.id from)) (arrived (with_number net.tree q.loc j) q from into next ps).site (effects (arrived (with_number net.tree q.loc j) q from into next ps) outs [])
-      × IsKept (remove q.loc (drop_request q.id from)) × Goes (length net.sites) into (parcel_of q from).groups (arrived (with_number net.tree q.loc j) q from into next ps).site (arrived (with_number net.tree q.loc j) q from into next ps).sends
-  move_between_call net i j from into q target cont next ps outs hosts differ at_j kept_from kept_into there is can hosted to_j gives may =
+  pub move_between_call : (seen : List ℕ) (count : ℕ) (t : Tree) (i j : ℕ) (from into : Site) (q : Request) (target : Loc) (cont : Name) (next : ℕ) (ps : List Posted) (outs : List Out)
+      → (among into.locs q.loc ≡ true → ⊥)
+      → IsKept from → IsKept into → request_with q.id from.requests ≡ Some q → q.ask ≡ request.Go (name.Place target) cont → can_move t q.loc target ≡ true → number_in (spot t q.loc) ≡ Some i → target.site ≡ j
+      → Gives rules_of j (pour seen j (root_of j) [] q.loc into.made (continuation (Known cont))) next [] [] ps outs → MayPour count (with_number t q.loc j) (take_in (parcel_of q from) into) [] [] ps
+      → MovesHere rules_of seen t i j from into q (remove q.loc (drop_request q.id from)) (arrived (with_number t q.loc j) q from into next ps).site (effects (arrived (with_number t q.loc j) q from into next ps) outs [])
+      × IsKept (remove q.loc (drop_request q.id from)) × Keeps count into (parcel_of q from).groups (arrived (with_number t q.loc j) q from into next ps)
+  move_between_call seen count t i j from into q target cont next ps outs away kept_from kept_into there is can hosted to_j gives may =
       let l = q.loc in
       let gone = dropped q from kept_from there in
       let p = parcel_of q from in
       let parcel = packed l (drop_request q.id from) gone.kept in
-      let away : among into.locs l ≡ true → ⊥ = λ h. let at : number_in (spot net.tree l) ≡ Some j = ((hosts j into at_j).locs l).0 h in let same : i ≡ j = cc in differ same in
       let apart : AreApart (told_in into.groups ++ p.groups) = apart_both (told_in into.groups) p.groups kept_into.apart (apart_there l from.groups kept_from.apart) (all_elsewhere l into.locs (told_in into.groups) p.groups away kept_into.groups_here parcel.groups) in
       let came = taken_in p into kept_into parcel apart in
-      let made = pour net.seen j (root_of j) [] l into.made (continuation (Known cont)) in
-      let poured = pour_here_pours rules_of (length net.sites) (with_number net.tree l j) j made (take_in p into) next [] [] ps outs came.kept gives may in
+      let made = pour seen j (root_of j) [] l into.made (continuation (Known cont)) in
+      let poured = pour_here_pours rules_of count (with_number t l j) j made (take_in p into) next [] [] ps outs came.kept gives may in
       let leaves = removed_leaves rules_of l (drop_request q.id from) in (
         record {
           target = target;
           cont = cont;
-          rules = load_rules rules_of p;
-          atoms = load_atoms p;
-          may = record { is = is; held = request_there from.requests q there; can = can };
+          with_it = load_rules rules_of p;
+          at_it = load_atoms p;
+          is = is;
+          held = request_there from.requests q there;
+          can = can;
           hosted = hosted;
           target_site = to_j;
           leaves = record {

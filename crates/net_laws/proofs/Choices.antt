@@ -1,7 +1,7 @@
 -- Each choice, as the sites make it, is one event of the solution or none, and the network keeps what it keeps.
 use Rattle.net_laws.proofs.Below.{home_address}
 use Rattle.std.proofs.Math.ListN.{length-set}
-use Rattle.std.proofs.Common.{◌≡◌, ℕ, zero, suc, List, [], ◌∷◌, ◌++◌, Some, sym, ap, subst, slice_get, length, ◌∙◌}
+use Rattle.std.proofs.Common.{true, ◌≡◌, ℕ, zero, suc, List, [], ◌∷◌, ◌++◌, Some, sym, ap, subst, slice_get, length, ◌∙◌}
 use Rattle.std.specs.Prelude.{slice_set}
 use Rattle.chem_model.specs.declared.name.Loc.{Loc}
 use Rattle.chem_model.specs.declared.numbered.NumberedRule.{NumberedRule}
@@ -9,8 +9,8 @@ use Rattle.chem_model.specs.Each.{Each}
 use Rattle.chem_laws.proofs.Lists.{Each-append}
 use Rattle.wire_packet.specs.declared.packet.GroupInst.{GroupInst}
 use Rattle.net_laws.specs.Site.{Told, told_in, Site}
-use Rattle.loc_tree.specs.Tree.{Tree, with_number}
-use Rattle.net_laws.specs.Net.{Addressed, Net, home_or, without_packet, address, IsOnItsWay}
+use Rattle.loc_tree.specs.Tree.{Tree, spot, number_in, with_number}
+use Rattle.net_laws.specs.Net.{Addressed, Net, among, home_or, without_packet, address, IsOnItsWay}
 use Rattle.net_laws.specs.Kept.{IsKept, HasGuards, IsCoded, IsNet}
 use Rattle.net_laws.specs.Posting.{pour_here, with_queues}
 use Rattle.net_laws.specs.Holding.{drop_request}
@@ -22,7 +22,8 @@ use Rattle.net_laws.proofs.Events.{detect_is_one_event, halt_is_one_event, move_
 use Rattle.net_laws.proofs.Holding.{put_is}
 use Rattle.net_laws.proofs.Posting.{each_set}
 use Rattle.net_laws.proofs.Parcels.{each_laid_but}
-use Rattle.net_laws.proofs.Calls.{Goes, each_at, react_call, detect_call, halt_call, move_within_call, move_between_call, deliver_call}
+use Rattle.net_laws.specs.Calls.{Keeps}
+use Rattle.net_laws.proofs.Calls.{each_at, react_call, detect_call, halt_call, move_within_call, move_between_call, deliver_call}
 use Rattle.chem_model.specs.declared.name.Name.TheVariants as name
 
 each_packet : (P : Addressed → Type 0) (ps : List Addressed) (f : ℕ) → Each P ps → Each P (without_packet f ps)
@@ -35,7 +36,7 @@ module _ (rules_of : GroupInst → List NumberedRule) where
   coded_more s new ds e h g = subst (Each (HasGuards rules_of)) (sym e) (Each-append (HasGuards rules_of) (told_in s.groups) ds h g)
 
   -- one site is changed
-  pub one_site : (net : Net) (tree : Tree) (trace : List _) (i : ℕ) (s new : Site) (ds : List Told) (sends : List Addressed) → IsNet rules_of net → slice_get net.sites i ≡ Some s → Goes (length net.sites) s ds new sends → Each (HasGuards rules_of) ds
+  pub one_site : (net : Net) (tree : Tree) (trace : List _) (i : ℕ) (s new : Site) (ds : List Told) (sends : List Addressed) → IsNet rules_of net → slice_get net.sites i ≡ Some s → Keeps (length net.sites) s ds (record { site = new; sends = sends }) → Each (HasGuards rules_of) ds
       → IsNet rules_of (record { seen = net.seen; sites = slice_set net.sites i new; tree = tree; trace = trace; packets = net.packets ++ sends })
   one_site net tree trace i s new ds sends keeps here goes coded = record {
     kept = each_set IsKept net.sites i new keeps.kept goes.kept;
@@ -45,15 +46,15 @@ module _ (rules_of : GroupInst → List NumberedRule) where
 
   pub works_lead : ChoiceIsOneEvent rules_of
   works_lead net new n choice o stands keeps (react i j s g r cs ms left next births ds ps outs here held guard hosted lives takes runs) =
-      let call = react_call rules_of net i j s g r cs ms left next births ds ps outs (each_get IsKept net.sites i s here keeps.kept) held guard hosted lives takes runs.gives runs.may in
+      let call = react_call rules_of net.seen (length net.sites) net.tree i j s g r cs ms left next births ds ps outs (each_get IsKept net.sites i s here keeps.kept) held guard hosted lives takes runs.gives runs.may in
       let o = pour_here net.tree next births ds ps (with_queues s j g left) in
       (react_is_one_event rules_of net n i s o.site r ms (effects o outs births) stands here call.0, one_site net _ _ i s o.site ds o.sends keeps here call.1 runs.coded)
   works_lead net new n choice o stands keeps (detect i s q target cont next births ds ps outs here there is hosted lives gone runs) =
-      let call = detect_call rules_of net i s q target cont next births ds ps outs (each_get IsKept net.sites i s here keeps.kept) there is hosted lives gone runs.gives runs.may in
+      let call = detect_call rules_of net.seen (length net.sites) net.tree i s q target cont next births ds ps outs (each_get IsKept net.sites i s here keeps.kept) there is hosted lives gone runs.gives runs.may in
       let o = pour_here net.tree next births ds ps (drop_request q.id s) in
       (detect_is_one_event rules_of net n i s o.site q (effects o outs births) stands here call.0, one_site net _ _ i s o.site ds o.sends keeps here call.1 runs.coded)
   works_lead net new n choice o stands keeps (halt i s q here there is lives) =
-      let call = halt_call rules_of net s q (each_get IsKept net.sites i s here keeps.kept) there is lives in (
+      let call = halt_call rules_of net.tree s q (each_get IsKept net.sites i s here keeps.kept) there is lives in (
         halt_is_one_event rules_of net n i s (drop_request q.id s) q stands here call.0,
         record {
           kept = each_set IsKept net.sites i (drop_request q.id s) keeps.kept call.1;
@@ -62,13 +63,14 @@ module _ (rules_of : GroupInst → List NumberedRule) where
         },
       )
   works_lead net new n choice o stands keeps (move_within i s q target cont next births ds ps outs here there is can hosted to runs) =
-      let call = move_within_call rules_of net i s q target cont next births ds ps outs (each_get IsKept net.sites i s here keeps.kept) there is can hosted to runs.gives runs.may in
+      let call = move_within_call rules_of net.seen (length net.sites) net.tree i s q target cont next births ds ps outs (each_get IsKept net.sites i s here keeps.kept) there is can hosted to runs.gives runs.may in
       let o = pour_here net.tree next births ds ps (drop_request q.id s) in
       (move_within_is_one_event rules_of net n i s o.site q (effects o outs births) stands here call.0, one_site net _ _ i s o.site ds o.sends keeps here call.1 runs.coded)
   works_lead net new n choice o stands keeps (move_between i j from into q target cont next ps outs differ here there with_id is can hosted to runs) =
       let kept_from = each_get IsKept net.sites i from here keeps.kept in
       let kept_into = each_get IsKept net.sites j into there keeps.kept in
-      let call = move_between_call rules_of net i j from into q target cont next ps outs stands.hosts differ there kept_from kept_into with_id is can hosted to runs.gives runs.may in
+      let away : among into.locs q.loc ≡ true → ⊥ = λ h. let at : number_in (spot net.tree q.loc) ≡ Some j = ((stands.hosts j into there).locs q.loc).0 h in let same : i ≡ j = cc in differ same in
+      let call = move_between_call rules_of net.seen (length net.sites) net.tree i j from into q target cont next ps outs away kept_from kept_into with_id is can hosted to runs.gives runs.may in
       let left = remove q.loc (drop_request q.id from) in
       let o = pour_here (with_number net.tree q.loc j) next [] [] ps (take_in (pack q.loc (drop_request q.id from)) into) in
       let coded_from = each_get (IsCoded rules_of) net.sites i from here keeps.coded in (

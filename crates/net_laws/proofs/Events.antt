@@ -55,7 +55,7 @@ module _ (rules_of : GroupInst → List NumberedRule) where
   pub detect_is_one_event : DetectIsOneEvent rules_of
   detect_is_one_event net n i s new q e stands here detects =
       let there = asked_there net n i s q stands here detects.held in
-      let can = sym (dies_as_detect_needs net.tree n stands.agrees.tree q.loc detects.target) ∙ true_both (is_alive net.tree q.loc) _ detects.alive detects.target_dead in
+      let can = sym (dies_as_detect_needs net.tree n stands.agrees.tree q.loc detects.target) ∙ detects.can in
       let applies = detect_applies n stands.sound q detects.target detects.cont there detects.is can in
       poured rules_of net n n (event.Detect q.id) i s new (one coded_atom (request_atom q)) (without q.id n.atoms) [] q.loc (continuation (Known detects.cont)) e
       stands.agrees stands.hosts stands.sound applies here detects.hosted (asked_left n q stands.sound there) detects.pours
@@ -155,14 +155,13 @@ module _ (rules_of : GroupInst → List NumberedRule) where
 
   pub move_within_is_one_event : MoveWithinIsOneEvent rules_of
   move_within_is_one_event net n i s new q e stands here moves =
-      let may = moves.may in
       let l = q.loc in
       let b = moves.target in
-      let there = asked_there net n i s q stands here may.held in
-      let can = sym (moves_as_go_needs net.tree n stands.agrees.tree l b) ∙ may.can in
-      let applies = move_applies n stands.sound q b moves.cont there may.is can in
+      let there = asked_there net n i s q stands here moves.held in
+      let can = sym (moves_as_go_needs net.tree n stands.agrees.tree l b) ∙ moves.can in
+      let applies = move_applies n stands.sound q b moves.cont there moves.is can in
       poured rules_of (record net { tree = with_number net.tree l i }) (record n { places = with_hosts l b n.places }) n (event.Move q.id) i s new (one coded_atom (request_atom q)) (without q.id n.atoms) [] l (continuation (Known moves.cont)) e
-      (moved_agrees net n l b i stands may.can moves.same_site) (hosts_same net.tree (with_number net.tree l i) net.sites (number_kept net.tree l i moves.hosted) stands.hosts)
+      (moved_agrees net n l b i stands moves.can moves.target_site) (hosts_same net.tree (with_number net.tree l i) net.sites (number_kept net.tree l i moves.hosted) stands.hosts)
       stands.sound applies here (number_renumbered net.tree l i i moves.hosted) (asked_left n q stands.sound there) moves.pours
 
   -- the hosts once a location has left one site for another
@@ -233,12 +232,11 @@ module _ (rules_of : GroupInst → List NumberedRule) where
 
   pub move_between_is_one_event : MoveBetweenIsOneEvent rules_of
   move_between_is_one_event net n i j from into left new q e stands differ here there moves =
-      let may = moves.may in
       let l = q.loc in
       let b = moves.target in
-      let held = asked_there net n i from q stands here may.held in
-      let can = sym (moves_as_go_needs net.tree n stands.agrees.tree l b) ∙ may.can in
-      let applies = move_applies n stands.sound q b moves.cont held may.is can in
+      let held = asked_there net n i from q stands here moves.held in
+      let can = sym (moves_as_go_needs net.tree n stands.agrees.tree l b) ∙ moves.can in
+      let applies = move_applies n stands.sound q b moves.cont held moves.is can in
       let there_left : slice_get (slice_set net.sites i left) j ≡ Some into = get_set_other net.sites i j left differ ∙ there in
       let made = pour net.seen j (root_of j) [] l into.made (continuation (Known moves.cont)) in
       let mid : Net = record net { tree = with_number net.tree l j } in
@@ -252,7 +250,7 @@ module _ (rules_of : GroupInst → List NumberedRule) where
         trace = ap (λ xs. net.trace ++ xs) moves.comes.outs;
       } in
       stepped rules_of mid (with_effects mid (slice_set (slice_set net.sites i left) j new) j e) (record n { places = with_hosts l b n.places }) n (event.Move q.id) j (one coded_atom (request_atom q)) (without q.id n.atoms) [] l into.made (continuation (Known moves.cont)) e.births
-      (moved_agrees net n l b j stands may.can moves.target_site)
+      (moved_agrees net n l b j stands moves.can moves.target_site)
       stands.sound applies (made_at net.sites j into there) (number_renumbered net.tree l i j moves.hosted) (asked_left n q stands.sound held) makes
       (λ fresh. hosts_after fresh)
     where

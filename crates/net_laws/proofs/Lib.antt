@@ -27,3 +27,4 @@ pub mod Given
 pub mod Parts
 pub mod Interleaved
 pub mod Rounds
+pub mod CallLaws

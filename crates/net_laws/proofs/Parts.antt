@@ -102,11 +102,11 @@ module _ (rules_of : GroupInst → List NumberedRule) where
       (detect_applies n part.sound q detects.target detects.cont there detects.is can) detects.hosted (asked_left rules_of seen t i s new rules atoms n part q there) detects.pours
 
   pub halt_of_a_part : HaltOfAPart rules_of
-  halt_of_a_part seen t i s new q rules atoms n part is held alive alters =
-      let there = request_there rules_of seen t i s new rules atoms n part q held in
+  halt_of_a_part seen t i s new q rules atoms n part halts =
+      let there = request_there rules_of seen t i s new rules atoms n part q halts.held in
       let left = asked_left rules_of seen t i s new rules atoms n part q there in
       let after : Numbered = record n { places = with_marks q.loc n.places; atoms = without q.id n.atoms } in
-      let applies = halt_applies n part.sound q there is (lives rules_of seen t i s new rules atoms n part q.loc alive) in
+      let applies = halt_applies n part.sound q there halts.is (lives rules_of seen t i s new rules atoms n part q.loc halts.alive) in
       record {
         after = after;
         applies = applies;
@@ -114,10 +114,10 @@ module _ (rules_of : GroupInst → List NumberedRule) where
           sound = (event_is_a_reduction n after (event.Halt q.id) part.sound applies).sound;
           seen_is = part.seen_is;
           below = part.below;
-          count = part.count ∙ sym alters.made;
+          count = part.count ∙ sym halts.alters.made;
           tree = mark_follows t n.places part.tree q.loc;
-          rules_are = λ r. omega (arith, part.rules_are r, alters.rules r);
-          atoms_are = λ x. omega (arith, part.atoms_are x, left x, alters.atoms x);
+          rules_are = λ r. omega (arith, part.rules_are r, halts.alters.rules r);
+          atoms_are = λ x. omega (arith, part.atoms_are x, left x, halts.alters.atoms x);
         };
         counts = refl;
         trace = refl;

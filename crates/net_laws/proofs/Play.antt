@@ -18,7 +18,7 @@ use Rattle.net_laws.specs.Choices.{effects}
 use Rattle.net_laws.specs.Play.{OpensHere, opened, opens, stops, makes, carries, NetworkRuns, ChoicesReplay}
 use Rattle.net_laws.proofs.Holds.{each_get}
 use Rattle.net_laws.proofs.Posting.{pour_here_pours}
-use Rattle.net_laws.proofs.Calls.{Goes}
+use Rattle.net_laws.specs.Calls.{Keeps}
 use Rattle.net_laws.proofs.Quiet.{no_choice_is_quiet}
 use Rattle.net_laws.proofs.Opening.{start_stands}
 use Rattle.net_laws.proofs.Choices.{one_site, works_lead}
@@ -43,7 +43,7 @@ module _ (rules_of : GroupInst → List NumberedRule) where
       let kept = each_get IsKept net.sites i s here keeps.kept in
       let poured = pour_here_pours rules_of (length net.sites) net.tree i _ s next births ds ps outs kept runs.gives runs.may in
       let o = pour_here net.tree next births ds ps s in
-      let goes : Goes (length net.sites) s ds o.site o.sends = record { kept = poured.kept; told = poured.told; sent = poured.sent } in
+      let goes : Keeps (length net.sites) s ds o = record { kept = poured.kept; told = poured.told; sent = poured.sent } in
       let later = opened_here m (i + 1) us (with_site net i o.site (effects o outs births)) end (one_site rules_of net _ _ i s o.site ds o.sends keeps here goes runs.coded) more in
       ((s, o.site, effects o outs births, here, poured.pours, later.0), later.1)
 

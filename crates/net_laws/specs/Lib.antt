@@ -11,3 +11,4 @@ pub mod Play
 pub mod Enabled
 pub mod Parts
 pub mod Rounds
+pub mod Calls

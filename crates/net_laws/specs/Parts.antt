@@ -105,6 +105,12 @@ module _ (rules_of : GroupInst → List NumberedRule) where
 
   -- ---- Halt: nothing is poured, and the tree has one mark more
 
+  pub record HaltsHere (t : Tree) (s : Site) (q : Request) (new : Site) : Type 0 where
+    pub is : q.ask ≡ request.Halt
+    pub held : 0 < request_atoms s.requests (request_atom q)
+    pub alive : is_alive t q.loc ≡ true
+    pub alters : Alters rules_of (one coded_atom (request_atom q)) nothing s new
+
   pub record HaltOf (seen : List ℕ) (t : Tree) (i : ℕ) (q : Request) (new : Site)
       (rules : Bag NumberedRule) (atoms : Bag NumberedAtom) (n : Numbered) : Type 0 where
     pub after : Numbered
@@ -117,9 +123,7 @@ module _ (rules_of : GroupInst → List NumberedRule) where
   HaltOfAPart =
       (seen : List ℕ) (t : Tree) (i : ℕ) (s new : Site) (q : Request)
       (rules : Bag NumberedRule) (atoms : Bag NumberedAtom) (n : Numbered)
-      → IsPart seen t i s rules atoms n → q.ask ≡ request.Halt
-      → 0 < request_atoms s.requests (request_atom q) → is_alive t q.loc ≡ true
-      → Alters rules_of (one coded_atom (request_atom q)) nothing s new
+      → IsPart seen t i s rules atoms n → HaltsHere t s q new
       → HaltOf seen t i q new rules atoms n
 
   -- ---- Go, to the site that hosts the location already

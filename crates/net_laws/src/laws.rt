@@ -7,6 +7,8 @@ ghost use Rattle.net_laws.specs.Site.{Told};
 ghost use Rattle.net_laws.specs.Parcels.{ParcelCarries};
 ghost use Rattle.net_laws.specs.Parts.{ReactionOfAPart, DetectionOfAPart, HaltOfAPart, MoveOfAPart};
 ghost use Rattle.net_laws.specs.Parts.{DeliveryToAPart, MoveOfTwoParts};
+ghost use Rattle.net_laws.specs.Calls.{ReactCall, DetectCall, HaltCall, MoveWithinCall};
+ghost use Rattle.net_laws.specs.Calls.{MoveBetweenCall, DeliverCall};
 ghost use Rattle.net_laws.specs.Choices.{ChoiceIsOneEvent};
 ghost use Rattle.net_laws.specs.Enabled.{NoChoiceIsQuiet, ChoicesCanBeMade};
 ghost use Rattle.net_laws.specs.Opening.{StartStands};
@@ -43,6 +45,41 @@ pub fn move_of_two_parts()
 /// A message that comes to its home stood for the same before. It does nothing.
 pub fn delivery_to_a_part()
     ensures { (rules_of : GroupInst → List NumberedRule) → DeliveryToAPart rules_of }
+{}
+
+/// A site that takes the fronts of a guard's queues and pours a run of its body makes a reaction,
+/// and keeps its facts. It does nothing.
+pub fn react_call()
+    ensures { (rules_of : GroupInst → List NumberedRule) → ReactCall rules_of }
+{}
+
+/// A site that drops a request to detect a failure and pours a run of its continuation meets that
+/// request, and keeps its facts. It does nothing.
+pub fn detect_call()
+    ensures { (rules_of : GroupInst → List NumberedRule) → DetectCall rules_of }
+{}
+
+/// A site that drops a request to halt meets it, and keeps its facts. It does nothing.
+pub fn halt_call()
+    ensures { (rules_of : GroupInst → List NumberedRule) → HaltCall rules_of }
+{}
+
+/// A site that drops a request to go and pours a run of its continuation meets that request, where
+/// it hosts the target, and keeps its facts. It does nothing.
+pub fn move_within_call()
+    ensures { (rules_of : GroupInst → List NumberedRule) → MoveWithinCall rules_of }
+{}
+
+/// Where one site removes a location and another takes in what was packed and pours a run of the
+/// continuation, the location moves, and both keep their facts. It does nothing.
+pub fn move_between_call()
+    ensures { (rules_of : GroupInst → List NumberedRule) → MoveBetweenCall rules_of }
+{}
+
+/// A site that puts a message at its home holds that message more and keeps its facts. It does
+/// nothing.
+pub fn deliver_call()
+    ensures { (rules_of : GroupInst → List NumberedRule) → DeliverCall rules_of }
 {}
 
 /// What arrives in a parcel is what was packed, where the code tells of each group what was told

@@ -8,7 +8,8 @@
 mod laws;
 
 pub use laws::{
-    choice_is_one_event, choices_can_be_made, choices_replay, delivery_to_a_part,
-    detection_of_a_part, halt_of_a_part, move_of_a_part, move_of_two_parts, network_runs,
-    no_choice_is_quiet, parcel_carries, reaction_of_a_part, round_is_choices, start_stands,
+    choice_is_one_event, choices_can_be_made, choices_replay, deliver_call, delivery_to_a_part,
+    detect_call, detection_of_a_part, halt_call, halt_of_a_part, move_between_call, move_of_a_part,
+    move_of_two_parts, move_within_call, network_runs, no_choice_is_quiet, parcel_carries,
+    react_call, reaction_of_a_part, round_is_choices, start_stands,
 };
