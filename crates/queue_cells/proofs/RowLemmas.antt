@@ -1,19 +1,20 @@
 -- What becomes of groups of queues where a message comes or goes.
 use Rattle.std.proofs.Common.{◌≡◌, ◌≢◌, ℕ, zero, suc, ◌+◌, ◌-◌, ◌<◌, ◌≤◌, Bool, true, false, cond, List, [], ◌∷◌, ◌++◌, map, length, get_or, set, Option, Some, None, eqb, refl, sym, ap, subst, ◌∙◌, inl, inr, arith}
-use Rattle.std.specs.Prelude.{not, sum_by, replicate, slice_get, remove}
+use Rattle.std.specs.Prelude.{not, sum_by, replicate, slice_get, remove, is_some, IfNone, IfSome}
 use Rattle.std.proofs.lemmas.Bool.{cases_eq}
 use Rattle.std.proofs.lemmas.Bool.Decides.{nat_tests}
 use Rattle.std.proofs.lemmas.List.{map-append, length-map, length-append, length-set, map-set, get_or-set_same, get_or-set_other, get_or_default, set-set, set-get_or, nil_from_length}
 use Rattle.std.proofs.lemmas.List.Sums.{sum_by-set, sum_by-cons, sum_by_push, sum_by-remove, get_or-le-sum_by}
-use Rattle.slab.specs.Slab.{Slab, slab_len, Updates}
+use Rattle.slab.specs.Slab.{Slab, slab_len}
 use Rattle.queue_cells.specs.declared.cells.Cell.{Cell}
 use Rattle.queue_cells.specs.declared.cells.Ends.{Ends}
 use Rattle.queue_cells.specs.declared.rows.Row.{Row}
-use Rattle.status_words.specs.Words.{Covers}
+use Rattle.status_words.specs.Words.{Covers, NoneFrom, IsNext}
 use Rattle.queue_cells.specs.Grouped.{Queued, lists_at, queue_in, with_queue, idle_group, waiting, AllHeld}
-use Rattle.queue_cells.specs.Walk.{walk, walked, messages, uses, IsQueue, AllQueues, all_uses, total, Chained}
+use Rattle.queue_cells.specs.Busy.{any_waits}
+use Rattle.queue_cells.specs.Walk.{walk, walked, messages, uses, IsQueue, AllQueues, all_uses, total, Chained, Unchained}
 use Rattle.queue_cells.specs.Rows.{is_held, no_ends, IsIdle, queued, IsRow, AllRows, row_uses, AreRows}
-use Rattle.queue_cells.proofs.Walks.{queues-same, queue-set, uses-le-all, vacant_unused, uses-append, AllQueues-at, messages-at, one_at_most, eqb-same, Unchained, Unchained-from}
+use Rattle.queue_cells.proofs.Walks.{queues-same, queue-set, uses-le-all, vacant_unused, uses-append, AllQueues-at, messages-at, one_at_most, eqb-same}
 
 -- one queue of a group was replaced
 pub record Replaced {G : Type 0} (before after : Row G) (chan : ℕ) (ends : Ends) : Type 0 where
@@ -36,6 +37,25 @@ Replaced-of before same after chan ends is told ends_are status = record {
 
 pub same_read : {X : Type 0} (xs : List X) (i : ℕ) (x y : X) → i < length xs → get_or xs i x ≡ x → y ≡ get_or xs i y → y ≡ x
 same_read xs i x y within is read = read ∙ get_or_default xs i y x within ∙ is
+
+pub waiting-none : {T : Type 0} (ls : List (List T)) → ((c : ℕ) → c < length ls → get_or ls c [] ≡ []) → waiting ls ≡ 0
+waiting-none [] none = refl
+waiting-none (ms ∷ ls) none =
+    let first : length ms ≡ 0 = ap length (none 0 (omega arith)) in
+    let rest : waiting ls ≡ 0 = waiting-none ls (λ c less. none (suc c) (omega arith)) in
+    sum_by-cons length ms ls ∙ (omega arith)
+
+pub waiting-at : {T : Type 0} (ls : List (List T)) (i : ℕ) → length (get_or ls i []) ≤ waiting ls
+waiting-at [] i = omega arith
+waiting-at (ms ∷ ls) zero = omega (arith, sum_by-cons length ms ls)
+waiting-at (ms ∷ ls) (suc i) = omega (arith, waiting-at ls i, sum_by-cons length ms ls)
+
+pub any_waits-some : {T : Type 0} (ls : List (List T)) → 0 < waiting ls → any_waits ls ≡ true
+any_waits-some ls some = grind (arith, nat_tests)
+
+pub none_waits : (n : ℕ) → (0 < n → ⊥) → n ≡ 0
+none_waits zero no_one = refl
+none_waits (suc n) no_one = absurd (no_one (omega arith))
 
 held-at : {T : Type 0} (slots : List (Option (Cell T))) (es : List Ends) (i : ℕ) → AllQueues slots es → (get_or (map is_held es) i false ≡ true → 0 < length (get_or (map (messages slots) es) i [])) × (0 < length (get_or (map (messages slots) es) i []) → get_or (map is_held es) i false ≡ true)
 held-at slots [] i all = (λ h. absurd (cc), λ h. absurd (omega arith))
@@ -246,20 +266,18 @@ module _ {G T : Type 0} where
     pub front : queue_in (map (queued old.slots) rs) g chan ≡ message ∷ rest
     pub now : queue_in (map (queued new.slots) (set rs g after)) g chan ≡ rest
 
-  pub Took-of : (old new : Slab (Cell T)) (rs : List (Row G)) (g : ℕ) (r after : Row G) (chan : ℕ) (e : Ends) (cell : Cell T) → Found old rs g r chan e → 0 < e.count → AreRows old rs → Replaced r after chan (record { head = cell.next; tail = e.tail; count = e.count - 1 }) → get_or old.slots e.head None ≡ Some cell → Updates old new e.head None → slab_len new + 1 ≡ slab_len old → Took old new rs g after chan cell.message
-  Took-of old new rs g r after chan e cell f some all step found u less =
-      let step_done = Unchained-from old new e cell some f.queue f.once found u in
-      let r' = rows-unchained old new rs g r after chan e (record { head = cell.next; tail = e.tail; count = e.count - 1 }) cell.message f all step step_done less in
+  pub Took-of : (old new : Slab (Cell T)) (rs : List (Row G)) (g : ℕ) (r after : Row G) (chan : ℕ) (e e' : Ends) (message : T) → Found old rs g r chan e → AreRows old rs → Replaced r after chan e' → Unchained old.slots new.slots e e' message → slab_len new + 1 ≡ slab_len old → Took old new rs g after chan message
+  Took-of old new rs g r after chan e e' message f all step c less =
+      let r' = rows-unchained old new rs g r after chan e e' message f all step c less in
       let chans = lists-at old.slots rs g r f.group f.row_is in
       let g_in : g < length (map (queued {G = G} old.slots) rs) = omega (arith, f.group, length-map rs (queued {G = G} old.slots)) in
       let chan_in : chan < length (lists_at (map (queued old.slots) rs) g) = omega (arith, f.within, ap length chans, length-map r.ends.items (messages old.slots)) in
-      let rest = messages new.slots (record { head = cell.next; tail = e.tail; count = e.count - 1 }) in
       record {
         are = r'.0;
-        rest = rest;
+        rest = messages new.slots e';
         view = r'.1;
         front = r'.2;
-        now = ap (λ qs. queue_in qs g chan) r'.1 ∙ queue_in-with (map (queued old.slots) rs) g chan rest g_in chan_in;
+        now = ap (λ qs. queue_in qs g chan) r'.1 ∙ queue_in-with (map (queued old.slots) rs) g chan (messages new.slots e') g_in chan_in;
       }
 
   pub count-found : (cells : Slab (Cell T)) (rs : List (Row G)) (g : ℕ) (r : Row G) (chan : ℕ) (e : Ends) → Found cells rs g r chan e → length (queue_in (map (queued cells.slots) rs) g chan) ≡ e.count
@@ -272,6 +290,19 @@ module _ {G T : Type 0} where
     λ covers i wanted. (held-at slots r.ends.items i row.queues).0 (ap (λ s. get_or s i false) (sym row.status) ∙ covers i wanted),
     λ all i wanted. ap (λ s. get_or s i false) row.status ∙ (held-at slots r.ends.items i row.queues).1 (all i wanted),
   )
+
+  -- the status has a number exactly where a message waits
+  pub holds-of : (slots : List (Option (Cell T))) (r : Row G) (found : Option ℕ) → IsRow slots r → IfNone found (NoneFrom r.status 0 (length r.status)) → IfSome found (λ i. IsNext r.status 0 i) → is_some found ≡ any_waits (map (messages slots) r.ends.items)
+  holds-of slots r None row idle some =
+      let empty : (i : ℕ) → i < length (map (messages slots) r.ends.items) → get_or (map (messages slots) r.ends.items) i [] ≡ [] = λ i less.
+          let bit : get_or (map is_held r.ends.items) i false ≡ false = ap (λ s. get_or s i false) (sym row.status) ∙ idle i (omega arith) (omega (arith, ap length row.status, length-map r.ends.items is_held, length-map r.ends.items (messages slots))) in
+          nil_from_length (get_or (map (messages slots) r.ends.items) i []) (none_waits (length (get_or (map (messages slots) r.ends.items) i [])) (λ waits. let t = (held-at slots r.ends.items i row.queues).1 waits in absurd (cc))) in
+      let none : waiting (map (messages slots) r.ends.items) ≡ 0 = waiting-none (map (messages slots) r.ends.items) empty in
+      rw none refl
+  holds-of slots r (Some i) row idle some =
+      let waits = (held-at slots r.ends.items i row.queues).0 (ap (λ s. get_or s i false) (sym row.status) ∙ some.there) in
+      let among = waiting-at (map (messages slots) r.ends.items) i in
+      sym (any_waits-some (map (messages slots) r.ends.items) (omega arith))
 
   AllRows-push : (slots : List (Option (Cell T))) (rs : List (Row G)) (r : Row G) → IsRow slots r → AllRows slots rs → AllRows slots (rs ++ r ∷ [])
   AllRows-push slots [] r one all = (one, tt)
@@ -360,13 +391,6 @@ module _ {G T : Type 0} where
         },
         rest.2,
       )
-
-pub waiting-none : {T : Type 0} (ls : List (List T)) → ((c : ℕ) → c < length ls → get_or ls c [] ≡ []) → waiting ls ≡ 0
-waiting-none [] none = refl
-waiting-none (ms ∷ ls) none =
-    let first : length ms ≡ 0 = ap length (none 0 (omega arith)) in
-    let rest : waiting ls ≡ 0 = waiting-none ls (λ c less. none (suc c) (omega arith)) in
-    sum_by-cons length ms ls ∙ (omega arith)
 
 pub nil_from_front : {X : Type 0} (xs : List X) → slice_get xs 0 ≡ None → xs ≡ []
 nil_from_front [] none = refl

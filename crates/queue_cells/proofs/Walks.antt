@@ -7,7 +7,7 @@ use Rattle.std.proofs.lemmas.List.Sums.{sum_by-set, sum_by_push, get_or-le-sum_b
 use Rattle.slab.specs.Slab.{Slab, slab_len, Updates}
 use Rattle.queue_cells.specs.declared.cells.Cell.{Cell}
 use Rattle.queue_cells.specs.declared.cells.Ends.{Ends}
-use Rattle.queue_cells.specs.Walk.{from_cell, walk, walked, messages, uses, last_key, IsQueue, AllQueues, all_uses, Chained}
+use Rattle.queue_cells.specs.Walk.{from_cell, walk, walked, messages, uses, last_key, IsQueue, AllQueues, all_uses, Chained, Unchained}
 
 pub eqb-same : (k : ℕ) → eqb k k ≡ true
 eqb-same k = grind (arith, nat_tests)
@@ -223,13 +223,6 @@ module _ {T : Type 0} where
   last_key-again : (w : List (ℕ × T)) (d tail : ℕ) → last_key w d ≡ tail → last_key w tail ≡ tail
   last_key-again [] d tail last = refl
   last_key-again (p ∷ ps) d tail last = last
-
-  -- the front of this queue was taken, and every other cell stays
-  pub record Unchained (old new : List (Option (Cell T))) (before after : Ends) (message : T) : Type 0 where
-    pub shorter : walked old before ≡ (before.head, message) ∷ walked new after
-    pub queue : IsQueue new after
-    pub count : before.count ≡ after.count + 1
-    pub others : (k : ℕ) → k ≢ before.head → get_or new k None ≡ get_or old k None
 
   -- the front cell was removed
   pub Unchained-from : (old new : Slab (Cell T)) (before : Ends) (cell : Cell T) → 0 < before.count → IsQueue old.slots before → ((k : ℕ) → uses k (walked old.slots before) ≤ 1) → get_or old.slots before.head None ≡ Some cell → Updates old new before.head None → Unchained old.slots new.slots before (record { head = cell.next; tail = before.tail; count = before.count - 1 }) cell.message

@@ -1,3 +1,5 @@
 pub mod Grouped
 pub mod Walk
 pub mod Rows
+pub mod Busy
+pub mod Index

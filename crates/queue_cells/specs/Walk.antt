@@ -69,3 +69,14 @@ module _ {T : Type 0} where
     pub count : after.count ≡ before.count + 1
     pub others : (k : ℕ) → k ≢ key → uses k (walked old before) ≡ 0 →
         slice_index_or new k None ≡ slice_index_or old k None
+
+  -- the front of this queue was taken, and every other cell stays
+  pub record Unchained
+    (old new : List (Option (Cell T)))
+    (before after : Ends)
+    (message : T) : Type 0 where
+    pub shorter : walked old before ≡ (before.head, message) ∷ walked new after
+    pub queue : IsQueue new after
+    pub count : before.count ≡ after.count + 1
+    pub others : (k : ℕ) → k ≢ before.head →
+        slice_index_or new k None ≡ slice_index_or old k None

@@ -1,7 +1,7 @@
-ghost use Rattle.std.specs.Prelude.{◌≡◌, ◌≢◌, ◌+◌, ◌≤◌, ℕ, Some};
+ghost use Rattle.std.specs.Prelude.{◌≡◌, ◌≢◌, ◌+◌, ◌<◌, ◌≤◌, ℕ, Some};
 ghost use Rattle.slab.specs.Slab.{get, HasRoomFor, slab_len};
 ghost use Rattle.queue_cells.specs.declared.cells.Cell.{Cell};
-ghost use Rattle.queue_cells.specs.Walk.{IsQueue, uses, walked, leading, Chained};
+ghost use Rattle.queue_cells.specs.Walk.{IsQueue, uses, walked, leading, Chained, Unchained};
 
 use slab::Slab;
 
@@ -60,4 +60,23 @@ pub(crate) fn chain<T>(cells: &mut Slab<Cell<T>>, ends: Ends, message: T) -> End
         tail: key,
         count: ends.count + 1,
     }
+}
+
+// Takes the front of a queue.
+pub(crate) fn unchain<T>(cells: &mut Slab<Cell<T>>, ends: Ends) -> (T, Ends)
+    requires some { 0 < ends.count }
+    requires queue { IsQueue cells.old.slots ends }
+    requires once { (k : ℕ) → uses k (walked cells.old.slots ends) ≤ 1 }
+    ensures unchained { Unchained cells.old.slots cells.new.slots ends result.1 result.0 }
+    ensures len { slab_len cells.new + 1 ≡ slab_len cells.old }
+    ensures room { HasRoomFor cells.new 1 }
+    ensures capacity { cells.new.capacity ≡ cells.old.capacity }
+{
+    let Cell { message, next } = cells.remove(ends.head);
+    let after = Ends {
+        head: next,
+        tail: ends.tail,
+        count: ends.count - 1,
+    };
+    (message, after)
 }

@@ -1,10 +1,11 @@
 ghost use Rattle.std.specs.Prelude.{◌≡◌, ◌≤◌, ◌<◌, ◌+◌, ◌∷◌, ◌++◌, ◌↔◌, [], length, Some, slice_get};
-ghost use Rattle.std.specs.Prelude.{remove, option_copied, IsOk, IsTrue, OnOk, OnErr, IfErr};
+ghost use Rattle.std.specs.Prelude.{remove, option_copied, IsOk, IsTrue, OnOk, OnErr};
 ghost use Rattle.queue_cells.specs.Grouped.{lists_at, queue_in, with_queue, with_last, waiting};
 ghost use Rattle.queue_cells.specs.Grouped.{idle_group, AllHeld};
+ghost use Rattle.queue_cells.specs.Busy.{any_waits};
 ghost use Rattle.status_words.specs.Words.{number_of_words};
 
-use crate::cells::{Cell, Ends, chain};
+use crate::cells::{Cell, chain, unchain};
 use crate::rows::{Idle, Row, replace};
 use crate::walk::{Iter, walk_from};
 use chem_model::Memory;
@@ -114,6 +115,15 @@ impl<G: Drop, T: Drop> Groups<G, T> {
         row.status.covers(mask)
     }
 
+    /// Whether any queue of a group holds a message.
+    pub fn holds(&self, group: usize) -> bool
+        requires { group < length self.now.groups }
+        ensures { result ≡ any_waits (lists_at self.now.groups group) }
+    {
+        let row = &self.rows[group];
+        row.status.next(0).is_some()
+    }
+
     /// Makes room for more messages, in whatever queues.
     pub fn reserve(&mut self, more: usize) -> Result<(), Memory>
         ensures room { OnOk result (more ≤ self.new.spare) }
@@ -137,25 +147,8 @@ impl<G: Drop, T: Drop> Groups<G, T> {
         ensures spare_groups { self.new.spare_groups ≡ self.old.spare_groups }
     {
         let ends = self.rows[group].ends[chan as usize];
-        let after = chain(&mut self.cells, ends, message);
-        replace(&mut self.rows[group], chan, after);
-    }
-
-    /// Appends a message to a queue, or hands it back where there is no memory.
-    pub fn push_back(&mut self, group: usize, chan: u32, message: T) -> Result<(), (T, Memory)>
-        requires group { group < length self.old.groups }
-        requires chan { chan < length (lists_at self.old.groups group) }
-        ensures ok { OnOk result (self.new.groups ≡ with_last self.old.groups group chan message) }
-        ensures err { OnErr result (self.new.groups ≡ self.old.groups) }
-        ensures back { IfErr result (λ back. back.0 ≡ message) }
-        ensures succeeds { 1 ≤ self.old.spare → IsOk result }
-        ensures spare_groups { self.new.spare_groups ≡ self.old.spare_groups }
-    {
-        if self.reserve(1).is_err() {
-            return Err((message, Memory));
-        }
-        self.push_reserved(group, chan, message);
-        Ok(())
+        let longer = chain(&mut self.cells, ends, message);
+        replace(&mut self.rows[group], chan, longer);
     }
 
     /// Takes the front of a queue. It takes no memory, and leaves room for one message more.
@@ -171,13 +164,8 @@ impl<G: Drop, T: Drop> Groups<G, T> {
         ensures spare_groups { self.new.spare_groups ≡ self.old.spare_groups }
     {
         let ends = self.rows[group].ends[chan as usize];
-        let Cell { message, next } = self.cells.remove(ends.head);
-        let after = Ends {
-            head: next,
-            tail: ends.tail,
-            count: ends.count - 1,
-        };
-        replace(&mut self.rows[group], chan, after);
+        let (message, shorter) = unchain(&mut self.cells, ends);
+        replace(&mut self.rows[group], chan, shorter);
         message
     }
 

@@ -5,11 +5,13 @@
 
 mod cells;
 mod groups;
+mod hot;
 mod rows;
 #[cfg(test)]
 mod tests;
 mod walk;
 
 pub use groups::Groups;
+pub use hot::Hot;
 pub use rows::Idle;
 pub use walk::Iter;

@@ -1,17 +1,21 @@
 // Queues of numbers. The expected values were worked out by hand.
 use crate::groups::Groups;
+use crate::hot::Hot;
 use crate::rows::Idle;
 use chem_model::Memory;
 use std::process::Abort;
 use std::test::Fail;
 
 type Numbers = Groups<u32, u64>;
+type HotNumbers = Hot<u32, u64>;
 
 fn put(rt: &impl Abort, groups: &mut Numbers, group: usize, chan: u32, message: u64)
 -> Result<(), Memory> {
     assert!(rt; group < groups.len());
     assert!(rt; chan < groups.width(group));
-    groups.push_back(group, chan, message).map_err(|back| back.1)
+    groups.reserve(1)?;
+    groups.push_reserved(group, chan, message);
+    Ok(())
 }
 
 fn expect_queue(rt: &impl Abort, groups: &Numbers, group: usize, chan: u32, want: &[u64]) {
@@ -111,5 +115,51 @@ fn a_group_in_the_middle_is_removed(rt: HostRuntime) -> Result<(), Fail> {
     expect_queue(&rt, &groups, 0, 1, &[10]);
     expect_queue(&rt, &groups, 1, 0, &[2, 21]);
     expect_queue(&rt, &groups, 1, 1, &[10]);
+    Ok(())
+}
+
+fn put_hot(rt: &impl Abort, hot: &mut HotNumbers, group: usize, message: u64)
+-> Result<(), Memory> {
+    assert!(rt; group < hot.groups().len());
+    assert!(rt; hot.groups().width(group) > 0);
+    hot.reserve(1)?;
+    hot.push_reserved(group, 0, message);
+    Ok(())
+}
+
+fn expect_taken_hot(rt: &impl Abort, hot: &mut HotNumbers, group: usize, want: u64) {
+    assert!(rt; group < hot.groups().len());
+    assert!(rt; hot.groups().width(group) > 0);
+    assert!(rt; hot.groups().front(group, 0).is_some());
+    assert_eq!(rt; hot.take_front(group, 0), want);
+}
+
+fn remove_hot(rt: &impl Abort, hot: &mut HotNumbers, group: usize) {
+    assert!(rt; group < hot.groups().len());
+    hot.remove(group);
+}
+
+#[test]
+fn busy_groups_are_found(rt: HostRuntime) -> Result<(), Fail> {
+    let mut hot = Hot::new(rt.alloc())?;
+    hot.reserve_groups(rt.alloc(), 2)?;
+    hot.add_reserved(Idle::new(rt.alloc(), 0, 1)?);
+    for told in 1..70 {
+        hot.add(rt.alloc(), told, 1)?;
+    }
+    assert_eq!(rt; hot.next_busy(0), None);
+    put_hot(&rt, &mut hot, 66, 10)?;
+    put_hot(&rt, &mut hot, 3, 11)?;
+    put_hot(&rt, &mut hot, 3, 12)?;
+    assert_eq!(rt; hot.next_busy(0), Some(3));
+    assert_eq!(rt; hot.next_busy(4), Some(66));
+    expect_taken_hot(&rt, &mut hot, 3, 11);
+    assert_eq!(rt; hot.next_busy(0), Some(3));
+    expect_taken_hot(&rt, &mut hot, 3, 12);
+    assert_eq!(rt; hot.next_busy(0), Some(66));
+    remove_hot(&rt, &mut hot, 3);
+    assert_eq!(rt; hot.next_busy(0), Some(65));
+    expect_taken_hot(&rt, &mut hot, 65, 10);
+    assert_eq!(rt; hot.next_busy(0), None);
     Ok(())
 }
