@@ -1,5 +1,5 @@
 -- The calls of a site, as choices of a network.
-use Rattle.std.proofs.Common.{◌≡◌, ℕ, ◌+◌, List, [], ◌∷◌, ◌++◌, Some, Bool, true, false, cond, refl, sym, ap, ◌∙◌, arith, slice_get, ◌||◌, length}
+use Rattle.std.proofs.Common.{◌≡◌, ℕ, ◌+◌, List, [], ◌∷◌, ◌++◌, Some, Bool, true, false, cond, refl, sym, ap, ◌∙◌, arith, slice_get, ◌||◌}
 use Rattle.chem_model.specs.declared.name.Loc.{Loc}
 use Rattle.chem_model.specs.declared.name.Name.{Name}
 use Rattle.chem_model.specs.declared.name.Ref.TheVariants.{Known}
@@ -19,7 +19,7 @@ use Rattle.wire_packet.specs.declared.packet.GroupInst.{GroupInst}
 use Rattle.wire_packet.specs.declared.packet.Request.{Request}
 use Rattle.net_laws.specs.Site.{Told, Group, told_in, Site, coded_atom, message_atom, messages_at, request_atom, atoms_of, laid_rules}
 use Rattle.loc_tree.specs.Tree.{spot, Tree, number_in, is_alive, is_dead, can_move, with_number}
-use Rattle.net_laws.specs.Net.{Addressed, Net, AllHost, home_or, among, IsOnItsWay}
+use Rattle.net_laws.specs.Net.{home_or, among}
 use Rattle.net_laws.specs.Changes.{given_all, AreQueues, IsGuard, Takes, Pours, Alters}
 use Rattle.net_laws.specs.Calls.{Keeps}
 use Rattle.net_laws.specs.Parts.{ReactsHere, DetectsHere, HaltsHere, StaysHere, MovesHere}

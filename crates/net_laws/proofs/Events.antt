@@ -16,13 +16,12 @@ use Rattle.chem_model.specs.Pour.{pour}
 use Rattle.chem_model.specs.Apply.{without, with_hosts, with_marks}
 use Rattle.chem_model.specs.Sound.{IsSound}
 use Rattle.chem_laws.proofs.Tied.{event_is_a_reduction}
-use Rattle.chem_laws.proofs.Lists.{true_both}
 use Rattle.chem_laws.proofs.Within.{same_loc_is}
 use Rattle.wire_packet.specs.declared.packet.GroupInst.{GroupInst}
 use Rattle.wire_packet.specs.declared.packet.Request.{Request}
 use Rattle.net_laws.specs.Site.{Site, coded_atom, message_atom, request_atom, request_atoms, atoms_of}
 use Rattle.loc_tree.specs.declared.tree.Spot.{Spot}
-use Rattle.loc_tree.specs.Tree.{spot, Tree, is_alive, can_move, number_in, renumbered, with_number, with_mark}
+use Rattle.loc_tree.specs.Tree.{spot, Tree, can_move, number_in, renumbered, with_number, with_mark}
 use Rattle.loc_tree.specs.Places.{IsTreeOf}
 use Rattle.loc_tree.proofs.Alive.{alive_is_live, moves_as_go_needs, dies_as_detect_needs}
 use Rattle.loc_tree.proofs.Follows.{move_follows, mark_follows}

@@ -2,7 +2,8 @@
 use Rattle.chem_model.specs.declared.name.Pat.{Pat}
 use Rattle.net_laws.proofs.Posting.{among_append, here_too}
 use Rattle.net_laws.proofs.Trees.{born_standing}
-use Rattle.net_laws.proofs.Below.{address_below}
+use Rattle.net_laws.proofs.Trees.{address_low}
+use Rattle.loc_tree.specs.Places.{IsTreeOf}
 use Rattle.net_laws.specs.Choices.{Runs}
 use Rattle.net_laws.specs.Kept.{HasGuards, AreApart}
 use Rattle.net_laws.specs.Changes.{births_at, AreChannels}
@@ -36,7 +37,7 @@ use Rattle.chem_laws.proofs.Terms.{known_again}
 use Rattle.wire_packet.specs.declared.packet.GroupInst.{GroupInst}
 use Rattle.net_laws.specs.Site.{Told, told_in, Site, coded_rule}
 use Rattle.loc_tree.specs.Tree.{Tree}
-use Rattle.net_laws.specs.Net.{among, address, Net, Stands}
+use Rattle.net_laws.specs.Net.{among, address}
 use Rattle.net_laws.specs.Posting.{posted_atom, posted_atoms, MayPost, rules_in, posted_term, posted_of}
 use Rattle.net_laws.proofs.Wanted.{IsOnChannel, IsHere, HasRule, IsGiven, IsOneOf, AreOnesOf}
 use Rattle.chem_model.specs.declared.name.Name.TheVariants as name
@@ -197,39 +198,39 @@ module _ (rules_of : GroupInst → List NumberedRule) where
   births_in bs more r = Each-weaker (λ (c : Placed). among bs c.loc ≡ true) (λ (c : Placed). among (more ++ bs) c.loc ≡ true) (λ c h. among_append more bs c.loc ∙ or_right (among more c.loc) (among bs c.loc) h) (births_at r bs) (own_births bs r)
 
   -- where a site s pours a process at a location that it hosts, and the solution with what is poured is sound
-  pub runs_of : (net : Net) (n : Numbered) (atoms : List NumberedAtom) (i : ℕ) (s : Site) (m : Naming) (l : Loc) (k : ℕ) (p : Process) (next : ℕ) (births : List Loc) (ds : List Told) (outs : List Out)
-      → Stands rules_of net n → IsSound (add_made (record n { atoms = atoms }) i (pour net.seen i (root_of i) m l k p)) → among s.locs l ≡ true
-      → IsGiven rules_of i (pour net.seen i (root_of i) m l k p) next births ds outs → AreApart (told_in s.groups ++ ds)
-      → Runs rules_of (length net.sites) net.tree i s (pour net.seen i (root_of i) m l k p) next births ds (posted_of (pour net.seen i (root_of i) m l k p).atoms) outs
-  runs_of net n atoms i s m l k p next births ds outs stands sound here given apart =
-      let a = pour net.seen i (root_of i) m l k p in
+  pub runs_of : (seen : List ℕ) (t : Tree) (n : Numbered) (atoms : List NumberedAtom) (i : ℕ) (s : Site) (m : Naming) (l : Loc) (k : ℕ) (p : Process) (next : ℕ) (births : List Loc) (ds : List Told) (outs : List Out)
+      → IsTreeOf t n.places → IsSound (add_made (record n { atoms = atoms }) i (pour seen i (root_of i) m l k p)) → among s.locs l ≡ true
+      → IsGiven rules_of i (pour seen i (root_of i) m l k p) next births ds outs → AreApart (told_in s.groups ++ ds)
+      → Runs rules_of t.roots t i s (pour seen i (root_of i) m l k p) next births ds (posted_of (pour seen i (root_of i) m l k p).atoms) outs
+  runs_of seen t n atoms i s m l k p next births ds outs tree sound here given apart =
+      let a = pour seen i (root_of i) m l k p in
       let ls = s.locs ++ births in
       let new : Numbered = add_made (record n { atoms = atoms }) i a in
       let l_in : among ls l ≡ true = here_too births s.locs l here in
       let born_in = subst (λ (bs : List Placed). Each (λ (b : Placed). among ls b.loc ≡ true) bs) (sym given.births_are) (births_in births s.locs (root_of i)) in
-      let stand = pour_in ls net.seen i (root_of i) p m l k l_in born_in in
+      let stand = pour_in ls seen i (root_of i) p m l k l_in born_in in
       let are : Each (IsAtom new) a.atoms = Each-right (IsAtom new) atoms a.atoms sound.atoms in
       let settled : Each (λ (x : NumberedAtom). IsSettled n.seen (IsNameOf new) x.loc x.term) a.atoms = Each-weaker (IsAtom new) (λ (x : NumberedAtom). IsSettled n.seen (IsNameOf new) x.loc x.term) (λ x h. h.1) a.atoms are in
-      let addressed : Each (λ (x : NumberedAtom). (among ls x.loc ≡ true) ⊎ (address net.tree x.loc < length net.sites)) a.atoms = Each-weaker (IsAtom new) (λ (x : NumberedAtom). (among ls x.loc ≡ true) ⊎ (address net.tree x.loc < length net.sites)) (λ x h. known_place x.loc a given.births_are h.0) a.atoms are in
+      let addressed : Each (λ (x : NumberedAtom). (among ls x.loc ≡ true) ⊎ (address t x.loc < t.roots)) a.atoms = Each-weaker (IsAtom new) (λ (x : NumberedAtom). (among ls x.loc ≡ true) ⊎ (address t x.loc < t.roots)) (λ x h. known_place x.loc a given.births_are h.0) a.atoms are in
       record {
         gives = record { next_is = given.next_is; births_are = given.births_are; rules_are = given.rules_are; atoms_are = all_posted n.seen (IsNameOf new) a.atoms settled; outs_are = given.outs_are };
         may = record {
           laid_here = laid_in ls ds given.guards given.rules (subst (λ (rs : List NumberedRule). Each (λ (q : NumberedRule). among ls q.loc ≡ true) rs) given.rules_are stand.rules);
           apart = apart;
-          may_post = all_may (length net.sites) net.tree ls n.seen (IsNameOf new) a.atoms settled stand.atoms addressed;
+          may_post = all_may t.roots t ls n.seen (IsNameOf new) a.atoms settled stand.atoms addressed;
         };
         coded = given.guards;
       }
     where
-      known_place : (x : Loc) (a : Made) → a.births ≡ births_at (root_of i) births → is_there (standing (n.places ++ a.births) x) ≡ true → (among (s.locs ++ births) x ≡ true) ⊎ (address net.tree x < length net.sites)
+      known_place : (x : Loc) (a : Made) → a.births ≡ births_at (root_of i) births → is_there (standing (n.places ++ a.births) x) ≡ true → (among (s.locs ++ births) x ≡ true) ⊎ (address t x < t.roots)
       known_place x a e h = go (is_there (standing n.places x)) refl
         where
-          born : (t : Bool) → among births x ≡ t → is_there (cond (among births x) (Some (record { host = Some (root_of i); marked = false })) None) ≡ true → among births x ≡ true
+          born : (u : Bool) → among births x ≡ u → is_there (cond (among births x) (Some (record { host = Some (root_of i); marked = false })) None) ≡ true → among births x ≡ true
           born true c f = c
           born false c f = let none : is_there None ≡ true = sym (ap (λ u. is_there (cond u (Some (record { host = Some (root_of i); marked = false })) None)) c) ∙ f in cc
 
-          go : (t : Bool) → is_there (standing n.places x) ≡ t → (among (s.locs ++ births) x ≡ true) ⊎ (address net.tree x < length net.sites)
-          go true c = inr (address_below rules_of net n stands x c)
+          go : (u : Bool) → is_there (standing n.places x) ≡ u → (among (s.locs ++ births) x ≡ true) ⊎ (address t x < t.roots)
+          go true c = inr (address_low t n.places tree x c)
           go false c =
               let in_births : is_there (standing a.births x) ≡ true = sym (ap is_there (standing_right n.places a.births x c)) ∙ h in
               let is = sym (ap is_there (ap (λ bs. standing bs x) e ∙ born_standing (root_of i) births x)) ∙ in_births in

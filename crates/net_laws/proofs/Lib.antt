@@ -28,3 +28,5 @@ pub mod Parts
 pub mod Interleaved
 pub mod Rounds
 pub mod CallLaws
+pub mod Guarded
+pub mod ByCode

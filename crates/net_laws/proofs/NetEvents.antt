@@ -1,27 +1,20 @@
 -- What the events of a network are: each is one event of the solution for which the network stands.
-use Rattle.std.specs.Prelude.{◌≡◌, ℕ, ◌<◌, List, [], ◌∷◌, ◌++◌, true, Some, slice_get, slice_set}
+use Rattle.std.specs.Prelude.{◌≡◌, ℕ, List, [], ◌∷◌, ◌++◌, Some, slice_get, slice_set}
 use Rattle.chem_model.specs.declared.name.Loc.{Loc}
-use Rattle.chem_model.specs.declared.name.Name.{Name}
-use Rattle.chem_model.specs.declared.name.Ref.TheVariants.{Known}
 use Rattle.chem_model.specs.declared.numbered.NumberedRule.{NumberedRule}
-use Rattle.chem_model.specs.declared.numbered.NumberedAtom.{NumberedAtom}
 use Rattle.chem_model.specs.declared.numbered.Numbered.{Numbered}
-use Rattle.chem_model.specs.Bag.{Bag, one, nothing, ◌⊕◌}
-use Rattle.chem_model.specs.Reduction.{continuation}
-use Rattle.chem_model.specs.Opening.{root_of}
-use Rattle.chem_model.specs.Pour.{pour}
+use Rattle.chem_model.specs.Bag.{one, nothing}
 use Rattle.wire_packet.specs.MessageFacts.{MessageParts}
 use Rattle.wire_packet.specs.declared.packet.GroupInst.{GroupInst}
 use Rattle.wire_packet.specs.declared.packet.Request.{Request}
-use Rattle.net_laws.specs.Site.{Group, Site, coded_atom, message_atom, messages_at, request_atom, request_atoms}
-use Rattle.loc_tree.specs.Tree.{spot, Tree, is_alive, is_dead, can_move, number_in, with_number, with_mark}
+use Rattle.net_laws.specs.Site.{Site, coded_atom, message_atom}
+use Rattle.loc_tree.specs.Tree.{with_number, with_mark}
 use Rattle.net_laws.specs.Net.{Addressed, Net, Effects, Stands, with_effects, with_site, without_packet}
 use Rattle.net_laws.specs.Choices.{Stepped}
 use Rattle.net_laws.specs.Parts.{ReactsHere, DetectsHere, HaltsHere, StaysHere, MovesHere}
-use Rattle.net_laws.specs.Changes.{given_all, ids, AreQueues, IsGuard, Takes, Changes, Pours, Leaves, Alters}
+use Rattle.net_laws.specs.Changes.{ids, Alters}
 use Rattle.chem_model.specs.declared.name.Name.TheVariants as name
 use Rattle.chem_model.specs.declared.event.Event.TheVariants as event
-use Rattle.wire_packet.specs.declared.packet.Ask.TheVariants as request
 
 module _ (rules_of : GroupInst → List NumberedRule) where
   abbrev pub ReactIsOneEvent : Type 0

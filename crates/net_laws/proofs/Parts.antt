@@ -1,6 +1,7 @@
 -- An event of a site, beside any others.
+use Rattle.wire_packet.specs.MessageFacts.{MessageParts}
 use Rattle.std.proofs.Common.{◌≡◌, ℕ, ◌+◌, ◌<◌, ◌≤◌, List, [], ◌++◌, Some, true, refl, sym, ap, ◌∙◌, subst, arith}
-use Rattle.std.specs.Prelude.{slice_set}
+use Rattle.std.specs.Prelude.{slice_set, slice_get}
 use Rattle.std.proofs.Math.ListN.{length-set}
 use Rattle.std.proofs.lemmas.List.{get_or-set_same, get_or-set_other}
 use Rattle.chem_model.specs.declared.name.Loc.{Loc}
@@ -25,13 +26,13 @@ use Rattle.chem_laws.proofs.Bags.{bag-append}
 use Rattle.chem_laws.proofs.Tied.{event_is_a_reduction}
 use Rattle.wire_packet.specs.declared.packet.GroupInst.{GroupInst}
 use Rattle.wire_packet.specs.declared.packet.Request.{Request}
-use Rattle.net_laws.specs.Site.{Site, coded_rule, coded_atom, messages_at, queues_at, queue_atoms, request_atom, request_atoms, atoms_of}
+use Rattle.net_laws.specs.Site.{Site, coded_rule, coded_atom, messages_at, queues_at, queue_atoms, request_atom, request_atoms, atoms_of, Group}
 use Rattle.loc_tree.specs.Tree.{spot, Tree, number_in, is_alive, with_number}
 use Rattle.loc_tree.specs.Places.{IsTreeOf}
 use Rattle.loc_tree.proofs.Alive.{alive_is_live, number_is_of_root, moves_as_go_needs, dies_as_detect_needs}
 use Rattle.loc_tree.proofs.Follows.{move_follows, mark_follows}
 use Rattle.net_laws.specs.Net.{with_births, Effects}
-use Rattle.net_laws.specs.Changes.{given_all, ids, Pours}
+use Rattle.net_laws.specs.Changes.{given_all, ids, Pours, AreQueues, IsGuard, Takes}
 use Rattle.net_laws.specs.Parts.{IsPart, GoesOn, ReactionOfAPart, DetectionOfAPart, HaltOfAPart, MoveOfAPart, DeliveryToAPart, MoveOfTwoParts}
 use Rattle.net_laws.proofs.Found.{atom_in, bag_without}
 use Rattle.net_laws.proofs.React.{atoms_differ, react_applies, atoms_left}
@@ -92,6 +93,27 @@ module _ (rules_of : GroupInst → List NumberedRule) where
     where
       go : (x : NumberedAtom) → messages_at r.loc ms x ≡ messages_at reacts.group.told.inst.loc ms x → queues_at reacts.group.told.inst.loc reacts.group.queues x ≡ messages_at reacts.group.told.inst.loc ms x + queues_at reacts.group.told.inst.loc reacts.left x
           → queues_at reacts.group.told.inst.loc reacts.group.queues x ≤ queue_atoms s.groups x → bag coded_atom n.atoms x ≡ atoms_of s x + atoms x → messages_at r.loc ms x ≤ bag coded_atom n.atoms x
+      go x a b c d = omega arith
+
+  -- a reaction that a guard and its queues allow is possible, and leaves the solution sound
+  pub part_reacts : (seen : List ℕ) (t : Tree) (i j : ℕ) (s : Site) (g : Group) (r : NumberedRule) (cs : List ℕ) (ms : List MessageParts) (left : List (List MessageParts)) (rules : Bag NumberedRule) (atoms : Bag NumberedAtom) (n : Numbered)
+      → IsPart rules_of seen t i s rules atoms n → slice_get s.groups j ≡ Some g → AreQueues g.told.inst 0 g.told.counts g.queues → IsGuard rules_of g.told r cs
+      → number_in (spot t r.loc) ≡ Some i → is_alive t r.loc ≡ true → Takes g.queues cs ms left
+      → IsSound (add_made (record n { atoms = without_all (ids ms) n.atoms }) i (pour seen i (root_of i) (given_all r.pats ms) r.loc s.made r.body))
+  part_reacts seen t i j s g r cs ms left rules atoms n part held queues guard hosted alive takes =
+      let among : (x : NumberedAtom) → messages_at r.loc ms x ≤ bag coded_atom n.atoms x = λ x.
+      go x (ap (λ (l : Loc). messages_at l ms x) guard.loc) (takes_bag g.told.inst.loc g.queues cs ms left x takes) (queued_at s.groups j g x held) (part.atoms_are x) in
+      let there : 0 < bag coded_rule n.rules r = omega (arith, part.rules_are r, group_among rules_of s.groups j g r held, guard.stands) in
+      let fits = takes_for g.told.inst g.told.counts g.queues r.pats cs ms left queues guard.channels takes in
+      let applies = react_applies n part.sound r ms there (lives rules_of seen t i s s rules atoms n part r.loc alive) fits among in
+      let mid : Numbered = record n { atoms = without_all (ids ms) n.atoms } in
+      let made = pour seen i (root_of i) (given_all r.pats ms) r.loc s.made r.body in
+      let at_root : root (standing n.places) r.loc ≡ root_of i = number_is_of_root t n.places part.tree r.loc i hosted in
+      let is : pour_at mid (given_all r.pats ms) r.loc r.body ≡ add_made mid i made = pour_is mid (given_all r.pats ms) r.loc r.body seen i s.made at_root part.seen_is part.count in
+      (event_is_a_reduction n (add_made mid i made) (event.React r.id (ids ms)) part.sound (applies ∙ ap Some is)).sound
+    where
+      go : (x : NumberedAtom) → messages_at r.loc ms x ≡ messages_at g.told.inst.loc ms x → queues_at g.told.inst.loc g.queues x ≡ messages_at g.told.inst.loc ms x + queues_at g.told.inst.loc left x
+          → queues_at g.told.inst.loc g.queues x ≤ queue_atoms s.groups x → bag coded_atom n.atoms x ≡ atoms_of s x + atoms x → messages_at r.loc ms x ≤ bag coded_atom n.atoms x
       go x a b c d = omega arith
 
   pub detection_of_a_part : DetectionOfAPart rules_of

@@ -15,7 +15,7 @@ use Rattle.loc_tree.specs.Tree.{Tree, Entries, spot, number_in, is_pair_of, is_r
 use Rattle.loc_tree.specs.Places.{host_in, standing_in, places_in, IsTree, IsTreeOf}
 use Rattle.loc_tree.proofs.Spots.{same_loc_sym, same_loc_refl, lookup-change}
 use Rattle.loc_tree.proofs.Alive.{own_number}
-use Rattle.net_laws.specs.Net.{among, with_births}
+use Rattle.net_laws.specs.Net.{among, with_births, address, or_first}
 use Rattle.net_laws.specs.Changes.{births_at}
 
 -- ---- births
@@ -175,3 +175,13 @@ mark_number t l x = ap number_in (lookup-change l x marked t.entries) ∙ go (sa
     go true None = refl
     go true (Some p) = refl
     go false o = refl
+
+-- ---- addresses
+
+-- a location that is there has the number of a root
+pub address_low : (t : Tree) (placed : List Placed) → IsTreeOf t placed → (l : Loc) → is_there (standing placed l) ≡ true → address t l < t.roots
+address_low t placed of l there = go (spot t l) refl (sym (ap is_there (of.same l)) ∙ there)
+  where
+    go : (o : Option Spot) → spot t l ≡ o → is_there (standing_in (is_root t l) o) ≡ true → or_first (number_in o) < t.roots
+    go None c e = cc
+    go (Some s) c e = of.is.below l s.number (ap number_in c)

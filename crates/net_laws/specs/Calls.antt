@@ -1,5 +1,5 @@
 -- What the calls of a site are: by the functions of what it holds, the events of a part.
-use Rattle.std.specs.Prelude.{◌≡◌, ℕ, ◌<◌, true, List, [], ◌∷◌, ◌++◌, Some, slice_get}
+use Rattle.std.specs.Prelude.{◌≡◌, ℕ, true, List, [], ◌++◌, Some, slice_get}
 use Rattle.chem_model.specs.declared.name.Loc.{Loc}
 use Rattle.chem_model.specs.declared.name.Name.{Name}
 use Rattle.chem_model.specs.declared.name.Ref.TheVariants.{Known}
@@ -15,7 +15,7 @@ use Rattle.wire_packet.specs.declared.packet.GroupInst.{GroupInst}
 use Rattle.wire_packet.specs.declared.packet.Request.{Request}
 use Rattle.loc_tree.specs.Tree.{Tree, spot, number_in, is_alive, is_dead, can_move, with_number}
 use Rattle.net_laws.specs.Site.{Told, Group, Site, told_in, coded_atom, message_atom}
-use Rattle.net_laws.specs.Net.{Addressed, IsOnItsWay, among}
+use Rattle.net_laws.specs.Net.{IsOnItsWay, among}
 use Rattle.net_laws.specs.Changes.{IsGuard, Takes, Alters, given_all}
 use Rattle.net_laws.specs.Kept.{IsKept}
 use Rattle.net_laws.specs.Holding.{put, request_with, drop_request}

@@ -12,3 +12,4 @@ pub mod Enabled
 pub mod Parts
 pub mod Rounds
 pub mod Calls
+pub mod ByCode

@@ -9,6 +9,7 @@ ghost use Rattle.net_laws.specs.Parts.{ReactionOfAPart, DetectionOfAPart, HaltOf
 ghost use Rattle.net_laws.specs.Parts.{DeliveryToAPart, MoveOfTwoParts};
 ghost use Rattle.net_laws.specs.Calls.{ReactCall, DetectCall, HaltCall, MoveWithinCall};
 ghost use Rattle.net_laws.specs.Calls.{MoveBetweenCall, DeliverCall};
+ghost use Rattle.net_laws.specs.ByCode.{RulesAreGuards, RunFits, RunsAreGuarded, ReactionByCode};
 ghost use Rattle.net_laws.specs.Choices.{ChoiceIsOneEvent};
 ghost use Rattle.net_laws.specs.Enabled.{NoChoiceIsQuiet, ChoicesCanBeMade};
 ghost use Rattle.net_laws.specs.Opening.{StartStands};
@@ -86,6 +87,28 @@ pub fn deliver_call()
 /// when it was laid. It does nothing.
 pub fn parcel_carries()
     ensures { (told : GroupInst → Told) → ParcelCarries told }
+{}
+
+/// Each rule of a group of a program is the guard of its place in the level. It does nothing.
+pub fn rules_are_guards()
+    ensures { RulesAreGuards }
+{}
+
+/// Each group that a run of a body lays is of a level with guards. It does nothing.
+pub fn runs_are_guarded()
+    ensures { RunsAreGuarded }
+{}
+
+/// A run of code that makes what is poured fits a site: its births may be hosted, its groups laid
+/// and its messages and requests posted, and it gives what is poured. It does nothing.
+pub fn run_fits()
+    ensures { RunFits }
+{}
+
+/// A site that takes the fronts of a guard's queues and runs the guard's body makes one React of
+/// each sound solution of which it is a part, and keeps its facts. It does nothing.
+pub fn reaction_by_code()
+    ensures { ReactionByCode }
 {}
 
 /// Where a network stands for a solution, a choice is one event of that solution, or none, and the

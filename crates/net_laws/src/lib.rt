@@ -11,5 +11,6 @@ pub use laws::{
     choice_is_one_event, choices_can_be_made, choices_replay, deliver_call, delivery_to_a_part,
     detect_call, detection_of_a_part, halt_call, halt_of_a_part, move_between_call, move_of_a_part,
     move_of_two_parts, move_within_call, network_runs, no_choice_is_quiet, parcel_carries,
-    react_call, reaction_of_a_part, round_is_choices, start_stands,
+    react_call, reaction_by_code, reaction_of_a_part, round_is_choices, rules_are_guards, run_fits,
+    runs_are_guarded, start_stands,
 };
