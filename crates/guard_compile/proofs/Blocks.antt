@@ -1,5 +1,5 @@
 -- What a block and a place add, put together from what their parts add.
-use Rattle.std.proofs.Common.{◌≡◌, ℕ, ◌+◌, List, [], ◌∷◌, ◌++◌, length, Option, Some, None, Result, Ok, Err, OnOk, take, refl, sym, ap, ◌∙◌, subst, append_assoc}
+use Rattle.std.proofs.Common.{◌≡◌, ℕ, List, [], ◌∷◌, ◌++◌, length, Some, None, Result, Ok, Err, OnOk, take, refl, sym, ap, ◌∙◌, subst, append_assoc}
 use Rattle.chem_model.specs.declared.memory.Memory.{Memory}
 use Rattle.chem_model.specs.declared.name.Ref.{Ref}
 use Rattle.chem_model.specs.Process.{Process, Def, Definitions, Place}
@@ -8,7 +8,6 @@ use Rattle.chem_model.specs.Fill.{Naming}
 use Rattle.chem_laws.proofs.Lists.{append_nil}
 use Rattle.env_store.specs.declared.code.Instr.{Instr}
 use Rattle.env_store.specs.declared.code.Instr.TheVariants as instr
-use Rattle.env_store.specs.declared.code.Level.{Level}
 use Rattle.env_store.specs.declared.code.Block.{Block}
 use Rattle.env_store.specs.Layout.{rules_in, new_channels, new_counts, place_order, places_order, order}
 use Rattle.guard_compile.specs.declared.write.At.{At}

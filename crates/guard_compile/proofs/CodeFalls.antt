@@ -1,5 +1,5 @@
 -- In the code of a program, the bodies of the places that a body opens have smaller numbers.
-use Rattle.std.proofs.Common.{◌≡◌, ℕ, zero, suc, ◌+◌, ◌<◌, ◌≤◌, List, [], ◌∷◌, ◌++◌, length, Option, Some, None, refl, sym, ap, ◌∙◌, subst, arith, length-append}
+use Rattle.std.proofs.Common.{◌≡◌, ℕ, zero, suc, ◌+◌, ◌≤◌, List, [], ◌∷◌, ◌++◌, length, Option, Some, None, sym, ap, subst, arith}
 use Rattle.std.specs.Prelude.{slice_get}
 use Rattle.chem_model.specs.declared.program.SiteTerm.{SiteTerm}
 use Rattle.chem_model.specs.Process as term
@@ -17,10 +17,8 @@ use Rattle.env_store.specs.CodeParts.{CodeParts}
 use Rattle.env_store.specs.Running.{NumberedLevel, with_level, numbered_levels}
 use Rattle.env_store.specs.CodeFacts.{IsBelow, AreBelow, IsBlockBelow, Falls, BodiesFall}
 use Rattle.guard_compile.specs.declared.write.At.{At}
-use Rattle.guard_compile.specs.declared.write.Piece.{Piece}
-use Rattle.guard_compile.specs.declared.write.Defined.{Defined}
-use Rattle.guard_compile.specs.Written.{join, behind, inside, above, body_piece, level_piece, block_piece, level_of, Wrote, with_body, write, write_all, write_defs, write_def, site_piece, write_sites, code_of}
-use Rattle.guard_compile.proofs.From.{after, HasFrom, has_left, has_right, Holds, holds_left, holds_right}
+use Rattle.guard_compile.specs.Written.{join, behind, inside, body_piece, level_piece, block_piece, level_of, Wrote, with_body, write, write_all, write_defs, write_def, site_piece, write_sites, code_of}
+use Rattle.guard_compile.proofs.From.{Holds, holds_left, holds_right}
 use Rattle.guard_compile.proofs.WrittenReads.{block_after, level_after, next_is, next_is_all, next_is_defs, next_is_def, guards_long}
 use Rattle.guard_compile.proofs.CodeRead.{has_all, sat, sd, sw, sfront, front_next, defs_next, site_next}
 

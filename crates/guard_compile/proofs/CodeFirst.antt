@@ -1,5 +1,5 @@
 -- In the code of a program, guards are numbered by level, and within a level by order.
-use Rattle.std.proofs.Common.{◌≡◌, ℕ, zero, suc, ◌+◌, List, [], ◌∷◌, ◌++◌, length, take, Option, Some, None, refl, sym, ap, ◌∙◌, subst, arith, length-append}
+use Rattle.std.proofs.Common.{◌≡◌, ℕ, zero, suc, ◌+◌, List, [], ◌∷◌, ◌++◌, length, take, Some, None, refl, sym, ap, ◌∙◌, subst, arith, length-append}
 use Rattle.std.specs.Prelude.{slice_get}
 use Rattle.chem_model.specs.declared.program.SiteTerm.{SiteTerm}
 use Rattle.chem_model.specs.Process as term
@@ -13,11 +13,9 @@ use Rattle.env_store.specs.declared.code.Block.{Block}
 use Rattle.env_store.specs.Layout.{rules_in, new_channels, place_order, place_in, order, LevelTerm, levels_of, levels_of_all, levels_of_defs, levels_of_def, levels_of_site, levels_of_sites, levels_of_program, all_rules}
 use Rattle.env_store.specs.CodeParts.{CodeParts}
 use Rattle.guard_compile.specs.declared.write.At.{At}
-use Rattle.guard_compile.specs.declared.write.Piece.{Piece}
-use Rattle.guard_compile.specs.declared.write.Defined.{Defined}
-use Rattle.guard_compile.specs.Written.{join, behind, inside, above, body_piece, level_piece, block_piece, level_of, Wrote, with_body, write, write_all, write_defs, write_def, site_piece, write_sites, code_of}
-use Rattle.guard_compile.proofs.From.{after, Holds, holds_left, holds_right}
-use Rattle.guard_compile.proofs.WrittenReads.{block_after, level_after, next_is, next_is_defs, next_is_def, levels_long, levels_long_all, levels_long_defs, levels_long_def, guards_long}
+use Rattle.guard_compile.specs.Written.{join, behind, inside, body_piece, level_piece, block_piece, level_of, with_body, write, write_all, write_defs, write_def, site_piece, write_sites, code_of}
+use Rattle.guard_compile.proofs.From.{Holds, holds_left, holds_right}
+use Rattle.guard_compile.proofs.WrittenReads.{block_after, level_after, next_is, next_is_defs, next_is_def, levels_long, levels_long_defs, levels_long_def, guards_long}
 use Rattle.guard_compile.proofs.CodeRead.{has_all, sat, sd, sw, sfront, front_next, defs_next, site_next}
 
 rules_joined : (ts us : List LevelTerm) → all_rules (ts ++ us) ≡ all_rules ts + all_rules us

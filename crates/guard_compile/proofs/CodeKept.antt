@@ -1,15 +1,12 @@
 -- The code of a program keeps the facts of its type.
-use Rattle.std.proofs.Common.{◌≡◌, ℕ, zero, suc, ◌+◌, ◌-◌, ◌≤◌, ◌<◌, List, [], ◌∷◌, ◌++◌, length, take, Option, Some, None, refl, sym, ap, ◌∙◌, subst, arith, length-append, ◌⊎◌, inl, inr, ◌==◌, Bool, true, false, cond, eqb-true, Result, Ok, Err, IfOk}
+use Rattle.std.proofs.Common.{◌≡◌, ℕ, zero, suc, ◌+◌, ◌-◌, ◌≤◌, ◌<◌, List, [], ◌∷◌, ◌++◌, length, take, Option, Some, None, refl, sym, ap, ◌∙◌, subst, arith, length-append, inl, inr, ◌==◌, Bool, true, false, cond, eqb-true}
 use Rattle.std.specs.List.{Contains}
-use Rattle.std.specs.Prelude.{slice_get, slice_index, slice_index_or}
+use Rattle.std.specs.Prelude.{slice_get, slice_index}
 use Rattle.std.proofs.lemmas.Option.{slice_get_within}
 use Rattle.std.proofs.lemmas.Bool.{cases_lt}
-use Rattle.chem_model.specs.declared.name.Loc.{Loc}
 use Rattle.chem_model.specs.declared.name.Name.{Name}
 use Rattle.chem_model.specs.declared.name.Name.TheVariants as name
-use Rattle.chem_model.specs.declared.name.Ref.TheVariants.{Binder, Known}
 use Rattle.chem_model.specs.declared.name.Pat.{Pat}
-use Rattle.chem_model.specs.declared.numbered.Made.{Made}
 use Rattle.chem_model.specs.declared.program.SeenDecl.{SeenDecl}
 use Rattle.chem_model.specs.declared.program.SiteTerm.{SiteTerm}
 use Rattle.chem_model.specs.Process as term
@@ -21,18 +18,17 @@ use Rattle.chem_model.specs.Opening.{root_of, site_names, counts_of}
 use Rattle.chem_model.specs.Pour.{Drawn, naming, lay_rules, lay_places, pour}
 use Rattle.chem_model.specs.ProgramFacts.{ProgramTerms, IsProgram, IsDeclared, places}
 use Rattle.chem_model.specs.Reduction.{given}
-use Rattle.chem_model.specs.Scope.{IsTerm, IsBlock, AreDefinitions}
-use Rattle.env_store.specs.declared.code.Instr.{Instr}
+use Rattle.chem_model.specs.Scope.{IsTerm, AreDefinitions}
 use Rattle.env_store.specs.declared.code.Guard.{Guard}
 use Rattle.env_store.specs.declared.code.Level.{Level}
 use Rattle.env_store.specs.declared.code.SiteCode.{SiteCode}
 use Rattle.env_store.specs.CodeParts.{CodeParts}
-use Rattle.env_store.specs.CodeFacts.{IsKnownTo, IsLevelAt, IsBodyAt, BodiesFall, received, IsGuardAt, IsPlaceBody, IsLevel, IsBlockAt, IsSiteCode, IsCode}
-use Rattle.env_store.specs.Layout.{rules_in, new_channels, places_order, order, LevelTerm, level_term, levels_of_program, all_rules}
-use Rattle.env_store.specs.Running.{Ran, loc_at, code_made, site_made}
+use Rattle.env_store.specs.CodeFacts.{IsKnownTo, IsLevelAt, IsBodyAt, BodiesFall, received, IsGuardAt, IsPlaceBody, IsLevel, IsSiteCode, IsCode}
+use Rattle.env_store.specs.Layout.{rules_in, new_channels, places_order, LevelTerm, level_term, levels_of_program, all_rules}
+use Rattle.env_store.specs.Running.{loc_at, code_made}
 use Rattle.env_store.specs.Groups.{Poured, unnamed, as_poured}
 use Rattle.env_store.specs.Masks.{IsMask}
-use Rattle.env_store.specs.Reading.{position_from, position, locs_in, AreChannels, ReadsPlaces, ReadsBody, ReadsGuard, ReadsRules, ReadsLevel, ReadsProcess, ReadsSite, IsCodeOf}
+use Rattle.env_store.specs.Reading.{position_from, locs_in, AreChannels, ReadsBody, ReadsGuard, ReadsRules, ReadsLevel, ReadsProcess, IsCodeOf}
 use Rattle.env_store.proofs.Bodies.{code_made_is}
 use Rattle.env_store.proofs.Draws.{pour_draws, places_draw}
 use Rattle.env_store.proofs.NamingOrder.{order_is}

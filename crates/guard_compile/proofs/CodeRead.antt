@@ -1,23 +1,20 @@
 -- The code of a program reads as the program.
-use Rattle.std.proofs.Common.{◌≡◌, ℕ, zero, suc, ◌+◌, ◌≤◌, ◌<◌, List, [], ◌∷◌, ◌++◌, length, Option, Some, None, refl, sym, ap, ◌∙◌, subst, arith, append_assoc, length-append}
+use Rattle.std.proofs.Common.{◌≡◌, ℕ, zero, suc, ◌+◌, List, [], ◌∷◌, ◌++◌, length, Some, None, refl, sym, subst, arith, append_assoc, length-append}
 use Rattle.std.specs.Prelude.{slice_get}
 use Rattle.chem_model.specs.declared.program.SiteTerm.{SiteTerm}
 use Rattle.chem_model.specs.Process as term
 use Rattle.chem_model.specs.Process.{Process, Definitions}
-use Rattle.chem_model.specs.ProgramFacts.{ProgramTerms, IsProgram}
 use Rattle.chem_model.specs.Fill.{Naming}
-use Rattle.chem_model.specs.Opening.{site_names}
-use Rattle.chem_laws.proofs.Lists.{append_nil}
-use Rattle.env_store.specs.Layout.{rules_in, new_channels, order, LevelTerm, level_term, levels_of, levels_of_defs, levels_of_site, levels_of_sites, levels_of_program}
+use Rattle.env_store.specs.Layout.{rules_in, new_channels, order, LevelTerm, level_term, levels_of, levels_of_defs, levels_of_site, levels_of_sites}
 use Rattle.env_store.specs.CodeParts.{CodeParts}
 use Rattle.env_store.specs.Reading.{ReadsSite, ReadsSites}
 use Rattle.guard_compile.specs.declared.write.At.{At}
 use Rattle.guard_compile.specs.declared.write.Piece.{Piece}
 use Rattle.guard_compile.specs.declared.write.Defined.{Defined}
-use Rattle.guard_compile.specs.Written.{join, behind, inside, above, body_piece, block_piece, level_of, Wrote, with_body, write, write_defs, WroteSites, write_sites, code_of}
+use Rattle.guard_compile.specs.Written.{join, behind, inside, above, body_piece, block_piece, level_of, Wrote, with_body, write, write_defs, write_sites}
 use Rattle.guard_compile.proofs.From.{after, HasFrom, has_left, has_right, Holds, holds_left, holds_right}
 use Rattle.guard_compile.proofs.Slotted.{Slotted, DefsSlotted}
-use Rattle.guard_compile.proofs.WrittenReads.{LevelReads, none_after, after_join, body_after, block_after, next_is, next_is_defs, guards_long, levels_long, levels_long_defs, defs_level, term_level, places_read, body_reads, rules_read, LevelsRead, levels_joined, levels_read, levels_read_defs}
+use Rattle.guard_compile.proofs.WrittenReads.{LevelReads, after_join, body_after, block_after, next_is, next_is_defs, guards_long, levels_long, levels_long_defs, defs_level, term_level, places_read, body_reads, rules_read, LevelsRead, levels_joined, levels_read, levels_read_defs}
 
 -- a list has its own members
 has_behind : {X : Type 0} (pre xs : List X) → HasFrom (pre ++ xs) (length pre) xs

@@ -1,14 +1,13 @@
 -- Instructions that read as a process fit the layout, and what they know is known to the code.
-use Rattle.std.proofs.Common.{◌≡◌, ℕ, ◌+◌, ◌-◌, ◌<◌, ◌≤◌, List, [], ◌∷◌, ◌++◌, ◌==◌, length, Option, Some, None, Bool, true, false, cond, refl, sym, ap, ◌∙◌, subst, arith, length-append}
+use Rattle.std.proofs.Common.{◌≡◌, ℕ, ◌+◌, ◌-◌, ◌<◌, List, [], ◌∷◌, ◌++◌, ◌==◌, length, Option, Some, None, Bool, true, false, cond, refl, sym, ◌∙◌, subst, arith, length-append}
 use Rattle.std.specs.Prelude.{slice_get}
 use Rattle.chem_model.specs.declared.name.Name.{Name}
 use Rattle.chem_model.specs.declared.name.Ref.{Ref}
 use Rattle.chem_model.specs.declared.name.Ref.TheVariants.{Binder, Known}
-use Rattle.chem_model.specs.Process.{Process, Msg, Par, Def, Go, Fail, Halt, Processes, none, one_more, Definition, Rule, Place, Definitions, no_definition, and_also}
+use Rattle.chem_model.specs.Process.{Process, Msg, Par, Def, Go, Fail, Halt, Processes, none, one_more, Rule, Place, Definitions, no_definition, and_also}
 use Rattle.chem_model.specs.Binders.{binder_of}
-use Rattle.std.specs.List.{All}
 use Rattle.chem_model.specs.Each.{Each}
-use Rattle.chem_model.specs.Scope.{IsInScope, IsTerm, AreTerms, AreDefinitions}
+use Rattle.chem_model.specs.Scope.{IsInScope, IsTerm, AreTerms}
 use Rattle.chem_model.specs.Binders.{block}
 use Rattle.chem_laws.proofs.Lists.{all_each}
 use Rattle.chem_model.specs.Fill.{Naming, name_at}
@@ -16,10 +15,9 @@ use Rattle.env_store.specs.declared.code.Slot.{Slot}
 use Rattle.env_store.specs.declared.code.Slot.TheVariants as slot
 use Rattle.env_store.specs.declared.code.Instr.{Instr}
 use Rattle.env_store.specs.declared.code.Instr.TheVariants as instr
-use Rattle.env_store.specs.declared.code.Block.{Block}
 use Rattle.env_store.specs.Layout.{new_channels, place_in, order, LevelTerm, level_term}
 use Rattle.env_store.specs.CodeParts.{CodeParts}
-use Rattle.env_store.specs.Reading.{position_from, position, top_or_place, slot_of, AreSlots, ReadsPlaces, ReadsLevels, Reads, ReadsAll, ReadsLevel}
+use Rattle.env_store.specs.Reading.{position_from, position, top_or_place, slot_of, AreSlots, ReadsPlaces, Reads, ReadsAll, ReadsLevel}
 use Rattle.env_store.specs.CodeFacts.{IsKnownTo, IsSlotAt, IsLevelAt, Fits}
 
 position_within : (k : ℕ) (y : List ℕ) (b i : ℕ) → position_from k y b ≡ Some i → i < k + length y

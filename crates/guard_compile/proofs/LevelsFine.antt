@@ -1,6 +1,5 @@
 -- What each level of a program keeps: the argument counts of its channels, and rules and processes that are parts of the program.
-use Rattle.std.proofs.Common.{◌≡◌, ℕ, ◌+◌, ◌≤◌, List, [], ◌∷◌, ◌++◌, length, Option, Some, None, Bool, true, false, cond, refl, sym, ap, ◌∙◌, subst, arith}
-use Rattle.std.proofs.lemmas.List.Sums.{sum_by-cons}
+use Rattle.std.proofs.Common.{◌≡◌, ℕ, ◌+◌, ◌≤◌, List, [], ◌∷◌, ◌++◌, length, Option, Some, None, Bool, true, false, cond, refl, sym, ap, ◌∙◌, arith}
 use Rattle.chem_model.specs.declared.name.Name.{Name}
 use Rattle.chem_model.specs.declared.name.Ref.{Ref}
 use Rattle.chem_model.specs.declared.name.Ref.TheVariants.{Binder, Known}
@@ -8,7 +7,7 @@ use Rattle.chem_model.specs.declared.name.Pat.{Pat}
 use Rattle.chem_model.specs.declared.program.SiteTerm.{SiteTerm}
 use Rattle.chem_model.specs.Process as term
 use Rattle.chem_model.specs.Process.{Process, Msg, Par, Def, Go, Fail, Halt, Processes, none, one_more, Definition, Rule, Place, Definitions, no_definition, and_also}
-use Rattle.chem_model.specs.Binders.{binder_of, params_of, block, is_among, at, patterns_of, nodes, nodes_of_all, nodes_of, definition_nodes, pattern_nodes}
+use Rattle.chem_model.specs.Binders.{binder_of, params_of, block, is_among, at, patterns_of, nodes, nodes_of_all, definition_nodes}
 use Rattle.chem_model.specs.Scope.{Agree, AreRules, AreRulesAndPlaces, IsBlock, IsTerm, AreTerms, AreDefinitions}
 use Rattle.chem_model.specs.Each.{Each}
 use Rattle.chem_model.specs.ProgramFacts.{ProgramTerms, IsProgram, IsDeclared, places}
@@ -16,7 +15,7 @@ use Rattle.chem_laws.proofs.Lists.{Each-append, Each-left, Each-right, EachPair,
 use Rattle.chem_laws.proofs.Terms.{among_first}
 use Rattle.chem_laws.proofs.OpeningBlocks.{IsBlockAt, of_block, own_block, other_block}
 use Rattle.chem_laws.proofs.OpeningNames.{HasLevel}
-use Rattle.env_store.specs.Layout.{new_ref, new_in, new_channels, count_ref, counts_in, new_counts, place_order, place_in, order, LevelTerm, level_term, levels_of, levels_of_all, levels_of_defs, levels_of_def, levels_of_site, levels_of_sites, levels_of_program}
+use Rattle.env_store.specs.Layout.{new_ref, new_in, new_channels, count_ref, counts_in, new_counts, place_order, order, LevelTerm, levels_of, levels_of_all, levels_of_defs, levels_of_site, levels_of_sites, levels_of_program}
 
 -- ---- a channel's count
 

@@ -1,5 +1,5 @@
 -- The mask of a level's channels has exactly their bits.
-use Rattle.std.proofs.Common.{◌≡◌, ◌≢◌, ℕ, zero, suc, ◌+◌, ◌*◌, ◌/◌, ◌%◌, ◌^◌, ◌<◌, ◌≤◌, Bool, true, false, List, [], ◌∷◌, ◌==◌, ◌||◌, length, get_or, set, eqb, refl, sym, ap, ◌∙◌, inl, inr, arith, Option, Some, None, cond}
+use Rattle.std.proofs.Common.{◌≡◌, ◌≢◌, ℕ, ◌+◌, ◌*◌, ◌/◌, ◌%◌, ◌^◌, ◌<◌, Bool, true, false, List, [], ◌∷◌, ◌==◌, ◌||◌, length, get_or, set, eqb, refl, sym, ap, ◌∙◌, inl, inr, arith, Some, cond}
 use Rattle.std.specs.Prelude.{bit_or, replicate}
 use Rattle.std.specs.Int.{bit_at, w64}
 use Rattle.std.proofs.lemmas.Bool.{cases_eq, cases_lt}
@@ -10,7 +10,7 @@ use Rattle.chem_model.specs.declared.name.Pat.{Pat}
 use Rattle.chem_model.specs.Each.{Each}
 use Rattle.chem_model.specs.Binders.{is_among}
 use Rattle.env_store.specs.Masks.{has_bit, number_of_words, IsMask}
-use Rattle.env_store.specs.Reading.{position_from, position}
+use Rattle.env_store.specs.Reading.{position_from}
 use Rattle.guard_compile.specs.Written.{channel_of, channels_of, with_bit, with_bits, mask_of}
 use Rattle.guard_compile.proofs.Slotted.{IsChannel, channel_is}
 

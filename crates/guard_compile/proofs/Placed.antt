@@ -1,5 +1,5 @@
 -- In the code of a program, each block has its levels, each level its block, and each place its body.
-use Rattle.std.proofs.Common.{◌≡◌, ℕ, zero, suc, ◌+◌, ◌<◌, ◌≤◌, List, [], ◌∷◌, ◌++◌, length, Option, Some, None, refl, sym, ap, ◌∙◌, subst, arith, length-append}
+use Rattle.std.proofs.Common.{◌≡◌, ℕ, zero, suc, ◌+◌, ◌<◌, List, [], ◌∷◌, ◌++◌, length, Option, Some, None, refl, sym, ap, ◌∙◌, subst, arith, length-append}
 use Rattle.std.specs.Prelude.{slice_get}
 use Rattle.std.proofs.lemmas.Option.{slice_get_within}
 use Rattle.chem_model.specs.declared.name.Ref.{Ref}
@@ -24,10 +24,10 @@ use Rattle.env_store.proofs.Pouring.{level_counts}
 use Rattle.guard_compile.specs.declared.write.At.{At}
 use Rattle.guard_compile.specs.declared.write.Piece.{Piece}
 use Rattle.guard_compile.specs.declared.write.Defined.{Defined}
-use Rattle.guard_compile.specs.Written.{join, behind, inside, above, body_piece, level_piece, block_piece, level_of, Wrote, with_body, write, write_all, write_defs, write_def, site_piece, write_sites, code_of}
+use Rattle.guard_compile.specs.Written.{join, behind, inside, body_piece, level_piece, block_piece, level_of, Wrote, with_body, write, write_all, write_defs, write_def, site_piece, write_sites, code_of}
 use Rattle.guard_compile.proofs.From.{after, Holds, holds_left, holds_right}
 use Rattle.guard_compile.proofs.Slotted.{Slotted, AllSlotted, DefsSlotted, DefSlotted}
-use Rattle.guard_compile.proofs.WrittenReads.{block_after, level_after, next_is, next_is_all, next_is_defs, next_is_def, guards_long}
+use Rattle.guard_compile.proofs.WrittenReads.{block_after, level_after, next_is, next_is_defs, next_is_def, guards_long}
 use Rattle.guard_compile.proofs.CodeFalls.{one_level}
 use Rattle.guard_compile.proofs.CodeRead.{SitesSlotted, has_all, sat, sd, sw, sfront, front_next, defs_next, site_next}
 

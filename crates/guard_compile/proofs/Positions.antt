@@ -1,5 +1,5 @@
 -- The first places of a list's members, with one member more or less at the end.
-use Rattle.std.proofs.Common.{◌≡◌, ℕ, zero, suc, ◌+◌, ◌-◌, ◌<◌, ◌≤◌, List, [], ◌∷◌, ◌++◌, ◌==◌, ◌||◌, length, take, Option, Some, None, Bool, true, false, cond, refl, sym, ap, ◌∙◌, arith, eq-eqb, eqb-true, length-take}
+use Rattle.std.proofs.Common.{◌≡◌, ℕ, zero, suc, ◌+◌, ◌<◌, List, [], ◌∷◌, ◌++◌, ◌==◌, ◌||◌, length, take, Option, Some, None, Bool, true, false, cond, refl, sym, ap, ◌∙◌, arith, eq-eqb, eqb-true, length-take}
 use Rattle.std.specs.Prelude.{slice_get, is_some, nat_eq}
 use Rattle.std.specs.Option.{option_eq}
 use Rattle.chem_model.specs.Binders.{is_among}

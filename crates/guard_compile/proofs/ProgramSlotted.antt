@@ -1,13 +1,13 @@
 -- Each name of a program has a slot, so its code reads as the program.
-use Rattle.std.proofs.Common.{◌≡◌, ℕ, ◌+◌, ◌≤◌, List, [], ◌∷◌, ◌++◌, length, None, true, cond, refl, sym, ap, ◌∙◌, arith, inl}
+use Rattle.std.proofs.Common.{◌≡◌, ℕ, ◌+◌, ◌≤◌, List, [], ◌∷◌, length, None, cond, ap, ◌∙◌, arith, inl}
 use Rattle.std.specs.Prelude.{is_some}
 use Rattle.chem_model.specs.declared.name.Ref.TheVariants.{Binder}
 use Rattle.chem_model.specs.declared.name.Name.{Name}
 use Rattle.chem_model.specs.declared.program.SiteTerm.{SiteTerm}
 use Rattle.chem_model.specs.Process as term
 use Rattle.chem_model.specs.Process.{Place}
-use Rattle.chem_model.specs.Binders.{block, is_among, once, bound_in_definitions}
-use Rattle.chem_model.specs.Scope.{AreRulesAndPlaces, AreDefinitions}
+use Rattle.chem_model.specs.Binders.{block, is_among, bound_in_definitions}
+use Rattle.chem_model.specs.Scope.{AreDefinitions}
 use Rattle.chem_model.specs.Each.{Each}
 use Rattle.chem_model.specs.ProgramFacts.{ProgramTerms, IsProgram, IsDeclared, places}
 use Rattle.chem_model.specs.Fill.{Naming, name_at}

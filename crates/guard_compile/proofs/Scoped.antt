@@ -1,26 +1,26 @@
 -- Each name of a term of a program has a slot.
-use Rattle.std.proofs.Common.{◌≡◌, ℕ, ◌+◌, ◌≤◌, List, [], ◌∷◌, ◌++◌, ◌==◌, ◌||◌, zero, suc, length, Option, Some, None, Bool, true, false, cond, refl, sym, ap, ◌∙◌, subst, arith, append_assoc, length-append, ◌⊎◌, inl, inr, eq-eqb, All}
+use Rattle.std.proofs.Common.{◌≡◌, ℕ, ◌+◌, ◌≤◌, List, [], ◌∷◌, ◌++◌, ◌==◌, ◌||◌, length, Option, Some, None, Bool, true, false, cond, refl, sym, ap, ◌∙◌, subst, arith, append_assoc, length-append, ◌⊎◌, inl, inr}
 use Rattle.std.specs.Prelude.{is_some}
 use Rattle.chem_model.specs.declared.name.Name.{Name}
 use Rattle.chem_model.specs.declared.name.Ref.{Ref}
 use Rattle.chem_model.specs.declared.name.Ref.TheVariants.{Binder, Known}
 use Rattle.chem_model.specs.declared.name.Pat.{Pat}
-use Rattle.chem_model.specs.Process.{Process, Msg, Par, Def, Go, Fail, Halt, Processes, none, one_more, Definition, Rule, Place, Definitions, no_definition, and_also}
-use Rattle.chem_model.specs.Binders.{binder_of, channels_of, params_of, block, defined, is_among, times, once, bound_in, bound_in_all, bound_in_definition, bound_in_definitions}
-use Rattle.chem_model.specs.Scope.{IsBinder, AreRules, AreRulesAndPlaces, IsBlock, IsInScope, IsTerm, AreTerms, IsDefinition, AreDefinitions}
+use Rattle.chem_model.specs.Process.{Process, Msg, Par, Def, Go, Fail, Halt, Processes, none, one_more, Rule, Place, Definitions, no_definition, and_also}
+use Rattle.chem_model.specs.Binders.{binder_of, channels_of, params_of, block, is_among, once, bound_in, bound_in_all, bound_in_definitions}
+use Rattle.chem_model.specs.Scope.{IsBinder, AreRules, AreRulesAndPlaces, IsInScope, IsTerm, AreTerms, AreDefinitions}
 use Rattle.chem_model.specs.Each.{Each}
 use Rattle.chem_model.specs.Fill.{Naming, name_at}
-use Rattle.chem_laws.proofs.Lists.{append_nil, either_true, cond_either, all_each}
-use Rattle.chem_laws.proofs.Terms.{among-append, among_left, among_right, among_first, times-cons}
+use Rattle.chem_laws.proofs.Lists.{append_nil, either_true, all_each}
+use Rattle.chem_laws.proofs.Terms.{among-append, among_left, among_right, among_first}
 use Rattle.chem_laws.proofs.Parts.{is_named}
 use Rattle.chem_laws.proofs.NamingLevels.{top_channels, rules_block, block_channels, Fresh, block_fresh}
 use Rattle.chem_laws.proofs.NamingLevels as levels
 use Rattle.env_store.specs.declared.code.Slot.{Slot}
 use Rattle.env_store.specs.declared.code.Slot.TheVariants as slot
-use Rattle.env_store.specs.Layout.{new_ref, new_in, new_channels, place_order, place_in, places_order, order}
-use Rattle.env_store.specs.Reading.{position_from, position, top_or_place, slot_of, ChannelsAt, PlacesAt}
+use Rattle.env_store.specs.Layout.{new_channels, place_order, places_order, order}
+use Rattle.env_store.specs.Reading.{position_from, position, top_or_place, PlacesAt}
 use Rattle.env_store.proofs.Scoped.{once_least, once-append, order_among, channels_among, new_among, one_known, place_known, none_named, none_once, Free, channels_at, places_at}
-use Rattle.guard_compile.proofs.Slotted.{IsChannel, HasSlot, Slotted, AllSlotted, DefsSlotted, DefSlotted}
+use Rattle.guard_compile.proofs.Slotted.{IsChannel, HasSlot, Slotted, AllSlotted, DefsSlotted}
 
 -- ---- where a binder is in a layout
 

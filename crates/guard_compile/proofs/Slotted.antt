@@ -1,7 +1,7 @@
 -- Terms of which each name has a slot.
-use Rattle.std.proofs.Common.{◌≡◌, ℕ, ◌+◌, List, [], ◌∷◌, ◌++◌, length, Option, Some, None, refl, sym, ap, ◌∙◌}
+use Rattle.std.proofs.Common.{◌≡◌, ℕ, ◌+◌, List, [], ◌∷◌, ◌++◌, length, Some, sym, ap, ◌∙◌}
 use Rattle.chem_model.specs.declared.name.Ref.{Ref}
-use Rattle.chem_model.specs.declared.name.Ref.TheVariants.{Binder, Known}
+use Rattle.chem_model.specs.declared.name.Ref.TheVariants.{Binder}
 use Rattle.chem_model.specs.declared.name.Pat.{Pat}
 use Rattle.chem_model.specs.Process.{Process, Msg, Par, Def, Go, Fail, Halt, Processes, none, one_more, Definition, Rule, Place, Definitions, no_definition, and_also}
 use Rattle.chem_model.specs.Binders.{binder_of, params_of}
@@ -9,7 +9,6 @@ use Rattle.chem_model.specs.Scope.{IsBinder}
 use Rattle.chem_model.specs.Fill.{Naming}
 use Rattle.chem_model.specs.Each.{Each}
 use Rattle.env_store.specs.declared.code.Slot.{Slot}
-use Rattle.env_store.specs.declared.code.Slot.TheVariants as slot
 use Rattle.env_store.specs.Layout.{new_channels, place_order, place_in, order}
 use Rattle.env_store.specs.Reading.{position, slot_of, AreSlots, AreChannels, ChannelsAt, PlacesAt}
 use Rattle.guard_compile.specs.Written.{some_slot, some_place, channel_of, channels_of, slot_or, slots_or}

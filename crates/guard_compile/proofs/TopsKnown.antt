@@ -1,28 +1,26 @@
 -- The locations among the site-level names, and the homes of their channels.
-use Rattle.std.proofs.Common.{◌≡◌, ℕ, ◌+◌, List, [], ◌∷◌, ◌++◌, ◌==◌, length, Option, Some, None, Bool, true, false, cond, refl, sym, ap, ◌∙◌, subst, arith}
+use Rattle.std.proofs.Common.{◌≡◌, ℕ, ◌+◌, List, [], ◌∷◌, ◌++◌, ◌==◌, length, Some, Bool, true, false, cond, refl, sym, ap, subst, arith}
 use Rattle.std.specs.List.{Contains}
 use Rattle.std.proofs.lemmas.List.Elements.{Contains-append_left, Contains-append_right}
 use Rattle.chem_model.specs.declared.name.Loc.{Loc}
 use Rattle.chem_model.specs.declared.name.Name.{Name}
 use Rattle.chem_model.specs.declared.name.Name.TheVariants as name
-use Rattle.chem_model.specs.declared.name.Ref.{Ref}
 use Rattle.chem_model.specs.declared.name.Ref.TheVariants.{Binder, Known}
 use Rattle.chem_model.specs.declared.numbered.Named.{Named}
 use Rattle.chem_model.specs.declared.program.SiteTerm.{SiteTerm}
-use Rattle.chem_model.specs.Process.{Definition, Rule, Place, Definitions, no_definition, and_also, definitions}
-use Rattle.chem_model.specs.Binders.{binder_of}
+use Rattle.chem_model.specs.Process.{Rule, Place, Definitions, no_definition, and_also, definitions}
 use Rattle.chem_model.specs.Each.{Each}
 use Rattle.chem_model.specs.Fill.{Naming, name_at}
 use Rattle.chem_model.specs.Opening.{root_of, root_names, level_names, site_names}
 use Rattle.chem_model.specs.Pour.{Drawn, naming}
 use Rattle.chem_model.specs.ProgramFacts.{ProgramTerms, IsProgram, places}
 use Rattle.chem_model.specs.Reduction.{given}
-use Rattle.chem_model.specs.Scope.{IsBinder, AreNamed, IsNamed}
+use Rattle.chem_model.specs.Scope.{AreNamed}
 use Rattle.chem_laws.proofs.Lists.{Each-append}
 use Rattle.env_store.specs.Layout.{new_channels, place_in, order}
 use Rattle.env_store.specs.Running.{loc_at, channel_names}
 use Rattle.env_store.specs.Reading.{loc_in, locs_in}
-use Rattle.env_store.proofs.NamingOrder.{names_in, names_of_places, order_names, order_long, order_is}
+use Rattle.env_store.proofs.NamingOrder.{names_of_places, order_names, order_long, order_is}
 
 -- a location of the list, or a channel at home at one
 abbrev pub IsAt : List Loc → Name → Type 0

@@ -1,28 +1,22 @@
 -- What is written reads as the process.
-use Rattle.std.proofs.Common.{◌≡◌, ℕ, ◌+◌, List, [], ◌∷◌, ◌++◌, length, Option, Some, None, refl, sym, ap, ◌∙◌, subst, arith, append_assoc, length-append}
+use Rattle.std.proofs.Common.{◌≡◌, ℕ, ◌+◌, List, [], ◌∷◌, ◌++◌, length, Some, None, refl, sym, ap, ◌∙◌, subst, arith, append_assoc, length-append}
 use Rattle.std.specs.Prelude.{slice_get}
-use Rattle.chem_model.specs.declared.name.Ref.{Ref}
-use Rattle.chem_model.specs.declared.name.Ref.TheVariants.{Binder, Known}
-use Rattle.chem_model.specs.declared.name.Pat.{Pat}
 use Rattle.chem_model.specs.Process.{Process, Msg, Par, Def, Go, Fail, Halt, Processes, none, one_more, Definition, Rule, Place, Definitions, no_definition, and_also}
 use Rattle.chem_model.specs.Binders.{binder_of, params_of}
 use Rattle.chem_model.specs.Fill.{Naming}
-use Rattle.chem_model.specs.Each.{Each}
 use Rattle.chem_laws.proofs.Lists.{append_nil}
-use Rattle.env_store.specs.declared.code.Slot.{Slot}
-use Rattle.env_store.specs.declared.code.Slot.TheVariants as slot
 use Rattle.env_store.specs.declared.code.Instr.{Instr}
 use Rattle.env_store.specs.declared.code.Instr.TheVariants as instr
 use Rattle.env_store.specs.declared.code.Guard.{Guard}
 use Rattle.env_store.specs.declared.code.Level.{Level}
 use Rattle.env_store.specs.declared.code.Block.{Block}
-use Rattle.env_store.specs.Layout.{rules_in, new_channels, new_counts, place_order, place_in, order, LevelTerm, level_term, levels_of, levels_of_all, levels_of_defs, levels_of_def}
+use Rattle.env_store.specs.Layout.{rules_in, new_channels, place_order, place_in, order, LevelTerm, level_term, levels_of, levels_of_all, levels_of_defs, levels_of_def}
 use Rattle.env_store.specs.CodeParts.{CodeParts}
-use Rattle.env_store.specs.Reading.{ReadsPlaces, ReadsDef, Reads, ReadsAll, ReadsBody, ReadsGuard, ReadsRules, ReadsProcess}
+use Rattle.env_store.specs.Reading.{ReadsPlaces, Reads, ReadsAll, ReadsBody, ReadsRules, ReadsProcess}
 use Rattle.guard_compile.specs.declared.write.At.{At}
 use Rattle.guard_compile.specs.declared.write.Piece.{Piece}
 use Rattle.guard_compile.specs.declared.write.Defined.{Defined}
-use Rattle.guard_compile.specs.Written.{no_piece, join, body_piece, above, level_piece, block_piece, behind, inside, Wrote, join_defined, slot_or, slots_or, with_body, guard_of, level_of, write, write_all, write_defs, write_def}
+use Rattle.guard_compile.specs.Written.{no_piece, join, body_piece, above, level_piece, block_piece, behind, inside, Wrote, slot_or, slots_or, with_body, guard_of, level_of, write, write_all, write_defs, write_def}
 use Rattle.guard_compile.proofs.From.{after, HasFrom, has_left, has_right, Holds, holds_left, holds_right}
 use Rattle.guard_compile.proofs.Masked.{mask_is}
 use Rattle.guard_compile.proofs.Slotted.{Slotted, AllSlotted, DefsSlotted, DefSlotted, slot_is, slots_are, channels_are}

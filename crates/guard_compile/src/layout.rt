@@ -76,7 +76,8 @@ fn name_pat(
 ) -> Result<(), Memory>
     ensures named { OnOk result (named.new ≡ named.old ++ new_ref named.old pat.now.on) }
     ensures fresh { OnOk result (fresh.new ≡ fresh.old ++ new_ref named.old pat.now.on) }
-    ensures counts { OnOk result (counts.new ≡ counts.old ++ count_ref named.old pat.now pat.now.on) }
+    ensures counts { OnOk result (counts.new ≡ counts.old
+        ++ count_ref named.old pat.now pat.now.on) }
 {
     if let Ref::Binder(binder) = pat.on {
         if !named.contains(binder) {
@@ -111,9 +112,12 @@ fn name_channels(
     counts: &mut Nums,
     defs: &Defs,
 ) -> Result<(), Memory>
-    ensures named { OnOk result (named.new ≡ named.old ++ new_channels named.old (definitions defs.now)) }
-    ensures fresh { OnOk result (fresh.new ≡ fresh.old ++ new_channels named.old (definitions defs.now)) }
-    ensures counts { OnOk result (counts.new ≡ counts.old ++ new_counts named.old (definitions defs.now)) }
+    ensures named { OnOk result (named.new ≡ named.old ++ new_channels named.old
+        (definitions defs.now)) }
+    ensures fresh { OnOk result (fresh.new ≡ fresh.old ++ new_channels named.old
+        (definitions defs.now)) }
+    ensures counts { OnOk result (counts.new ≡ counts.old ++ new_counts named.old
+        (definitions defs.now)) }
 {
     for definition in defs.as_slice() {
         if let DefnNode::Rule { pats, .. } = definition.node() {
@@ -131,10 +135,12 @@ pub(crate) fn name_place(
     name: Ref,
     defs: &Defs,
 ) -> Result<(), Memory>
-    ensures named { OnOk result (named.new ≡ named.old ++ place_order named.old name (definitions defs.now)) }
+    ensures named { OnOk result (named.new ≡ named.old ++ place_order named.old name
+        (definitions defs.now)) }
     ensures fresh { OnOk result (fresh.new ≡ fresh.old ++ new_channels (named.old ++ binder_of name)
         (definitions defs.now)) }
-    ensures counts { OnOk result (counts.new ≡ counts.old ++ new_counts (named.old ++ binder_of name)
+    ensures counts { OnOk result (counts.new ≡ counts.old ++ new_counts (named.old
+        ++ binder_of name)
         (definitions defs.now)) }
 {
     if let Ref::Binder(binder) = name {
@@ -167,7 +173,8 @@ pub(crate) struct Opened {
 }
 
 pub(crate) fn open(alloc: Global, defs: &Defs) -> Result<Opened, Memory>
-    ensures channels { IfOk result (λ opened. opened.channels ≡ new_channels [] (definitions defs.now)) }
+    ensures channels { IfOk result (λ opened. opened.channels ≡ new_channels []
+        (definitions defs.now)) }
     ensures counts { IfOk result (λ opened. opened.counts ≡ new_counts [] (definitions defs.now)) }
     ensures order { IfOk result (λ opened. opened.order ≡ order (definitions defs.now)) }
 {

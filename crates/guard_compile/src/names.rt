@@ -59,7 +59,8 @@ impl NameTable {
 
     /// Appends a binder with a name.
     fn push(&mut self, binder: u32, name: Name) -> Result<(), Memory>
-        ensures { OnOk result (self.new ≡ self.old ++ record { binder = binder; name = name } ∷ []) }
+        ensures { OnOk result (self.new ≡ self.old
+            ++ record { binder = binder; name = name } ∷ []) }
     {
         let is_new = self.name_at(binder).is_none();
         let count = self.entries.len();
@@ -156,7 +157,8 @@ impl Drawing {
 
     /// Names the places of a list of definitions, each with its own channels.
     fn name_places(&mut self, site: u32, defs: &Defs) -> Result<(), Memory>
-        ensures { OnOk result (drawn self.new ≡ name_places site (definitions defs.now) (drawn self.old)) }
+        ensures { OnOk result (drawn self.new ≡ name_places site (definitions defs.now)
+            (drawn self.old)) }
     {
         for definition in defs.as_slice() {
             if let DefnNode::Place { name, defs, .. } = definition.node() {
@@ -178,7 +180,8 @@ fn root_of(site: u32) -> Loc
 
 /// The names of a site's level, which stands at its root.
 fn level_names(alloc: Global, site: u32, defs: &Defs) -> Result<NameTable, Memory>
-    ensures { IfOk result (λ names. names ≡ (naming site (root_of site) (definitions defs.now) 1).names) }
+    ensures { IfOk result (λ names. names ≡ (naming site (root_of site)
+        (definitions defs.now) 1).names) }
 {
     let mut drawing = Drawing {
         next: 1,

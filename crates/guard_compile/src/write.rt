@@ -109,7 +109,8 @@ impl Defined {
 fn put_level(piece: &mut Piece, level: Level, guards: Guards, within: Piece) -> Result<(), Memory>
     ensures next { OnOk result (piece.new.next ≡ within.next) }
     ensures levels { OnOk result (piece.new.levels ≡ piece.old.levels ++ level ∷ within.levels) }
-    ensures guards { OnOk result (piece.new.guards ≡ piece.old.guards ++ (guards ++ within.guards)) }
+    ensures guards { OnOk result (piece.new.guards ≡ piece.old.guards ++ (guards
+        ++ within.guards)) }
     ensures blocks { OnOk result (piece.new.blocks ≡ piece.old.blocks ++ within.blocks) }
     ensures bodies { OnOk result (piece.new.bodies ≡ piece.old.bodies ++ within.bodies) }
 {
@@ -189,9 +190,11 @@ fn write_all(
     piece: &mut Piece,
     instrs: &mut Instrs,
 ) -> Result<(), Memory>
-    ensures piece { OnOk result (Appends piece.old piece.new (written_all tops.now piece.old.next layout.old
+    ensures piece { OnOk result (Appends piece.old piece.new
+        (written_all tops.now piece.old.next layout.old
         (processes members.now)).piece) }
-    ensures instrs { OnOk result (instrs.new ≡ instrs.old ++ (written_all tops.now piece.old.next layout.old
+    ensures instrs { OnOk result (instrs.new ≡ instrs.old ++
+        (written_all tops.now piece.old.next layout.old
         (processes members.now)).instrs) }
     ensures layout { OnOk result (layout.new ≡ layout.old) }
 {
@@ -213,9 +216,11 @@ fn write_block(
     piece: &mut Piece,
     instrs: &mut Instrs,
 ) -> Result<(), Memory>
-    ensures piece { OnOk result (Appends piece.old piece.new (written tops.now piece.old.next layout.old (Def
+    ensures piece { OnOk result (Appends piece.old piece.new
+        (written tops.now piece.old.next layout.old (Def
         (definitions defs.now) body.now)).piece) }
-    ensures instrs { OnOk result (instrs.new ≡ instrs.old ++ (written tops.now piece.old.next layout.old (Def
+    ensures instrs { OnOk result (instrs.new ≡ instrs.old ++
+        (written tops.now piece.old.next layout.old (Def
         (definitions defs.now) body.now)).instrs) }
     ensures layout { OnOk result (layout.new ≡ layout.old) }
 {
@@ -280,7 +285,8 @@ fn write_defs(
     ensures defined { OnOk result (AppendsDefined defined.old defined.new
         (written_defs tops.now defined.old.piece.next block count.old level channels.now
         layout.old named.old (definitions defs.now))) }
-    ensures named { OnOk result (named.new ≡ named.old ++ places_order named.old (definitions defs.now)) }
+    ensures named { OnOk result (named.new ≡ named.old ++ places_order named.old
+        (definitions defs.now)) }
     ensures layout { OnOk result (layout.new ≡ layout.old) }
 {
     for definition in defs.as_slice() {

@@ -1,4 +1,4 @@
-use Rattle.std.proofs.Common.{◌≡◌, ℕ, ◌<◌, ◌∷◌, [], length-append, rules, arith, sym, ap, ◌∙◌, subst, length, Option, Some, None, true}
+use Rattle.std.proofs.Common.{◌≡◌, ℕ, ◌<◌, ◌∷◌, [], length-append, rules, arith, sym, ap, ◌∙◌, subst, length, Some, None, true}
 use Rattle.std.specs.Prelude.{is_some}
 use Rattle.chem_model.specs.Fill.{name_at}
 use Rattle.chem_model.specs.Opening.{site_names}

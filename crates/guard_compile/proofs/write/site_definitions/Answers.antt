@@ -1,4 +1,4 @@
-use Rattle.std.proofs.Common.{◌≡◌, [], ◌++◌, ap, ◌∙◌}
+use Rattle.std.proofs.Common.{◌++◌, ap, ◌∙◌}
 use Rattle.chem_model.specs.Process.{definitions}
 use Rattle.guard_compile.proofs.Sites.{definitions_begun}
 use Rattle.guard_compile.proofs.write.site_definitions.Goals as goal

@@ -1,4 +1,4 @@
-use Rattle.std.proofs.Common.{◌≡◌, ℕ, rules, ap, ◌∙◌}
+use Rattle.std.proofs.Common.{ℕ, rules, ap, ◌∙◌}
 use Rattle.chem_model.specs.Process.{definitions}
 use Rattle.env_store.specs.declared.code.SiteCode.{SiteCode}
 use Rattle.guard_compile.specs.declared.write.At.{At}

@@ -1,6 +1,6 @@
-use Rattle.std.proofs.Common.{◌≡◌, ℕ, ◌++◌, ◌∷◌, [], Option, Some, None, true, false, refl, sym, ap, ◌∙◌, arith, rules}
+use Rattle.std.proofs.Common.{◌≡◌, Some, true, false, sym, ap, ◌∙◌, rules}
 use Rattle.std.specs.Prelude.{is_some, nat_eq, cond, length}
-use Rattle.std.specs.HashMap.{get, Updates}
+use Rattle.std.specs.HashMap.{Updates}
 use Rattle.env_store.specs.Reading.{position}
 use Rattle.guard_compile.proofs.Positions.{known_again, new_member}
 use Rattle.guard_compile.proofs.binders.Binders.push.Goals as goal

@@ -1,6 +1,6 @@
-use Rattle.std.proofs.Common.{◌≡◌, ℕ, ◌++◌, ◌∷◌, [], Option, Some, None, true, false, cond, refl, sym, ap, ◌∙◌, arith, rules}
+use Rattle.std.proofs.Common.{◌≡◌, Some, true, false, cond, sym, ap, ◌∙◌, rules}
 use Rattle.std.specs.Prelude.{is_some, nat_eq}
-use Rattle.std.specs.HashMap.{get, Updates}
+use Rattle.std.specs.HashMap.{Updates}
 use Rattle.chem_model.specs.Fill.{name_at}
 use Rattle.guard_compile.proofs.Positions.{named_again, new_name}
 use Rattle.guard_compile.proofs.names.NameTable.push.Goals as goal
