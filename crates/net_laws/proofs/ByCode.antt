@@ -219,14 +219,14 @@ module _ (p : ProgramTerms) (c : CodeParts) (ok : IsProgram p) (kept : IsCode c)
       subst (λ (xs : List NumberedAtom). Runs rules_by t.roots t i s made a.next a.births (all_told (told_by c) a.groups) (posted_of xs) a.outs) (sym (ap (λ u. u.atoms) pours))
       (runs_of rules_by (counts_of p.seen) t n n.atoms i s m l s.made q a.next a.births (all_told (told_by c) a.groups) a.outs tree sound here (given_by i made a s.made pours lays guarded) apart)
 
-  pub reaction_by_code : (t : Tree) (i j : ℕ) (s : Site) (g : Group) (k : ℕ) (r : NumberedRule) (level : Level) (guard : Guard) (ms : List MessageParts) (left : List (List MessageParts)) (rules : Bag NumberedRule) (atoms : Bag NumberedAtom) (n : Numbered)
+  pub reaction_is_one_event : (t : Tree) (i j : ℕ) (s : Site) (g : Group) (k : ℕ) (r : NumberedRule) (level : Level) (guard : Guard) (ms : List MessageParts) (left : List (List MessageParts)) (rules : Bag NumberedRule) (atoms : Bag NumberedAtom) (n : Numbered)
       → IsPart rules_by (counts_of p.seen) t i s rules atoms n → IsKept s → Each (IsOfCode p c) (told_in s.groups) → Each (IsDrawn i s.made) (told_in s.groups)
       → slice_get s.groups j ≡ Some g → slice_get (rules_by g.told.inst) k ≡ Some r → slice_get c.levels g.told.inst.level ≡ Some level → slice_get c.guards (level.first + k) ≡ Some guard
       → number_in (spot t r.loc) ≡ Some i → is_alive t r.loc ≡ true → Takes g.queues guard.chans ms left
       → let a = code_made c i guard.body (g.told.inst.env ++ args_of ms) r.loc s.made in
       let o = run_here c t a (with_queues s j g left) in
       GoesOn rules_by (counts_of p.seen) t i o.site (effects o a.outs a.births) rules atoms n (event.React r.id (ids ms)) × Keeps t.roots s (all_told (told_by c) a.groups) o
-  reaction_by_code t i j s g k r level guard ms left rules atoms n part kept_s of_code drawn held rule_is level_is guard_is hosted lives takes =
+  reaction_is_one_event t i j s g k r level guard ms left rules atoms n part kept_s of_code drawn held rule_is level_is guard_is hosted lives takes =
       let d = g.told in
       let seen = counts_of p.seen in
       let of = each_get (IsOfCode p c) (told_in s.groups) j d (laid_at s.groups j g held) of_code in

@@ -112,8 +112,8 @@ RunsAreGuarded =
 -- under the group's environment and the received names. That is one event of each sound solution of
 -- which the site is a part
 
-abbrev pub ReactionByCode : Type 0
-ReactionByCode =
+abbrev pub ReactionIsOneEvent : Type 0
+ReactionIsOneEvent =
     (p : ProgramTerms) (c : CodeParts) → IsProgram p → IsCode c → IsCodeOf p c
     → (t : Tree) (i j : ℕ) (s : Site) (g : Group) (k : ℕ) (r : NumberedRule) (level : Level)
     (guard : Guard) (ms : List MessageParts) (left : List (List MessageParts))
