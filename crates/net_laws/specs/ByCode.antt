@@ -85,11 +85,12 @@ RulesAreGuards =
 
 -- ---- a run of the code gives what is poured
 
--- where a process is poured at a location that the site hosts, and the solution with what is poured
--- is sound: a run that is this pouring, and lays groups that are guarded, fits the site
+-- the group's level has guards
 abbrev pub IsGuarded : CodeParts → GroupInst → Type 0
 IsGuarded c g = 0 < guards_at (slice_get c.levels g.level)
 
+-- where a process is poured at a location that the site hosts, and the solution with what is poured
+-- is sound: a run that is this pouring, and lays groups that are guarded, fits the site
 abbrev pub RunFits : Type 0
 RunFits =
     (p : ProgramTerms) (c : CodeParts) → IsProgram p → IsCode c → IsCodeOf p c

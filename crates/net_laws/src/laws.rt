@@ -17,7 +17,7 @@ ghost use Rattle.net_laws.specs.Choices.{ChoiceIsOneEvent};
 ghost use Rattle.net_laws.specs.Enabled.{NoChoiceIsQuiet, ChoicesCanBeMade};
 ghost use Rattle.net_laws.specs.Opening.{StartStands};
 ghost use Rattle.net_laws.specs.Play.{NetworkRuns, ChoicesReplay};
-ghost use Rattle.net_laws.specs.Rounds.{RoundIsChoices};
+ghost use Rattle.net_laws.specs.Rounds.{LentSiteIsBack, RoundIsChoices};
 
 /// A reaction of a site is one React of each sound solution of which the site is a part, whatever
 /// else stands in that. It does nothing.
@@ -179,6 +179,12 @@ pub fn no_choice_is_quiet()
 /// Each choice that is enabled can be made, where the code runs. It does nothing.
 pub fn choices_can_be_made()
     ensures { (rules_of : GroupInst → List NumberedRule) → ChoicesCanBeMade rules_of }
+{}
+
+/// Where one site is lent with its mail and comes back, what it did are choices of the network,
+/// whatever else happened meanwhile at other sites. It does nothing.
+pub fn lent_site_is_back()
+    ensures { (rules_of : GroupInst → List NumberedRule) → LentSiteIsBack rules_of }
 {}
 
 /// Where all sites are lent at once, each with its mail, and come back in order, what they did are
