@@ -34,7 +34,8 @@ use Rattle.net_laws.specs.Kept.{IsKept}
 use Rattle.net_laws.specs.Posting.{Outcome, pour_here, posted_of, with_queues}
 use Rattle.net_laws.specs.Parcels.{all_told}
 use Rattle.net_laws.specs.Parts.{IsPart, GoesOn}
-use Rattle.net_laws.specs.Choices.{Runs, effects}
+use Rattle.net_laws.specs.Net.{Net, Stands}
+use Rattle.net_laws.specs.Choices.{to_react, Works, with_outcome, Runs, effects}
 use Rattle.net_laws.specs.Calls.{Keeps}
 
 -- ---- groups of the code
@@ -132,3 +133,22 @@ ReactionIsOneEvent =
     GoesOn (rules_of_group p) (counts_of p.seen) t i o.site (effects o a.outs a.births)
     rules atoms n (event.React r.id (ids ms))
     × Keeps t.roots s (all_told (told_by c) a.groups) o
+
+-- ---- the same of a network: where a site of it does this, the network makes the choice
+
+abbrev pub ReactionWorks : Type 0
+ReactionWorks =
+    (p : ProgramTerms) (c : CodeParts) → IsProgram p → IsCode c → IsCodeOf p c
+    → (net : Net) (n : Numbered) (i j : ℕ) (s : Site) (g : Group) (k : ℕ) (r : NumberedRule)
+    (level : Level) (guard : Guard) (ms : List MessageParts) (left : List (List MessageParts))
+    → Stands (rules_of_group p) net n → net.seen ≡ counts_of p.seen
+    → slice_get net.sites i ≡ Some s → IsKept s
+    → Each (IsOfCode p c) (told_in s.groups) → Each (IsDrawn i s.made) (told_in s.groups)
+    → slice_get s.groups j ≡ Some g
+    → slice_get (rules_of_group p g.told.inst) k ≡ Some r
+    → slice_get c.levels g.told.inst.level ≡ Some level
+    → slice_get c.guards (level.first + k) ≡ Some guard
+    → is_alive net.tree r.loc ≡ true → Takes g.queues guard.chans ms left
+    → let a = code_made c i guard.body (g.told.inst.env ++ args_of ms) r.loc s.made in
+    Works (rules_of_group p) net (to_react i j r.id) (Some (event.React r.id (ids ms)))
+    (with_outcome net i (run_here c net.tree a (with_queues s j g left)) a.outs a.births)

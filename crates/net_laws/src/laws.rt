@@ -12,7 +12,7 @@ ghost use Rattle.net_laws.specs.Calls.{MoveBetweenCall, DeliverCall};
 ghost use Rattle.net_laws.specs.Meeting.{DetectionIsOneEvent, HaltIsOneEvent, DeliveryIsNoEvent};
 ghost use Rattle.net_laws.specs.Meeting.{MoveWithinIsOneEvent, MoveBetweenIsOneEvent};
 ghost use Rattle.net_laws.specs.ByCode.{RulesAreGuards, RunFits, RunsAreGuarded};
-ghost use Rattle.net_laws.specs.ByCode.{ReactionIsOneEvent};
+ghost use Rattle.net_laws.specs.ByCode.{ReactionIsOneEvent, ReactionWorks};
 ghost use Rattle.net_laws.specs.Choices.{ChoiceIsOneEvent};
 ghost use Rattle.net_laws.specs.Enabled.{NoChoiceIsQuiet, ChoicesCanBeMade};
 ghost use Rattle.net_laws.specs.Opening.{StartStands};
@@ -143,6 +143,12 @@ pub fn run_fits()
 /// each sound solution of which it is a part, and keeps its facts. It does nothing.
 pub fn reaction_is_one_event()
     ensures { ReactionIsOneEvent }
+{}
+
+/// Where a site of a network takes the fronts of a guard's queues and runs the guard's body, the
+/// network makes the choice of that reaction. It does nothing.
+pub fn reaction_works()
+    ensures { ReactionWorks }
 {}
 
 /// Where a network stands for a solution, a choice is one event of that solution, or none, and the
