@@ -39,7 +39,7 @@ use Rattle.chem_model.specs.declared.event.Event.TheVariants as event
 
 module _ (rules_of : GroupInst → List NumberedRule) where
   -- a request that a site holds stands in the solution
-  asked_there : (net : Net) (n : Numbered) (i : ℕ) (s : Site) (q : Request) → Stands rules_of net n → slice_get net.sites i ≡ Some s → 0 < request_atoms s.requests (request_atom q) → 0 < bag coded_atom n.atoms (request_atom q)
+  pub asked_there : (net : Net) (n : Numbered) (i : ℕ) (s : Site) (q : Request) → Stands rules_of net n → slice_get net.sites i ≡ Some s → 0 < request_atoms s.requests (request_atom q) → 0 < bag coded_atom n.atoms (request_atom q)
   asked_there net n i s q stands here held = go (stands.agrees.atoms (request_atom q)) (atoms_among rules_of net.sites i s (request_atom q) here)
     where
       go : bag coded_atom n.atoms (request_atom q) ≡ all_atoms net.sites (request_atom q) + under_way net.packets (request_atom q) → atoms_of s (request_atom q) ≤ all_atoms net.sites (request_atom q) → 0 < bag coded_atom n.atoms (request_atom q)

@@ -1,6 +1,6 @@
 -- Requests that a site meets: each is one event of a solution of which the site is a part. A
 -- continuation is one message, which opens no location and lays no group.
-use Rattle.std.specs.Prelude.{◌≡◌, ℕ, true, List, [], Some}
+use Rattle.std.specs.Prelude.{◌≡◌, ℕ, true, List, [], Some, slice_get}
 use Rattle.chem_model.specs.declared.name.Loc.{Loc}
 use Rattle.chem_model.specs.declared.name.Name.{Name}
 use Rattle.chem_model.specs.declared.name.Name.TheVariants as name
@@ -25,7 +25,8 @@ use Rattle.net_laws.specs.Kept.{IsKept}
 use Rattle.net_laws.specs.Holding.{put, request_with, drop_request}
 use Rattle.net_laws.specs.Posting.{Outcome, pour_here, posted_of}
 use Rattle.net_laws.specs.Parcels.{pack, remove, take_in}
-use Rattle.net_laws.specs.Choices.{effects}
+use Rattle.net_laws.specs.Net.{Net, Stands}
+use Rattle.net_laws.specs.Choices.{to_meet, Works, effects, with_outcome, moved_between}
 use Rattle.net_laws.specs.Parts.{IsPart, GoesOn, HaltOf, AreParts, MoveOf}
 use Rattle.net_laws.specs.Calls.{Keeps}
 
@@ -99,3 +100,42 @@ module _ (rules_of : GroupInst → List NumberedRule) where
       → IsPart rules_of seen t i s rules (one coded_atom (message_atom home m) ⊕ atoms) n
       → IsKept s → m.on ≡ name.Chan site k home → among s.locs home ≡ true
       → IsPart rules_of seen t i (put home m s) rules atoms n × IsKept (put home m s)
+
+  -- ---- the same of a network: where a site of it does this, the network makes the choice
+
+  abbrev pub DetectionWorks : Type 0
+  DetectionWorks =
+      (net : Net) (n : Numbered) (i : ℕ) (s : Site) (q : Request) (target : Loc) (cont : Name)
+      → Stands rules_of net n → slice_get net.sites i ≡ Some s → IsKept s
+      → request_with q.id s.requests ≡ Some q
+      → q.ask ≡ request.Fail (name.Place target) cont
+      → is_alive net.tree q.loc ≡ true → is_dead net.tree target ≡ true
+      → let a = continuation_made net.seen i q.loc s.made cont in
+      Works rules_of net (to_meet q.id) (Some (event.Detect q.id))
+      (with_outcome net i (sent_here net.tree a (drop_request q.id s)) a.outs [])
+
+  abbrev pub MoveWithinWorks : Type 0
+  MoveWithinWorks =
+      (net : Net) (n : Numbered) (i : ℕ) (s : Site) (q : Request) (target : Loc) (cont : Name)
+      → Stands rules_of net n → slice_get net.sites i ≡ Some s → IsKept s
+      → request_with q.id s.requests ≡ Some q
+      → q.ask ≡ request.Go (name.Place target) cont
+      → can_move net.tree q.loc target ≡ true → target.site ≡ i
+      → let a = continuation_made net.seen i q.loc s.made cont in
+      Works rules_of net (to_meet q.id) (Some (event.Move q.id))
+      (with_outcome (record net { tree = with_number net.tree q.loc i }) i
+      (sent_here net.tree a (drop_request q.id s)) a.outs [])
+
+  abbrev pub MoveBetweenWorks : Type 0
+  MoveBetweenWorks =
+      (net : Net) (n : Numbered) (i j : ℕ) (from into : Site) (q : Request) (target : Loc)
+      (cont : Name)
+      → (i ≡ j → ⊥) → Stands rules_of net n
+      → slice_get net.sites i ≡ Some from → slice_get net.sites j ≡ Some into
+      → IsKept from → IsKept into → request_with q.id from.requests ≡ Some q
+      → q.ask ≡ request.Go (name.Place target) cont
+      → can_move net.tree q.loc target ≡ true → target.site ≡ j
+      → let a = continuation_made net.seen j q.loc into.made cont in
+      Works rules_of net (to_meet q.id) (Some (event.Move q.id))
+      (moved_between net i j q.loc (drop_request q.id from) into a.next
+      (posted_of a.atoms) a.outs)

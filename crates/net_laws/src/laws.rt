@@ -11,6 +11,7 @@ ghost use Rattle.net_laws.specs.Calls.{ReactCall, DetectCall, HaltCall, MoveWith
 ghost use Rattle.net_laws.specs.Calls.{MoveBetweenCall, DeliverCall};
 ghost use Rattle.net_laws.specs.Meeting.{DetectionIsOneEvent, HaltIsOneEvent, DeliveryIsNoEvent};
 ghost use Rattle.net_laws.specs.Meeting.{MoveWithinIsOneEvent, MoveBetweenIsOneEvent};
+ghost use Rattle.net_laws.specs.Meeting.{DetectionWorks, MoveWithinWorks, MoveBetweenWorks};
 ghost use Rattle.net_laws.specs.ByCode.{RulesAreGuards, RunFits, RunsAreGuarded};
 ghost use Rattle.net_laws.specs.ByCode.{ReactionIsOneEvent, ReactionWorks};
 ghost use Rattle.net_laws.specs.Choices.{ChoiceIsOneEvent};
@@ -149,6 +150,24 @@ pub fn reaction_is_one_event()
 /// network makes the choice of that reaction. It does nothing.
 pub fn reaction_works()
     ensures { ReactionWorks }
+{}
+
+/// Where a site of a network meets a request to detect a failure, the network makes that choice. It
+/// does nothing.
+pub fn detection_works()
+    ensures { (rules_of : GroupInst → List NumberedRule) → DetectionWorks rules_of }
+{}
+
+/// Where a site of a network meets a request to go to its own root, the network makes that choice.
+/// It does nothing.
+pub fn move_within_works()
+    ensures { (rules_of : GroupInst → List NumberedRule) → MoveWithinWorks rules_of }
+{}
+
+/// Where a location moves from one site of a network to another, the network makes that choice. It
+/// does nothing.
+pub fn move_between_works()
+    ensures { (rules_of : GroupInst → List NumberedRule) → MoveBetweenWorks rules_of }
 {}
 
 /// Where a network stands for a solution, a choice is one event of that solution, or none, and the
