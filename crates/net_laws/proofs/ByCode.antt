@@ -1,4 +1,9 @@
 -- A site that runs the code of a program makes what is poured.
+use Rattle.net_laws.specs.Choices as works
+use Rattle.loc_tree.proofs.Sound.{roots_are_sites}
+use Rattle.net_laws.proofs.Follows.{group_hosted}
+use Rattle.net_laws.proofs.Steps.{rules_among, atoms_among}
+use Rattle.net_laws.proofs.Sites.{get_below, length_made, made_at}
 use Rattle.net_laws.proofs.CallLaws.{react_call}
 use Rattle.net_laws.proofs.Parts.{part_reacts, reaction_of_a_part}
 use Rattle.net_laws.proofs.Posting.{fronts_go}
@@ -9,10 +14,10 @@ use Rattle.loc_tree.specs.Places.{IsTreeOf}
 use Rattle.loc_tree.specs.Tree.{Tree, spot, number_in, is_alive}
 use Rattle.net_laws.specs.Parts.{IsPart, GoesOn}
 use Rattle.net_laws.specs.Calls.{Keeps}
-use Rattle.net_laws.specs.Choices.{Runs, effects}
-use Rattle.net_laws.specs.Net.{among}
-use Rattle.std.proofs.Common.{false, ◌≡◌, ℕ, zero, suc, ◌+◌, ◌<◌, List, [], ◌∷◌, ◌++◌, Option, Some, refl, sym, ap, ◌∙◌, subst, arith, length, length-append, inl, inr, true}
-use Rattle.std.specs.Prelude.{slice_get}
+use Rattle.net_laws.specs.Choices.{Runs, effects, to_react, Works, with_outcome}
+use Rattle.net_laws.specs.Net.{among, Net, Stands, all_rules, all_atoms, under_way}
+use Rattle.std.proofs.Common.{◌≤◌, false, ◌≡◌, ℕ, zero, suc, ◌+◌, ◌<◌, List, [], ◌∷◌, ◌++◌, Option, Some, refl, sym, ap, ◌∙◌, subst, arith, length, length-append, inl, inr, true}
+use Rattle.std.specs.Prelude.{slice_get, ◌-◌, slice_index}
 use Rattle.chem_model.specs.declared.name.Loc.{Loc}
 use Rattle.chem_model.specs.declared.name.Pat.{Pat}
 use Rattle.chem_model.specs.declared.event.Event.TheVariants as event
@@ -46,7 +51,7 @@ use Rattle.env_store.specs.Groups as groups
 use Rattle.env_store.specs.Laws.{AreOn, IsGroupIn, LaysGroups, GroupReacts, as_poured_in, rules_of_group}
 use Rattle.env_store.proofs.NamingOrder.{given-append}
 use Rattle.env_store.proofs.RuleGuards.{reacting_is_pouring}
-use Rattle.net_laws.specs.Site.{Told, Group, Site, told_in, coded_rule}
+use Rattle.net_laws.specs.Site.{Told, Group, Site, told_in, coded_rule, rules_held, atoms_of, coded_atom}
 use Rattle.net_laws.specs.Changes.{AreChannels, IsGuard, births_at, given_all, AreQueues, Takes, ids}
 use Rattle.net_laws.specs.Kept.{AreDisjoint, AreApart, HasGuards, IsKept}
 use Rattle.net_laws.specs.Posting.{rules_in, posted_of, with_queues}
@@ -219,14 +224,15 @@ module _ (p : ProgramTerms) (c : CodeParts) (ok : IsProgram p) (kept : IsCode c)
       subst (λ (xs : List NumberedAtom). Runs rules_by t.roots t i s made a.next a.births (all_told (told_by c) a.groups) (posted_of xs) a.outs) (sym (ap (λ u. u.atoms) pours))
       (runs_of rules_by (counts_of p.seen) t n n.atoms i s m l s.made q a.next a.births (all_told (told_by c) a.groups) a.outs tree sound here (given_by i made a s.made pours lays guarded) apart)
 
-  pub reaction_by_code : (t : Tree) (i j : ℕ) (s : Site) (g : Group) (k : ℕ) (r : NumberedRule) (level : Level) (guard : Guard) (ms : List MessageParts) (left : List (List MessageParts)) (rules : Bag NumberedRule) (atoms : Bag NumberedAtom) (n : Numbered)
+  -- the guard of a rule, and the run of its body as what is poured
+  run_at : (t : Tree) (i j : ℕ) (s : Site) (g : Group) (k : ℕ) (r : NumberedRule) (level : Level) (guard : Guard) (ms : List MessageParts) (left : List (List MessageParts)) (rules : Bag NumberedRule) (atoms : Bag NumberedAtom) (n : Numbered)
       → IsPart rules_by (counts_of p.seen) t i s rules atoms n → IsKept s → Each (IsOfCode p c) (told_in s.groups) → Each (IsDrawn i s.made) (told_in s.groups)
       → slice_get s.groups j ≡ Some g → slice_get (rules_by g.told.inst) k ≡ Some r → slice_get c.levels g.told.inst.level ≡ Some level → slice_get c.guards (level.first + k) ≡ Some guard
       → number_in (spot t r.loc) ≡ Some i → is_alive t r.loc ≡ true → Takes g.queues guard.chans ms left
       → let a = code_made c i guard.body (g.told.inst.env ++ args_of ms) r.loc s.made in
-      let o = run_here c t a (with_queues s j g left) in
-      GoesOn rules_by (counts_of p.seen) t i o.site (effects o a.outs a.births) rules atoms n (event.React r.id (ids ms)) × Keeps t.roots s (all_told (told_by c) a.groups) o
-  reaction_by_code t i j s g k r level guard ms left rules atoms n part kept_s of_code drawn held rule_is level_is guard_is hosted lives takes =
+      IsGuard rules_by g.told r guard.chans
+      × Runs rules_by t.roots t i (with_queues s j g left) (pour (counts_of p.seen) i (root_of i) (given_all r.pats ms) r.loc s.made r.body) a.next a.births (all_told (told_by c) a.groups) (posted_of a.atoms) a.outs
+  run_at t i j s g k r level guard ms left rules atoms n part kept_s of_code drawn held rule_is level_is guard_is hosted lives takes =
       let d = g.told in
       let seen = counts_of p.seen in
       let of = each_get (IsOfCode p c) (told_in s.groups) j d (laid_at s.groups j g held) of_code in
@@ -252,6 +258,58 @@ module _ (p : ProgramTerms) (c : CodeParts) (ok : IsProgram p) (kept : IsCode c)
       let here : among s.locs r.loc ≡ true = ap (among s.locs) is_guard.loc ∙ each_get (λ (e : Told). among s.locs e.inst.loc ≡ true) (told_in s.groups) j d (laid_at s.groups j g held) kept_s.groups_here in
       let drawn_left = subst (Each (IsDrawn i s.made)) (sym taken.told) drawn in
       let runs = run_fits t (record n { atoms = without_all (ids ms) n.atoms }) i (with_queues s j g left) m r.loc r.body a part.tree sound here taken.kept drawn_left pours lays (runs_are_guarded c i guard.body (d.inst.env ++ args_of ms) r.loc s.made) in
+      (is_guard, runs)
+
+  pub reaction_is_one_event : (t : Tree) (i j : ℕ) (s : Site) (g : Group) (k : ℕ) (r : NumberedRule) (level : Level) (guard : Guard) (ms : List MessageParts) (left : List (List MessageParts)) (rules : Bag NumberedRule) (atoms : Bag NumberedAtom) (n : Numbered)
+      → IsPart rules_by (counts_of p.seen) t i s rules atoms n → IsKept s → Each (IsOfCode p c) (told_in s.groups) → Each (IsDrawn i s.made) (told_in s.groups)
+      → slice_get s.groups j ≡ Some g → slice_get (rules_by g.told.inst) k ≡ Some r → slice_get c.levels g.told.inst.level ≡ Some level → slice_get c.guards (level.first + k) ≡ Some guard
+      → number_in (spot t r.loc) ≡ Some i → is_alive t r.loc ≡ true → Takes g.queues guard.chans ms left
+      → let a = code_made c i guard.body (g.told.inst.env ++ args_of ms) r.loc s.made in
       let o = run_here c t a (with_queues s j g left) in
-      let call = react_call rules_by seen t.roots t i j s g r guard.chans ms left a.next a.births (all_told (told_by c) a.groups) (posted_of a.atoms) a.outs kept_s held is_guard hosted lives takes runs in
-      (reaction_of_a_part rules_by seen t i s o.site r ms (effects o a.outs a.births) rules atoms n part call.0, call.1)
+      GoesOn rules_by (counts_of p.seen) t i o.site (effects o a.outs a.births) rules atoms n (event.React r.id (ids ms)) × Keeps t.roots s (all_told (told_by c) a.groups) o
+  reaction_is_one_event t i j s g k r level guard ms left rules atoms n part kept_s of_code drawn held rule_is level_is guard_is hosted lives takes =
+      let at = run_at t i j s g k r level guard ms left rules atoms n part kept_s of_code drawn held rule_is level_is guard_is hosted lives takes in
+      let a = code_made c i guard.body (g.told.inst.env ++ args_of ms) r.loc s.made in
+      let o = run_here c t a (with_queues s j g left) in
+      let call = react_call rules_by (counts_of p.seen) t.roots t i j s g r guard.chans ms left a.next a.births (all_told (told_by c) a.groups) (posted_of a.atoms) a.outs kept_s held at.0 hosted lives takes at.1 in
+      (reaction_of_a_part rules_by (counts_of p.seen) t i s o.site r ms (effects o a.outs a.births) rules atoms n part call.0, call.1)
+
+  -- ---- in a network
+
+  -- a site of a network is a part of the solution, beside all others
+  site_is_part : (net : Net) (n : Numbered) (i : ℕ) (s : Site) → Stands rules_by net n → net.seen ≡ counts_of p.seen → slice_get net.sites i ≡ Some s
+      → IsPart rules_by (counts_of p.seen) net.tree i s (λ r. all_rules rules_by net.sites r - rules_held rules_by s r) (λ x. (all_atoms net.sites x + under_way net.packets x) - atoms_of s x) n
+  site_is_part net n i s stands seen here = record {
+    sound = stands.sound;
+    seen_is = stands.agrees.seen ∙ seen;
+    below = omega (arith, get_below net.sites i s here, ap length stands.agrees.counts, length_made net.sites);
+    count = ap (λ (ks : List ℕ). slice_index ks i) stands.agrees.counts ∙ made_at net.sites i s here;
+    tree = stands.agrees.tree;
+    rules_are = λ r. split_rules r (stands.agrees.rules r) (rules_among rules_by net.sites i s r here);
+    atoms_are = λ x. split_atoms x (stands.agrees.atoms x) (atoms_among rules_by net.sites i s x here);
+  }
+    where
+      split_rules : (r : NumberedRule) → bag coded_rule n.rules r ≡ all_rules rules_by net.sites r → rules_held rules_by s r ≤ all_rules rules_by net.sites r → bag coded_rule n.rules r ≡ rules_held rules_by s r + (all_rules rules_by net.sites r - rules_held rules_by s r)
+      split_rules r e h = omega arith
+
+      split_atoms : (x : NumberedAtom) → bag coded_atom n.atoms x ≡ all_atoms net.sites x + under_way net.packets x → atoms_of s x ≤ all_atoms net.sites x → bag coded_atom n.atoms x ≡ atoms_of s x + ((all_atoms net.sites x + under_way net.packets x) - atoms_of s x)
+      split_atoms x e h = omega arith
+
+  pub reaction_works : (net : Net) (n : Numbered) (i j : ℕ) (s : Site) (g : Group) (k : ℕ) (r : NumberedRule) (level : Level) (guard : Guard) (ms : List MessageParts) (left : List (List MessageParts))
+      → Stands rules_by net n → net.seen ≡ counts_of p.seen → slice_get net.sites i ≡ Some s → IsKept s
+      → Each (IsOfCode p c) (told_in s.groups) → Each (IsDrawn i s.made) (told_in s.groups)
+      → slice_get s.groups j ≡ Some g → slice_get (rules_by g.told.inst) k ≡ Some r → slice_get c.levels g.told.inst.level ≡ Some level → slice_get c.guards (level.first + k) ≡ Some guard
+      → is_alive net.tree r.loc ≡ true → Takes g.queues guard.chans ms left
+      → let a = code_made c i guard.body (g.told.inst.env ++ args_of ms) r.loc s.made in
+      Works rules_by net (to_react i j r.id) (Some (event.React r.id (ids ms))) (with_outcome net i (run_here c net.tree a (with_queues s j g left)) a.outs a.births)
+  reaction_works net n i j s g k r level guard ms left stands seen here kept_s of_code drawn held rule_is level_is guard_is lives takes =
+      let of = each_get (IsOfCode p c) (told_in s.groups) j g.told (laid_at s.groups j g held) of_code in
+      let is_guard : IsGuard rules_by g.told r guard.chans = subst (λ (e : Told). IsGuard rules_by e r guard.chans) of.1 (rules_are_guards g.told.inst of.0 k r rule_is level level_is guard guard_is) in
+      let hosted : number_in (spot net.tree r.loc) ≡ Some i = ap (λ (l : Loc). number_in (spot net.tree l)) is_guard.loc ∙ group_hosted rules_by net n stands i j s g here kept_s held in
+      let part = site_is_part net n i s stands seen here in
+      let at = run_at net.tree i j s g k r level guard ms left _ _ n part kept_s of_code drawn held rule_is level_is guard_is hosted lives takes in
+      let a = code_made c i guard.body (g.told.inst.env ++ args_of ms) r.loc s.made in
+      let count : net.tree.roots ≡ length net.sites = roots_are_sites net.tree n stands.sound stands.agrees.tree ∙ ap length stands.agrees.counts ∙ length_made net.sites in
+      let runs = subst (λ (m : ℕ). Runs rules_by m net.tree i (with_queues s j g left) (pour net.seen i (root_of i) (given_all r.pats ms) r.loc s.made r.body) a.next a.births (all_told (told_by c) a.groups) (posted_of a.atoms) a.outs) count
+      (subst (λ (xs : List ℕ). Runs rules_by net.tree.roots net.tree i (with_queues s j g left) (pour xs i (root_of i) (given_all r.pats ms) r.loc s.made r.body) a.next a.births (all_told (told_by c) a.groups) (posted_of a.atoms) a.outs) (sym seen) at.1) in
+      works.react i j s g r guard.chans ms left a.next a.births (all_told (told_by c) a.groups) (posted_of a.atoms) a.outs here held is_guard hosted lives takes runs

@@ -39,7 +39,7 @@ use Rattle.wire_packet.specs.declared.packet.Ask.TheVariants as request
 
 -- ---- groups at different locations have no channel in common
 
-apart_both : (ds es : List Told) → AreApart ds → AreApart es → Each (λ (d : Told). Each (AreDisjoint d) es) ds → AreApart (ds ++ es)
+pub apart_both : (ds es : List Told) → AreApart ds → AreApart es → Each (λ (d : Told). Each (AreDisjoint d) es) ds → AreApart (ds ++ es)
 apart_both [] es a b h = b
 apart_both (d ∷ ds) es a b h = (each_both (AreDisjoint d) ds es a.0 h.0, apart_both ds es a.1 b h.1)
   where
@@ -50,7 +50,7 @@ apart_both (d ∷ ds) es a b h = (each_both (AreDisjoint d) ds es a.0 h.0, apart
 elsewhere : (l : Loc) (d : Told) (es : List Told) → (d.inst.loc ≡ l → ⊥) → Each (λ (e : Told). e.inst.loc ≡ l) es → Each (AreDisjoint d) es
 elsewhere l d es h g = Each-weaker (λ (e : Told). e.inst.loc ≡ l) (AreDisjoint d) (λ e at b c below_b below_c same. let loc : d.inst.loc ≡ e.inst.loc = cc in h (loc ∙ at)) es g
 
-all_elsewhere : (l : Loc) (locs : List Loc) (ds es : List Told) → (among locs l ≡ true → ⊥) → Each (λ (d : Told). among locs d.inst.loc ≡ true) ds → Each (λ (e : Told). e.inst.loc ≡ l) es → Each (λ (d : Told). Each (AreDisjoint d) es) ds
+pub all_elsewhere : (l : Loc) (locs : List Loc) (ds es : List Told) → (among locs l ≡ true → ⊥) → Each (λ (d : Told). among locs d.inst.loc ≡ true) ds → Each (λ (e : Told). e.inst.loc ≡ l) es → Each (λ (d : Told). Each (AreDisjoint d) es) ds
 all_elsewhere l locs ds es h here g = Each-weaker (λ (d : Told). among locs d.inst.loc ≡ true) (λ (d : Told). Each (AreDisjoint d) es) (λ d at. elsewhere l d es (λ same. h (ap (among locs) (sym same) ∙ at)) g) ds here
 
 pub each_at : (l : Loc) (P : Told → Type 0) (gs : List Group) → Each P (told_in gs) → Each P (told_in (groups_at l gs))

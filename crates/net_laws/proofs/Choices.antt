@@ -17,8 +17,8 @@ use Rattle.net_laws.specs.Holding.{drop_request}
 use Rattle.net_laws.specs.Parcels.{groups_at, remove, pack, take_in}
 use Rattle.net_laws.specs.Choices.{effects, react, detect, halt, move_within, move_between, deliver, forward, ChoiceIsOneEvent}
 use Rattle.net_laws.proofs.Holds.{each_get}
-use Rattle.net_laws.proofs.Steps.{react_is_one_event}
-use Rattle.net_laws.proofs.Events.{detect_is_one_event, halt_is_one_event, move_within_is_one_event, move_between_is_one_event, delivery_keeps, forward_keeps}
+use Rattle.net_laws.proofs.Steps.{react_in_net}
+use Rattle.net_laws.proofs.Events.{detect_in_net, halt_in_net, move_within_in_net, move_between_in_net, delivery_keeps, forward_keeps}
 use Rattle.net_laws.proofs.Holding.{put_is}
 use Rattle.net_laws.proofs.Posting.{each_set}
 use Rattle.net_laws.proofs.Parcels.{each_laid_but}
@@ -48,14 +48,14 @@ module _ (rules_of : GroupInst → List NumberedRule) where
   works_lead net new n choice o stands keeps (react i j s g r cs ms left next births ds ps outs here held guard hosted lives takes runs) =
       let call = react_call rules_of net.seen (length net.sites) net.tree i j s g r cs ms left next births ds ps outs (each_get IsKept net.sites i s here keeps.kept) held guard hosted lives takes runs.gives runs.may in
       let o = pour_here net.tree next births ds ps (with_queues s j g left) in
-      (react_is_one_event rules_of net n i s o.site r ms (effects o outs births) stands here call.0, one_site net _ _ i s o.site ds o.sends keeps here call.1 runs.coded)
+      (react_in_net rules_of net n i s o.site r ms (effects o outs births) stands here call.0, one_site net _ _ i s o.site ds o.sends keeps here call.1 runs.coded)
   works_lead net new n choice o stands keeps (detect i s q target cont next births ds ps outs here there is hosted lives gone runs) =
       let call = detect_call rules_of net.seen (length net.sites) net.tree i s q target cont next births ds ps outs (each_get IsKept net.sites i s here keeps.kept) there is hosted lives gone runs.gives runs.may in
       let o = pour_here net.tree next births ds ps (drop_request q.id s) in
-      (detect_is_one_event rules_of net n i s o.site q (effects o outs births) stands here call.0, one_site net _ _ i s o.site ds o.sends keeps here call.1 runs.coded)
+      (detect_in_net rules_of net n i s o.site q (effects o outs births) stands here call.0, one_site net _ _ i s o.site ds o.sends keeps here call.1 runs.coded)
   works_lead net new n choice o stands keeps (halt i s q here there is lives) =
       let call = halt_call rules_of net.tree s q (each_get IsKept net.sites i s here keeps.kept) there is lives in (
-        halt_is_one_event rules_of net n i s (drop_request q.id s) q stands here call.0,
+        halt_in_net rules_of net n i s (drop_request q.id s) q stands here call.0,
         record {
           kept = each_set IsKept net.sites i (drop_request q.id s) keeps.kept call.1;
           coded = each_set (IsCoded rules_of) net.sites i (drop_request q.id s) keeps.coded (each_get (IsCoded rules_of) net.sites i s here keeps.coded);
@@ -65,7 +65,7 @@ module _ (rules_of : GroupInst → List NumberedRule) where
   works_lead net new n choice o stands keeps (move_within i s q target cont next births ds ps outs here there is can hosted to runs) =
       let call = move_within_call rules_of net.seen (length net.sites) net.tree i s q target cont next births ds ps outs (each_get IsKept net.sites i s here keeps.kept) there is can hosted to runs.gives runs.may in
       let o = pour_here net.tree next births ds ps (drop_request q.id s) in
-      (move_within_is_one_event rules_of net n i s o.site q (effects o outs births) stands here call.0, one_site net _ _ i s o.site ds o.sends keeps here call.1 runs.coded)
+      (move_within_in_net rules_of net n i s o.site q (effects o outs births) stands here call.0, one_site net _ _ i s o.site ds o.sends keeps here call.1 runs.coded)
   works_lead net new n choice o stands keeps (move_between i j from into q target cont next ps outs differ here there with_id is can hosted to runs) =
       let kept_from = each_get IsKept net.sites i from here keeps.kept in
       let kept_into = each_get IsKept net.sites j into there keeps.kept in
@@ -74,7 +74,7 @@ module _ (rules_of : GroupInst → List NumberedRule) where
       let left = remove q.loc (drop_request q.id from) in
       let o = pour_here (with_number net.tree q.loc j) next [] [] ps (take_in (pack q.loc (drop_request q.id from)) into) in
       let coded_from = each_get (IsCoded rules_of) net.sites i from here keeps.coded in (
-        move_between_is_one_event rules_of net n i j from into left o.site q (effects o outs []) stands differ here there call.0,
+        move_between_in_net rules_of net n i j from into left o.site q (effects o outs []) stands differ here there call.0,
         record {
           kept = each_set IsKept (slice_set net.sites i left) j o.site (each_set IsKept net.sites i left keeps.kept call.1) call.2.kept;
           coded = each_set (IsCoded rules_of) (slice_set net.sites i left) j o.site

@@ -26,7 +26,7 @@ use Rattle.loc_tree.specs.Places.{IsTreeOf}
 use Rattle.loc_tree.proofs.Alive.{alive_is_live, moves_as_go_needs, dies_as_detect_needs}
 use Rattle.loc_tree.proofs.Follows.{move_follows, mark_follows}
 use Rattle.net_laws.specs.Net.{Net, Hosts, AllHost, Agrees, Stands, all_atoms, with_effects, made_of, under_way, among, home_or, without_packet}
-use Rattle.net_laws.proofs.NetEvents.{DetectIsOneEvent, HaltIsOneEvent, MoveWithinIsOneEvent, MoveBetweenIsOneEvent, DeliveryKeeps, ForwardKeeps}
+use Rattle.net_laws.proofs.NetEvents.{DetectInNet, HaltInNet, MoveWithinInNet, MoveBetweenInNet, DeliveryKeeps, ForwardKeeps}
 use Rattle.net_laws.proofs.Lists.{get_set_same, get_set_other, set_set, made_kept, packet_taken}
 use Rattle.net_laws.proofs.Found.{atom_in, bag_without}
 use Rattle.net_laws.proofs.React.{atoms_differ}
@@ -39,7 +39,7 @@ use Rattle.chem_model.specs.declared.event.Event.TheVariants as event
 
 module _ (rules_of : GroupInst → List NumberedRule) where
   -- a request that a site holds stands in the solution
-  asked_there : (net : Net) (n : Numbered) (i : ℕ) (s : Site) (q : Request) → Stands rules_of net n → slice_get net.sites i ≡ Some s → 0 < request_atoms s.requests (request_atom q) → 0 < bag coded_atom n.atoms (request_atom q)
+  pub asked_there : (net : Net) (n : Numbered) (i : ℕ) (s : Site) (q : Request) → Stands rules_of net n → slice_get net.sites i ≡ Some s → 0 < request_atoms s.requests (request_atom q) → 0 < bag coded_atom n.atoms (request_atom q)
   asked_there net n i s q stands here held = go (stands.agrees.atoms (request_atom q)) (atoms_among rules_of net.sites i s (request_atom q) here)
     where
       go : bag coded_atom n.atoms (request_atom q) ≡ all_atoms net.sites (request_atom q) + under_way net.packets (request_atom q) → atoms_of s (request_atom q) ≤ all_atoms net.sites (request_atom q) → 0 < bag coded_atom n.atoms (request_atom q)
@@ -51,8 +51,8 @@ module _ (rules_of : GroupInst → List NumberedRule) where
 
   -- ---- Detect
 
-  pub detect_is_one_event : DetectIsOneEvent rules_of
-  detect_is_one_event net n i s new q e stands here detects =
+  pub detect_in_net : DetectInNet rules_of
+  detect_in_net net n i s new q e stands here detects =
       let there = asked_there net n i s q stands here detects.held in
       let can = sym (dies_as_detect_needs net.tree n stands.agrees.tree q.loc detects.target) ∙ detects.can in
       let applies = detect_applies n stands.sound q detects.target detects.cont there detects.is can in
@@ -80,8 +80,8 @@ module _ (rules_of : GroupInst → List NumberedRule) where
       let h = hosts j v e in
       record { number = h.number; locs = λ l. (λ g. same l ∙ (h.locs l).0 g, λ g. (h.locs l).1 (sym (same l) ∙ g)) }
 
-  pub halt_is_one_event : HaltIsOneEvent rules_of
-  halt_is_one_event net n i s new q stands here halts =
+  pub halt_in_net : HaltInNet rules_of
+  halt_in_net net n i s new q stands here halts =
       let there = asked_there net n i s q stands here halts.held in
       let lives : live (standing n.places) q.loc ≡ true = sym (alive_is_live net.tree n.places stands.agrees.tree q.loc) ∙ halts.alive in
       let after : Numbered = record n { places = with_marks q.loc n.places; atoms = without q.id n.atoms } in
@@ -152,8 +152,8 @@ module _ (rules_of : GroupInst → List NumberedRule) where
     trace = stands.agrees.trace;
   }
 
-  pub move_within_is_one_event : MoveWithinIsOneEvent rules_of
-  move_within_is_one_event net n i s new q e stands here moves =
+  pub move_within_in_net : MoveWithinInNet rules_of
+  move_within_in_net net n i s new q e stands here moves =
       let l = q.loc in
       let b = moves.target in
       let there = asked_there net n i s q stands here moves.held in
@@ -229,8 +229,8 @@ module _ (rules_of : GroupInst → List NumberedRule) where
           )
           go x false c = o.locs x
 
-  pub move_between_is_one_event : MoveBetweenIsOneEvent rules_of
-  move_between_is_one_event net n i j from into left new q e stands differ here there moves =
+  pub move_between_in_net : MoveBetweenInNet rules_of
+  move_between_in_net net n i j from into left new q e stands differ here there moves =
       let l = q.loc in
       let b = moves.target in
       let held = asked_there net n i from q stands here moves.held in

@@ -30,3 +30,4 @@ pub mod Rounds
 pub mod CallLaws
 pub mod Guarded
 pub mod ByCode
+pub mod Meeting

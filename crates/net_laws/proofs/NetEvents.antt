@@ -17,26 +17,26 @@ use Rattle.chem_model.specs.declared.name.Name.TheVariants as name
 use Rattle.chem_model.specs.declared.event.Event.TheVariants as event
 
 module _ (rules_of : GroupInst → List NumberedRule) where
-  abbrev pub ReactIsOneEvent : Type 0
-  ReactIsOneEvent = (net : Net) (n : Numbered) (i : ℕ) (s new : Site) (r : NumberedRule) (ms : List MessageParts) (e : Effects)
+  abbrev pub ReactInNet : Type 0
+  ReactInNet = (net : Net) (n : Numbered) (i : ℕ) (s new : Site) (r : NumberedRule) (ms : List MessageParts) (e : Effects)
       → Stands rules_of net n → slice_get net.sites i ≡ Some s → ReactsHere rules_of net.seen net.tree i s r ms new e → Stepped rules_of (event.React r.id (ids ms)) n (with_site net i new e)
 
   -- ---- requests
 
-  abbrev pub DetectIsOneEvent : Type 0
-  DetectIsOneEvent = (net : Net) (n : Numbered) (i : ℕ) (s new : Site) (q : Request) (e : Effects)
+  abbrev pub DetectInNet : Type 0
+  DetectInNet = (net : Net) (n : Numbered) (i : ℕ) (s new : Site) (q : Request) (e : Effects)
       → Stands rules_of net n → slice_get net.sites i ≡ Some s → DetectsHere rules_of net.seen net.tree i s q new e → Stepped rules_of (event.Detect q.id) n (with_site net i new e)
 
-  abbrev pub HaltIsOneEvent : Type 0
-  HaltIsOneEvent = (net : Net) (n : Numbered) (i : ℕ) (s new : Site) (q : Request)
+  abbrev pub HaltInNet : Type 0
+  HaltInNet = (net : Net) (n : Numbered) (i : ℕ) (s new : Site) (q : Request)
       → Stands rules_of net n → slice_get net.sites i ≡ Some s → HaltsHere rules_of net.tree s q new → Stepped rules_of (event.Halt q.id) n (record net { sites = slice_set net.sites i new; tree = with_mark net.tree q.loc })
 
-  abbrev pub MoveWithinIsOneEvent : Type 0
-  MoveWithinIsOneEvent = (net : Net) (n : Numbered) (i : ℕ) (s new : Site) (q : Request) (e : Effects)
+  abbrev pub MoveWithinInNet : Type 0
+  MoveWithinInNet = (net : Net) (n : Numbered) (i : ℕ) (s new : Site) (q : Request) (e : Effects)
       → Stands rules_of net n → slice_get net.sites i ≡ Some s → StaysHere rules_of net.seen net.tree i s q new e → Stepped rules_of (event.Move q.id) n (with_site (record net { tree = with_number net.tree q.loc i }) i new e)
 
-  abbrev pub MoveBetweenIsOneEvent : Type 0
-  MoveBetweenIsOneEvent = (net : Net) (n : Numbered) (i j : ℕ) (from into left new : Site) (q : Request) (e : Effects)
+  abbrev pub MoveBetweenInNet : Type 0
+  MoveBetweenInNet = (net : Net) (n : Numbered) (i j : ℕ) (from into left new : Site) (q : Request) (e : Effects)
       → Stands rules_of net n → (i ≡ j → ⊥) → slice_get net.sites i ≡ Some from → slice_get net.sites j ≡ Some into → MovesHere rules_of net.seen net.tree i j from into q left new e
       → Stepped rules_of (event.Move q.id) n (with_effects (record net { tree = with_number net.tree q.loc j }) (slice_set (slice_set net.sites i left) j new) j e)
 

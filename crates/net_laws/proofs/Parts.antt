@@ -74,7 +74,7 @@ module _ (rules_of : GroupInst → List NumberedRule) (seen : List ℕ) (t : Tre
   lives : (l : Loc) → is_alive t l ≡ true → live (standing n.places) l ≡ true
   lives l h = sym (alive_is_live t n.places part.tree l) ∙ h
 
-  request_there : (q : Request) → 0 < request_atoms s.requests (request_atom q) → 0 < bag coded_atom n.atoms (request_atom q)
+  pub request_there : (q : Request) → 0 < request_atoms s.requests (request_atom q) → 0 < bag coded_atom n.atoms (request_atom q)
   request_there q h = omega (arith, part.atoms_are (request_atom q))
 
   asked_left : (q : Request) → 0 < bag coded_atom n.atoms (request_atom q) → (x : NumberedAtom) → bag coded_atom n.atoms x ≡ one coded_atom (request_atom q) x + bag coded_atom (without q.id n.atoms) x

@@ -25,7 +25,7 @@ use Rattle.loc_tree.proofs.Alive.{alive_is_live, number_is_of_root}
 use Rattle.net_laws.specs.Net.{Net, Effects, AllHost, Agrees, Stands, all_atoms, all_rules, with_site, made_of, under_way}
 use Rattle.net_laws.specs.Changes.{given_all, ids, Pours, Takes, AreQueues, IsGuard}
 use Rattle.net_laws.specs.Choices.{Stepped}
-use Rattle.net_laws.proofs.NetEvents.{ReactIsOneEvent}
+use Rattle.net_laws.proofs.NetEvents.{ReactInNet}
 use Rattle.net_laws.proofs.Sites.{made_at}
 use Rattle.net_laws.proofs.Trees.{IsFresh}
 use Rattle.net_laws.proofs.Agree.{fresh_births, hosts_births, Makes, made_agrees, pours_makes}
@@ -130,8 +130,8 @@ module _ (rules_of : GroupInst → List NumberedRule) where
       → slice_get net.sites i ≡ Some s → slice_get s.groups j ≡ Some g → IsGuard rules_of g.told r cs → 0 < bag coded_rule n.rules r
   guard_there net n i j s g r cs stands here held guard = omega (arith, stands.agrees.rules r, rules_among net.sites i s r here, group_among s.groups j g r held, guard.stands)
 
-  pub react_is_one_event : ReactIsOneEvent rules_of
-  react_is_one_event net n i s new r ms e stands here reacts =
+  pub react_in_net : ReactInNet rules_of
+  react_in_net net n i s new r ms e stands here reacts =
       let possible = react_possible net n i reacts.index s reacts.group r reacts.chans ms reacts.left stands here reacts.held reacts.queues reacts.guard reacts.alive reacts.takes in
       poured net n n (event.React r.id (ids ms)) i s new (messages_at r.loc ms) (without_all (ids ms) n.atoms) (given_all r.pats ms) r.loc r.body e
       stands.agrees stands.hosts stands.sound possible.0 here reacts.hosted possible.1 reacts.pours

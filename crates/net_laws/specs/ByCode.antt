@@ -34,7 +34,8 @@ use Rattle.net_laws.specs.Kept.{IsKept}
 use Rattle.net_laws.specs.Posting.{Outcome, pour_here, posted_of, with_queues}
 use Rattle.net_laws.specs.Parcels.{all_told}
 use Rattle.net_laws.specs.Parts.{IsPart, GoesOn}
-use Rattle.net_laws.specs.Choices.{Runs, effects}
+use Rattle.net_laws.specs.Net.{Net, Stands}
+use Rattle.net_laws.specs.Choices.{to_react, Works, with_outcome, Runs, effects}
 use Rattle.net_laws.specs.Calls.{Keeps}
 
 -- ---- groups of the code
@@ -85,11 +86,12 @@ RulesAreGuards =
 
 -- ---- a run of the code gives what is poured
 
--- where a process is poured at a location that the site hosts, and the solution with what is poured
--- is sound: a run that is this pouring, and lays groups that are guarded, fits the site
+-- the group's level has guards
 abbrev pub IsGuarded : CodeParts → GroupInst → Type 0
 IsGuarded c g = 0 < guards_at (slice_get c.levels g.level)
 
+-- where a process is poured at a location that the site hosts, and the solution with what is poured
+-- is sound: a run that is this pouring, and lays groups that are guarded, fits the site
 abbrev pub RunFits : Type 0
 RunFits =
     (p : ProgramTerms) (c : CodeParts) → IsProgram p → IsCode c → IsCodeOf p c
@@ -112,8 +114,8 @@ RunsAreGuarded =
 -- under the group's environment and the received names. That is one event of each sound solution of
 -- which the site is a part
 
-abbrev pub ReactionByCode : Type 0
-ReactionByCode =
+abbrev pub ReactionIsOneEvent : Type 0
+ReactionIsOneEvent =
     (p : ProgramTerms) (c : CodeParts) → IsProgram p → IsCode c → IsCodeOf p c
     → (t : Tree) (i j : ℕ) (s : Site) (g : Group) (k : ℕ) (r : NumberedRule) (level : Level)
     (guard : Guard) (ms : List MessageParts) (left : List (List MessageParts))
@@ -131,3 +133,22 @@ ReactionByCode =
     GoesOn (rules_of_group p) (counts_of p.seen) t i o.site (effects o a.outs a.births)
     rules atoms n (event.React r.id (ids ms))
     × Keeps t.roots s (all_told (told_by c) a.groups) o
+
+-- ---- the same of a network: where a site of it does this, the network makes the choice
+
+abbrev pub ReactionWorks : Type 0
+ReactionWorks =
+    (p : ProgramTerms) (c : CodeParts) → IsProgram p → IsCode c → IsCodeOf p c
+    → (net : Net) (n : Numbered) (i j : ℕ) (s : Site) (g : Group) (k : ℕ) (r : NumberedRule)
+    (level : Level) (guard : Guard) (ms : List MessageParts) (left : List (List MessageParts))
+    → Stands (rules_of_group p) net n → net.seen ≡ counts_of p.seen
+    → slice_get net.sites i ≡ Some s → IsKept s
+    → Each (IsOfCode p c) (told_in s.groups) → Each (IsDrawn i s.made) (told_in s.groups)
+    → slice_get s.groups j ≡ Some g
+    → slice_get (rules_of_group p g.told.inst) k ≡ Some r
+    → slice_get c.levels g.told.inst.level ≡ Some level
+    → slice_get c.guards (level.first + k) ≡ Some guard
+    → is_alive net.tree r.loc ≡ true → Takes g.queues guard.chans ms left
+    → let a = code_made c i guard.body (g.told.inst.env ++ args_of ms) r.loc s.made in
+    Works (rules_of_group p) net (to_react i j r.id) (Some (event.React r.id (ids ms)))
+    (with_outcome net i (run_here c net.tree a (with_queues s j g left)) a.outs a.births)

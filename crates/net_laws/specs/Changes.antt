@@ -71,8 +71,8 @@ Takes queues (c ∷ cs) (m ∷ ms) left =
     × (slice_get queues c ≡ Some (m ∷ rest))
     × Takes (slice_set queues c rest) cs ms left
 
--- a rule of a group, and the channels of its patterns
 module _ (rules_of : GroupInst → List NumberedRule) where
+  -- a rule of a group, and the channels of its patterns
   pub record IsGuard (d : Told) (r : NumberedRule) (cs : List ℕ) : Type 0 where
     pub stands : 0 < bag coded_rule (rules_of d.inst) r
     pub loc : r.loc ≡ d.inst.loc

@@ -13,3 +13,4 @@ pub mod Parts
 pub mod Rounds
 pub mod Calls
 pub mod ByCode
+pub mod Meeting

@@ -9,12 +9,16 @@ ghost use Rattle.net_laws.specs.Parts.{ReactionOfAPart, DetectionOfAPart, HaltOf
 ghost use Rattle.net_laws.specs.Parts.{DeliveryToAPart, MoveOfTwoParts};
 ghost use Rattle.net_laws.specs.Calls.{ReactCall, DetectCall, HaltCall, MoveWithinCall};
 ghost use Rattle.net_laws.specs.Calls.{MoveBetweenCall, DeliverCall};
-ghost use Rattle.net_laws.specs.ByCode.{RulesAreGuards, RunFits, RunsAreGuarded, ReactionByCode};
+ghost use Rattle.net_laws.specs.Meeting.{DetectionIsOneEvent, HaltIsOneEvent, DeliveryIsNoEvent};
+ghost use Rattle.net_laws.specs.Meeting.{MoveWithinIsOneEvent, MoveBetweenIsOneEvent};
+ghost use Rattle.net_laws.specs.Meeting.{DetectionWorks, MoveWithinWorks, MoveBetweenWorks};
+ghost use Rattle.net_laws.specs.ByCode.{RulesAreGuards, RunFits, RunsAreGuarded};
+ghost use Rattle.net_laws.specs.ByCode.{ReactionIsOneEvent, ReactionWorks};
 ghost use Rattle.net_laws.specs.Choices.{ChoiceIsOneEvent};
 ghost use Rattle.net_laws.specs.Enabled.{NoChoiceIsQuiet, ChoicesCanBeMade};
 ghost use Rattle.net_laws.specs.Opening.{StartStands};
 ghost use Rattle.net_laws.specs.Play.{NetworkRuns, ChoicesReplay};
-ghost use Rattle.net_laws.specs.Rounds.{RoundIsChoices};
+ghost use Rattle.net_laws.specs.Rounds.{LentSiteIsBack, RoundIsChoices};
 
 /// A reaction of a site is one React of each sound solution of which the site is a part, whatever
 /// else stands in that. It does nothing.
@@ -83,6 +87,37 @@ pub fn deliver_call()
     ensures { (rules_of : GroupInst → List NumberedRule) → DeliverCall rules_of }
 {}
 
+/// A site that drops a request to detect the failure of a dead location and sends its continuation
+/// makes one Detect of each sound solution of which it is a part, and keeps its facts. It does
+/// nothing.
+pub fn detection_is_one_event()
+    ensures { (rules_of : GroupInst → List NumberedRule) → DetectionIsOneEvent rules_of }
+{}
+
+/// A site that drops a request to halt makes one Halt, where the tree then has the mark. It does
+/// nothing.
+pub fn halt_is_one_event()
+    ensures { (rules_of : GroupInst → List NumberedRule) → HaltIsOneEvent rules_of }
+{}
+
+/// A site that drops a request to go to its own root and sends the continuation makes one Go. It
+/// does nothing.
+pub fn move_within_is_one_event()
+    ensures { (rules_of : GroupInst → List NumberedRule) → MoveWithinIsOneEvent rules_of }
+{}
+
+/// Where one site removes a location and another takes in what was packed and sends the
+/// continuation, the two make one Go, and both keep their facts. It does nothing.
+pub fn move_between_is_one_event()
+    ensures { (rules_of : GroupInst → List NumberedRule) → MoveBetweenIsOneEvent rules_of }
+{}
+
+/// A site that puts a message at its home stands for the same solution, of which the message was a
+/// part before, and keeps its facts. It does nothing.
+pub fn delivery_is_no_event()
+    ensures { (rules_of : GroupInst → List NumberedRule) → DeliveryIsNoEvent rules_of }
+{}
+
 /// What arrives in a parcel is what was packed, where the code tells of each group what was told
 /// when it was laid. It does nothing.
 pub fn parcel_carries()
@@ -107,8 +142,32 @@ pub fn run_fits()
 
 /// A site that takes the fronts of a guard's queues and runs the guard's body makes one React of
 /// each sound solution of which it is a part, and keeps its facts. It does nothing.
-pub fn reaction_by_code()
-    ensures { ReactionByCode }
+pub fn reaction_is_one_event()
+    ensures { ReactionIsOneEvent }
+{}
+
+/// Where a site of a network takes the fronts of a guard's queues and runs the guard's body, the
+/// network makes the choice of that reaction. It does nothing.
+pub fn reaction_works()
+    ensures { ReactionWorks }
+{}
+
+/// Where a site of a network meets a request to detect a failure, the network makes that choice. It
+/// does nothing.
+pub fn detection_works()
+    ensures { (rules_of : GroupInst → List NumberedRule) → DetectionWorks rules_of }
+{}
+
+/// Where a site of a network meets a request to go to its own root, the network makes that choice.
+/// It does nothing.
+pub fn move_within_works()
+    ensures { (rules_of : GroupInst → List NumberedRule) → MoveWithinWorks rules_of }
+{}
+
+/// Where a location moves from one site of a network to another, the network makes that choice. It
+/// does nothing.
+pub fn move_between_works()
+    ensures { (rules_of : GroupInst → List NumberedRule) → MoveBetweenWorks rules_of }
 {}
 
 /// Where a network stands for a solution, a choice is one event of that solution, or none, and the
@@ -145,6 +204,12 @@ pub fn no_choice_is_quiet()
 /// Each choice that is enabled can be made, where the code runs. It does nothing.
 pub fn choices_can_be_made()
     ensures { (rules_of : GroupInst → List NumberedRule) → ChoicesCanBeMade rules_of }
+{}
+
+/// Where one site is lent with its mail and comes back, what it did are choices of the network,
+/// whatever else happened meanwhile at other sites. It does nothing.
+pub fn lent_site_is_back()
+    ensures { (rules_of : GroupInst → List NumberedRule) → LentSiteIsBack rules_of }
 {}
 
 /// Where all sites are lent at once, each with its mail, and come back in order, what they did are
