@@ -61,7 +61,7 @@ impl<G: Drop, T: Drop> Hot<G, T> {
         })
     }
 
-    /// The groups.
+    /// The groups, to be read.
     pub fn groups(&self) -> &Groups<G, T>
         ensures groups { result.now.groups ≡ self.now.groups }
         ensures spare { result.now.spare ≡ self.now.spare }
