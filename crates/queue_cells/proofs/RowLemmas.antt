@@ -1,9 +1,9 @@
 -- What becomes of groups of queues where a message comes or goes.
-use Rattle.std.proofs.Common.{◌≡◌, ◌≢◌, ℕ, zero, suc, ◌+◌, ◌-◌, ◌<◌, ◌≤◌, Bool, true, false, cond, List, [], ◌∷◌, ◌++◌, map, length, get_or, set, Option, Some, None, eqb, refl, sym, ap, subst, ◌∙◌, inl, inr, arith}
-use Rattle.std.specs.Prelude.{not, sum_by, replicate, slice_get, remove, is_some, IfNone, IfSome}
+use Rattle.std.proofs.Common.{◌≡◌, ◌≢◌, ℕ, zero, suc, ◌+◌, ◌<◌, ◌≤◌, true, false, cond, List, [], ◌∷◌, ◌++◌, map, length, get_or, set, Option, Some, None, eqb, refl, sym, ap, subst, ◌∙◌, inl, inr, arith}
+use Rattle.std.specs.Prelude.{replicate, slice_get, remove, is_some, IfNone, IfSome}
 use Rattle.std.proofs.lemmas.Bool.{cases_eq}
 use Rattle.std.proofs.lemmas.Bool.Decides.{nat_tests}
-use Rattle.std.proofs.lemmas.List.{map-append, length-map, length-append, length-set, map-set, get_or-set_same, get_or-set_other, get_or_default, set-set, set-get_or, nil_from_length}
+use Rattle.std.proofs.lemmas.List.{map-append, length-map, length-set, map-set, get_or-set_same, get_or-set_other, get_or_default, set-set, set-get_or, nil_from_length}
 use Rattle.std.proofs.lemmas.List.Sums.{sum_by-set, sum_by-cons, sum_by_push, sum_by-remove, get_or-le-sum_by}
 use Rattle.slab.specs.Slab.{Slab, slab_len}
 use Rattle.queue_cells.specs.declared.cells.Cell.{Cell}
@@ -12,7 +12,7 @@ use Rattle.queue_cells.specs.declared.rows.Row.{Row}
 use Rattle.status_words.specs.Words.{Covers, NoneFrom, IsNext}
 use Rattle.queue_cells.specs.Grouped.{Queued, lists_at, queue_in, with_queue, idle_group, waiting, AllHeld}
 use Rattle.queue_cells.specs.Busy.{any_waits}
-use Rattle.queue_cells.specs.Walk.{walk, walked, messages, uses, IsQueue, AllQueues, all_uses, total, Chained, Unchained}
+use Rattle.queue_cells.specs.Walk.{walked, messages, uses, IsQueue, AllQueues, all_uses, total, Chained, Unchained}
 use Rattle.queue_cells.specs.Rows.{is_held, no_ends, IsIdle, queued, IsRow, AllRows, row_uses, AreRows}
 use Rattle.queue_cells.proofs.Walks.{queues-same, queue-set, uses-le-all, vacant_unused, uses-append, AllQueues-at, messages-at, one_at_most, eqb-same}
 
@@ -60,10 +60,9 @@ none_waits (suc n) no_one = absurd (no_one (omega arith))
 held-at : {T : Type 0} (slots : List (Option (Cell T))) (es : List Ends) (i : ℕ) → AllQueues slots es → (get_or (map is_held es) i false ≡ true → 0 < length (get_or (map (messages slots) es) i [])) × (0 < length (get_or (map (messages slots) es) i []) → get_or (map is_held es) i false ≡ true)
 held-at slots [] i all = (λ h. absurd (cc), λ h. absurd (omega arith))
 held-at slots (e ∷ es) zero all =
-      let count : length (messages slots e) ≡ e.count = length-map (walked slots e) (λ p. p.1) ∙ all.0.whole in
-      (λ h. let some = held_count e h in omega arith, λ h. count_held e (omega arith))
+    let count : length (messages slots e) ≡ e.count = length-map (walked slots e) (λ p. p.1) ∙ all.0.whole in
+    (λ h. let some = held_count e h in omega arith, λ h. count_held e (omega arith))
 held-at slots (e ∷ es) (suc i) all = held-at slots es i all.1
-
 
 AllQueues-none : {T : Type 0} (slots : List (Option (Cell T))) (n : ℕ) → AllQueues slots (replicate n no_ends)
 AllQueues-none slots zero = tt
@@ -88,12 +87,12 @@ total-none (suc n) = let one = sum_by-cons (λ (e : Ends). e.count) no_ends (rep
 empty_ends : {T : Type 0} (slots : List (Option (Cell T))) (es : List Ends) → AllQueues slots es → ((c : ℕ) → c < length es → get_or (map (messages slots) es) c [] ≡ []) → (total es ≡ 0) × ((k : ℕ) → all_uses slots k es ≡ 0)
 empty_ends slots [] all none = (refl, λ k. refl)
 empty_ends slots (e ∷ es) all none =
-      let first : messages slots e ≡ [] = none 0 (omega arith) in
-      let length_first : length (walked slots e) ≡ 0 = sym (length-map (walked slots e) (λ p. p.1)) ∙ ap length first in
-      let count : e.count ≡ 0 = sym all.0.whole ∙ length_first in
-      let gone : walked slots e ≡ [] = nil_from_length (walked slots e) length_first in
-      let rest = empty_ends slots es all.1 (λ c less. none (suc c) (omega arith)) in
-      (sum_by-cons (λ (x : Ends). x.count) e es ∙ (let r = rest.0 in omega arith), λ k. let u = ap (λ w. uses k w) gone in omega (arith, rest.1 k))
+    let first : messages slots e ≡ [] = none 0 (omega arith) in
+    let length_first : length (walked slots e) ≡ 0 = sym (length-map (walked slots e) (λ p. p.1)) ∙ ap length first in
+    let count : e.count ≡ 0 = sym all.0.whole ∙ length_first in
+    let gone : walked slots e ≡ [] = nil_from_length (walked slots e) length_first in
+    let rest = empty_ends slots es all.1 (λ c less. none (suc c) (omega arith)) in
+    (sum_by-cons (λ (x : Ends). x.count) e es ∙ (let r = rest.0 in omega arith), λ k. let u = ap (λ w. uses k w) gone in omega (arith, rest.1 k))
 
 module _ {G T : Type 0} where
   -- groups stay where each of their cells stays
@@ -198,16 +197,15 @@ module _ {G T : Type 0} where
   pub rows-chained : (old new : Slab (Cell T)) (rs : List (Row G)) (g : ℕ) (r after : Row G) (chan : ℕ) (e e' : Ends) (message : T) → Found old rs g r chan e → AreRows old rs → Replaced r after chan e' → Chained old.slots new.slots e e' message → slab_len new ≡ slab_len old + 1 → AreRows new (set rs g after) × (map (queued new.slots) (set rs g after) ≡ with_queue (map (queued old.slots) rs) g chan (queue_in (map (queued old.slots) rs) g chan ++ message ∷ []))
   rows-chained old new rs g r after chan e e' message f all step c more =
       let stays : (k : ℕ) → uses k (walked old.slots e) < row_uses old.slots k rs → get_or new.slots k None ≡ get_or old.slots k None = λ k other.
-          let unused : uses k (walked old.slots e) ≡ 0 = omega (arith, all.once k) in
-          let differs : k ≢ c.key = λ same. let none = rows_unused old.slots k rs (subst (λ j. get_or old.slots j None ≡ None) (sym same) c.vacant) in omega arith in
-          c.others k differs unused in
+      let unused : uses k (walked old.slots e) ≡ 0 = omega (arith, all.once k) in
+      let differs : k ≢ c.key = λ same. let none = rows_unused old.slots k rs (subst (λ j. get_or old.slots j None ≡ None) (sym same) c.vacant) in omega arith in
+      c.others k differs unused in
       let s = row-set old.slots new.slots rs g r after chan e e' f.group f.row_is f.within f.ends_is all.each c.queue step stays in
       let inner = sum_by-set (λ (x : Ends). x.count) r.ends.items chan e' e f.within in
       let outer = sum_by-set (λ (x : Row G). total x.ends.items) rs g after r f.group in
       let same = ap (λ (x : Ends). x.count) f.ends_is in
       let same_row = ap (λ (x : Row G). total x.ends.items) f.row_is in
-      let now : total after.ends.items ≡ total (set r.ends.items chan e') = ap total step.ends_are in
-      (
+      let now : total after.ends.items ≡ total (set r.ends.items chan e') = ap total step.ends_are in (
         record {
           each = s.each;
           once = λ k. once k (s.used k);
@@ -234,15 +232,14 @@ module _ {G T : Type 0} where
   rows-unchained old new rs g r after chan e e' message f all step c less =
       let head_used : 0 < uses e.head (walked old.slots e) = rw (c.shorter, eqb-same) (omega arith) in
       let stays : (k : ℕ) → uses k (walked old.slots e) < row_uses old.slots k rs → get_or new.slots k None ≡ get_or old.slots k None = λ k other.
-          let unused : uses k (walked old.slots e) ≡ 0 = omega (arith, all.once k) in
-          c.others k (λ same. let used : 0 < uses k (walked old.slots e) = subst (λ j. 0 < uses j (walked old.slots e)) (sym same) head_used in omega arith) in
+      let unused : uses k (walked old.slots e) ≡ 0 = omega (arith, all.once k) in
+      c.others k (λ same. let used : 0 < uses k (walked old.slots e) = subst (λ j. 0 < uses j (walked old.slots e)) (sym same) head_used in omega arith) in
       let s = row-set old.slots new.slots rs g r after chan e e' f.group f.row_is f.within f.ends_is all.each c.queue step stays in
       let inner = sum_by-set (λ (x : Ends). x.count) r.ends.items chan e' e f.within in
       let outer = sum_by-set (λ (x : Row G). total x.ends.items) rs g after r f.group in
       let same = ap (λ (x : Ends). x.count) f.ends_is in
       let same_row = ap (λ (x : Row G). total x.ends.items) f.row_is in
-      let now : total after.ends.items ≡ total (set r.ends.items chan e') = ap total step.ends_are in
-      (
+      let now : total after.ends.items ≡ total (set r.ends.items chan e') = ap total step.ends_are in (
         record {
           each = s.each;
           once = λ k. let u = s.used k in let shorter : uses k (walked old.slots e) ≡ cond {A = ℕ} (eqb e.head k) 1 0 + uses k (walked new.slots e') = ap (λ w. uses k w) c.shorter in omega (arith, all.once k);
@@ -283,7 +280,6 @@ module _ {G T : Type 0} where
   pub count-found : (cells : Slab (Cell T)) (rs : List (Row G)) (g : ℕ) (r : Row G) (chan : ℕ) (e : Ends) → Found cells rs g r chan e → length (queue_in (map (queued cells.slots) rs) g chan) ≡ e.count
   count-found cells rs g r chan e f = ap length f.members ∙ length-map (walked cells.slots e) (λ p. p.1) ∙ f.queue.whole
 
-
   -- the status covers a mask exactly where each of its queues holds something
   pub covers-held : (slots : List (Option (Cell T))) (r : Row G) (mask : List ℕ) → IsRow slots r → (Covers r.status mask → AllHeld (map (messages slots) r.ends.items) mask) × (AllHeld (map (messages slots) r.ends.items) mask → Covers r.status mask)
   covers-held slots r mask row = (
@@ -295,8 +291,8 @@ module _ {G T : Type 0} where
   pub holds-of : (slots : List (Option (Cell T))) (r : Row G) (found : Option ℕ) → IsRow slots r → IfNone found (NoneFrom r.status 0 (length r.status)) → IfSome found (λ i. IsNext r.status 0 i) → is_some found ≡ any_waits (map (messages slots) r.ends.items)
   holds-of slots r None row idle some =
       let empty : (i : ℕ) → i < length (map (messages slots) r.ends.items) → get_or (map (messages slots) r.ends.items) i [] ≡ [] = λ i less.
-          let bit : get_or (map is_held r.ends.items) i false ≡ false = ap (λ s. get_or s i false) (sym row.status) ∙ idle i (omega arith) (omega (arith, ap length row.status, length-map r.ends.items is_held, length-map r.ends.items (messages slots))) in
-          nil_from_length (get_or (map (messages slots) r.ends.items) i []) (none_waits (length (get_or (map (messages slots) r.ends.items) i [])) (λ waits. let t = (held-at slots r.ends.items i row.queues).1 waits in absurd (cc))) in
+      let bit : get_or (map is_held r.ends.items) i false ≡ false = ap (λ s. get_or s i false) (sym row.status) ∙ idle i (omega arith) (omega (arith, ap length row.status, length-map r.ends.items is_held, length-map r.ends.items (messages slots))) in
+      nil_from_length (get_or (map (messages slots) r.ends.items) i []) (none_waits (length (get_or (map (messages slots) r.ends.items) i [])) (λ waits. let t = (held-at slots r.ends.items i row.queues).1 waits in absurd (cc))) in
       let none : waiting (map (messages slots) r.ends.items) ≡ 0 = waiting-none (map (messages slots) r.ends.items) empty in
       rw none refl
   holds-of slots r (Some i) row idle some =
@@ -382,8 +378,7 @@ module _ {G T : Type 0} where
       let empty = empty_ends cells.slots r.ends.items row.queues (λ c less. ap (λ ls. get_or ls c []) (sym lists) ∙ none c (omega arith)) in
       let rest = rows-removed cells.slots rs g r within is all.each in
       let sums = sum_by-remove (λ (x : Row G). total x.ends.items) rs g r within in
-      let same = ap (λ (x : Row G). total x.ends.items) is in
-      (
+      let same = ap (λ (x : Row G). total x.ends.items) is in (
         record {
           each = rest.0;
           once = λ k. omega (arith, all.once k, rest.1 k);

@@ -1,10 +1,9 @@
 -- What becomes of queues where a cell is added, linked or taken.
-use Rattle.std.proofs.Common.{◌≡◌, ◌≢◌, ◌⊎◌, ℕ, zero, suc, ◌+◌, ◌-◌, ◌<◌, ◌≤◌, Bool, true, false, cond, List, [], ◌∷◌, ◌++◌, map, length, get_or, set, Option, Some, None, eqb, refl, sym, ap, subst, ◌∙◌, inl, inr, arith}
+use Rattle.std.proofs.Common.{◌≡◌, ◌≢◌, ℕ, zero, suc, ◌+◌, ◌-◌, ◌<◌, ◌≤◌, Bool, true, false, cond, List, [], ◌∷◌, ◌++◌, map, length, get_or, set, Option, Some, None, eqb, refl, sym, ap, subst, ◌∙◌, inl, inr, arith}
 use Rattle.std.proofs.lemmas.Bool.{cases_eq}
 use Rattle.std.proofs.lemmas.Bool.Decides.{nat_tests}
-use Rattle.std.proofs.lemmas.List.{map-append, length-map, length-append, length-set, get_or-set_same, get_or-set_other, ext_get_or, set-get_or}
-use Rattle.std.proofs.lemmas.List.Sums.{sum_by-set, sum_by_push, get_or-le-sum_by}
-use Rattle.slab.specs.Slab.{Slab, slab_len, Updates}
+use Rattle.std.proofs.lemmas.List.{length-append}
+use Rattle.slab.specs.Slab.{Slab, Updates}
 use Rattle.queue_cells.specs.declared.cells.Cell.{Cell}
 use Rattle.queue_cells.specs.declared.cells.Ends.{Ends}
 use Rattle.queue_cells.specs.Walk.{from_cell, walk, walked, messages, uses, last_key, IsQueue, AllQueues, all_uses, Chained, Unchained}
@@ -72,7 +71,7 @@ module _ {T : Type 0} where
       by_cell None is short _ = absurd (omega arith)
       by_cell (Some c) is _ at_tail =
           let here : get_or new h None ≡ Some (record { message = c.message; next = key }) =
-              subst (λ j. get_or new j None ≡ Some (record { message = c.message; next = key })) (sym at_tail) (l.linked c (subst (λ j. get_or old j None ≡ Some c) at_tail is)) in
+          subst (λ j. get_or new j None ≡ Some (record { message = c.message; next = key })) (sym at_tail) (l.linked c (subst (λ j. get_or old j None ≡ Some c) at_tail is)) in
           rw (here, is) (ap (λ ps. (h, c.message) ∷ ps) (one_cell new key message l.placed))
   walk-linked old new tail key message l (suc n) h d whole last once = by_cell (get_or old h None) refl whole last once (λ next. walk-linked old new tail key message l n next h)
     where
@@ -85,10 +84,10 @@ module _ {T : Type 0} where
           by_rest (p ∷ ps) some =
               let later : last_key (p ∷ ps) h ≡ tail = subst (λ w. last_key w h ≡ tail) some at_tail in
               let differs : h ≢ tail = λ same.
-                  let in_rest : 0 < uses h (p ∷ ps) = subst (λ j. 0 < uses j (p ∷ ps)) (later ∙ sym same) (uses-last p ps h) in
-                  let both : cond (eqb h h) 1 0 + uses h (p ∷ ps) ≤ 1 = subst (λ w. cond (eqb h h) 1 0 + uses h w ≤ 1) some (single h) in
-                  let twice : 1 + uses h (p ∷ ps) ≤ 1 = rw eqb-same at both in
-                  omega arith in
+              let in_rest : 0 < uses h (p ∷ ps) = subst (λ j. 0 < uses j (p ∷ ps)) (later ∙ sym same) (uses-last p ps h) in
+              let both : cond (eqb h h) 1 0 + uses h (p ∷ ps) ≤ 1 = subst (λ w. cond (eqb h h) 1 0 + uses h w ≤ 1) some (single h) in
+              let twice : 1 + uses h (p ∷ ps) ≤ 1 = rw eqb-same at both in
+              omega arith in
               let old_key : h ≢ key = λ same. let e : get_or old key None ≡ Some c = subst (λ j. get_or old j None ≡ Some c) same is in let v = l.vacant in cc in
               let here : get_or new h None ≡ Some c = l.others h differs old_key ∙ is in
               let rest = next_linked c.next (omega arith) at_tail (λ k. let s = single k in omega arith) in
@@ -208,6 +207,7 @@ module _ {T : Type 0} where
       by_cell : (n : ℕ) (o : Option (Cell T)) → get_or slots e.head None ≡ o → length (from_cell e.head (walk slots n) o) ≡ suc n → (cell : Cell T) × (get_or slots e.head None ≡ Some cell)
       by_cell n None is short = absurd (omega arith)
       by_cell n (Some cell) is long = (cell, is)
+
       by_count : (n : ℕ) → 0 < n → length (walk slots n e.head) ≡ n → (cell : Cell T) × (get_or slots e.head None ≡ Some cell)
       by_count zero less whole = absurd (omega arith)
       by_count (suc n) less whole = by_cell n (get_or slots e.head None) refl whole
@@ -233,7 +233,7 @@ module _ {T : Type 0} where
       let single : (k : ℕ) → cond {A = ℕ} (eqb before.head k) 1 0 + uses k (walk old.slots (before.count - 1) cell.next) ≤ 1 = λ k. subst (λ w. uses k w ≤ 1) front (once k) in
       let unused : uses before.head (walk old.slots (before.count - 1) cell.next) ≡ 0 = let s = rw eqb-same at (single before.head) in omega arith in
       let rest : walk new.slots (before.count - 1) cell.next ≡ walk old.slots (before.count - 1) cell.next =
-          walk-same old.slots new.slots (before.count - 1) cell.next (omega arith) (λ k used. u.others k (λ same. let again : uses k (walk old.slots (before.count - 1) cell.next) ≡ 0 = subst (λ j. uses j (walk old.slots (before.count - 1) cell.next) ≡ 0) (sym same) unused in omega arith)) in
+      walk-same old.slots new.slots (before.count - 1) cell.next (omega arith) (λ k used. u.others k (λ same. let again : uses k (walk old.slots (before.count - 1) cell.next) ≡ 0 = subst (λ j. uses j (walk old.slots (before.count - 1) cell.next) ≡ 0) (sym same) unused in omega arith)) in
       record {
         shorter = front ∙ ap (λ w. (before.head, cell.message) ∷ w) (sym rest);
         queue = record { whole = ap length rest ∙ (omega arith); last = ap (λ w. last_key w before.tail) rest ∙ last_key-again (walk old.slots (before.count - 1) cell.next) before.head before.tail last };

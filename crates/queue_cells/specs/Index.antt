@@ -3,7 +3,7 @@ use Rattle.std.specs.Prelude.{◌≡◌, ℕ, ◌≤◌, Bool, false, List, leng
 use Rattle.queue_cells.specs.Grouped.{Queued, lists_at}
 use Rattle.queue_cells.specs.Busy.{any_waits}
 
--- there is a bit for each group, and it tells whether the group holds a message; further bits say no
+-- there is a bit for each group, which tells whether the group holds a message; more bits say no
 pub record IsIndex {G T : Type 0} (busy : List Bool) (qs : List (Queued G T)) : Type 0 where
   pub room : length qs ≤ length busy
   pub bits : (g : ℕ) → slice_index_or busy g false ≡ any_waits (lists_at qs g)

@@ -1,5 +1,5 @@
 -- How queues lie in the cells of a slab. No public contract cites it.
-use Rattle.std.specs.Prelude.{◌≡◌, ◌≢◌, ℕ, zero, suc, ◌+◌, ◌≤◌, List, [], ◌∷◌, ◌++◌, map, length}
+use Rattle.std.specs.Prelude.{◌≡◌, ◌≢◌, ℕ, zero, suc, ◌+◌, List, [], ◌∷◌, ◌++◌, map, length}
 use Rattle.std.specs.Prelude.{Option, Some, None, slice_index_or, eqb, cond, sum_by}
 use Rattle.queue_cells.specs.declared.cells.Cell.{Cell}
 use Rattle.queue_cells.specs.declared.cells.Ends.{Ends}
@@ -59,9 +59,9 @@ module _ {T : Type 0} where
   -- a message was chained to this queue's end, in a cell that was vacant, and the cells of other
   -- queues stay
   pub record Chained
-    (old new : List (Option (Cell T)))
-    (before after : Ends)
-    (message : T) : Type 0 where
+      (old new : List (Option (Cell T)))
+      (before after : Ends)
+      (message : T) : Type 0 where
     pub key : ℕ
     pub vacant : slice_index_or old key None ≡ None
     pub longer : walked new after ≡ walked old before ++ (key, message) ∷ []
@@ -72,9 +72,9 @@ module _ {T : Type 0} where
 
   -- the front of this queue was taken, and every other cell stays
   pub record Unchained
-    (old new : List (Option (Cell T)))
-    (before after : Ends)
-    (message : T) : Type 0 where
+      (old new : List (Option (Cell T)))
+      (before after : Ends)
+      (message : T) : Type 0 where
     pub shorter : walked old before ≡ (before.head, message) ∷ walked new after
     pub queue : IsQueue new after
     pub count : before.count ≡ after.count + 1

@@ -1,5 +1,5 @@
-ghost use Rattle.std.specs.Prelude.{◌≡◌, ◌≤◌, ◌<◌, ◌+◌, ◌∷◌, ◌++◌, ◌↔◌, [], length, Some, slice_get};
-ghost use Rattle.std.specs.Prelude.{remove, option_copied, IsOk, IsTrue, OnOk, OnErr};
+ghost use Rattle.std.specs.Prelude.{◌≡◌, ◌≤◌, ◌<◌, ◌+◌, ◌∷◌, ◌++◌, ◌↔◌, [], length, Some};
+ghost use Rattle.std.specs.Prelude.{slice_get, remove, option_copied, IsOk, IsTrue, OnOk, OnErr};
 ghost use Rattle.queue_cells.specs.Grouped.{lists_at, queue_in, with_queue, with_last, waiting};
 ghost use Rattle.queue_cells.specs.Grouped.{idle_group, AllHeld};
 ghost use Rattle.queue_cells.specs.Busy.{any_waits};
@@ -107,8 +107,8 @@ impl<G: Drop, T: Drop> Groups<G, T> {
     /// of a queue that holds a message.
     pub fn covers(&self, group: usize, mask: &[u64]) -> bool
         requires group { group < length self.now.groups }
-        requires words {
-            length mask.now ≡ number_of_words (length (lists_at self.now.groups group)) }
+        requires words { length mask.now
+            ≡ number_of_words (length (lists_at self.now.groups group)) }
         ensures { IsTrue result ↔ AllHeld (lists_at self.now.groups group) mask.now }
     {
         let row = &self.rows[group];
@@ -174,8 +174,8 @@ impl<G: Drop, T: Drop> Groups<G, T> {
         requires group { group < length self.old.groups }
         requires chan { chan < length (lists_at self.old.groups group) }
         ensures groups { self.new.groups ≡ with_queue self.old.groups group chan [] }
-        ensures spare {
-            self.new.spare ≡ self.old.spare + length (queue_in self.old.groups group chan) }
+        ensures spare { self.new.spare
+            ≡ self.old.spare + length (queue_in self.old.groups group chan) }
         ensures spare_groups { self.new.spare_groups ≡ self.old.spare_groups }
     {
         'messages: while self.front(group, chan).is_some() {
@@ -198,8 +198,7 @@ impl<G: Drop, T: Drop> Groups<G, T> {
     /// Adds a group whose queues are empty. It takes no memory.
     pub fn add_reserved(&mut self, idle: Idle<G>)
         requires { 1 ≤ self.old.spare_groups }
-        ensures groups {
-            self.new.groups ≡ self.old.groups ++ idle_group idle.told idle.width ∷ [] }
+        ensures groups { self.new.groups ≡ self.old.groups ++ idle_group idle.told idle.width ∷ [] }
         ensures spare { self.new.spare ≡ self.old.spare }
         ensures spare_groups { self.new.spare_groups + 1 ≡ self.old.spare_groups }
     {
@@ -213,6 +212,7 @@ impl<G: Drop, T: Drop> Groups<G, T> {
             self.new.groups ≡ self.old.groups ++ idle_group told width ∷ []) }
         ensures err { OnErr result (self.new.groups ≡ self.old.groups) }
         ensures spare { self.new.spare ≡ self.old.spare }
+        ensures spare_groups { self.old.spare_groups ≤ self.new.spare_groups + 1 }
     {
         let idle = Idle::new(alloc, told, width)?;
         self.reserve_groups(1)?;
@@ -225,8 +225,7 @@ impl<G: Drop, T: Drop> Groups<G, T> {
     pub fn remove(&mut self, group: usize)
         requires { group < length self.old.groups }
         ensures groups { self.new.groups ≡ remove self.old.groups group }
-        ensures spare {
-            self.new.spare ≡ self.old.spare + waiting (lists_at self.old.groups group) }
+        ensures spare { self.new.spare ≡ self.old.spare + waiting (lists_at self.old.groups group) }
         ensures spare_groups { self.new.spare_groups ≡ self.old.spare_groups + 1 }
     {
         let width = self.width(group);

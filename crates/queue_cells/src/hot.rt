@@ -61,7 +61,7 @@ impl<G: Drop, T: Drop> Hot<G, T> {
         })
     }
 
-    /// The groups.
+    /// The groups, to be read.
     pub fn groups(&self) -> &Groups<G, T>
         ensures groups { result.now.groups ≡ self.now.groups }
         ensures spare { result.now.spare ≡ self.now.spare }
@@ -117,8 +117,8 @@ impl<G: Drop, T: Drop> Hot<G, T> {
         requires group { group < length self.old.groups }
         requires chan { chan < length (lists_at self.old.groups group) }
         ensures groups { self.new.groups ≡ with_queue self.old.groups group chan [] }
-        ensures spare {
-            self.new.spare ≡ self.old.spare + length (queue_in self.old.groups group chan) }
+        ensures spare { self.new.spare
+            ≡ self.old.spare + length (queue_in self.old.groups group chan) }
         ensures spare_groups { self.new.spare_groups ≡ self.old.spare_groups }
     {
         self.groups.clear(group, chan);
@@ -144,8 +144,7 @@ impl<G: Drop, T: Drop> Hot<G, T> {
     /// Adds a group whose queues are empty. It takes no memory.
     pub fn add_reserved(&mut self, idle: Idle<G>)
         requires { 1 ≤ self.old.spare_groups }
-        ensures groups {
-            self.new.groups ≡ self.old.groups ++ idle_group idle.told idle.width ∷ [] }
+        ensures groups { self.new.groups ≡ self.old.groups ++ idle_group idle.told idle.width ∷ [] }
         ensures spare { self.new.spare ≡ self.old.spare }
         ensures spare_groups { self.new.spare_groups + 1 ≡ self.old.spare_groups }
     {
@@ -159,6 +158,7 @@ impl<G: Drop, T: Drop> Hot<G, T> {
             self.new.groups ≡ self.old.groups ++ idle_group told width ∷ []) }
         ensures err { OnErr result (self.new.groups ≡ self.old.groups) }
         ensures spare { self.new.spare ≡ self.old.spare }
+        ensures spare_groups { self.old.spare_groups ≤ self.new.spare_groups + 1 }
     {
         let idle = Idle::new(alloc, told, width)?;
         self.reserve_groups(alloc, 1)?;
@@ -171,8 +171,7 @@ impl<G: Drop, T: Drop> Hot<G, T> {
     pub fn remove(&mut self, group: usize)
         requires { group < length self.old.groups }
         ensures groups { self.new.groups ≡ remove self.old.groups group }
-        ensures spare {
-            self.new.spare ≡ self.old.spare + waiting (lists_at self.old.groups group) }
+        ensures spare { self.new.spare ≡ self.old.spare + waiting (lists_at self.old.groups group) }
         ensures spare_groups { self.new.spare_groups ≡ self.old.spare_groups + 1 }
     {
         self.groups.remove(group);

@@ -1,4 +1,4 @@
-ghost use Rattle.std.specs.Prelude.{◌≡◌, ◌<◌, map, not, eqb, length, slice_set, IfOk};
+ghost use Rattle.std.specs.Prelude.{◌≡◌, ◌<◌, map, length, slice_set, IfOk};
 ghost use Rattle.queue_cells.specs.Grouped.{ForGroup};
 ghost use Rattle.queue_cells.specs.Rows.{is_held};
 

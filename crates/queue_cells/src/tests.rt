@@ -7,10 +7,16 @@ use std::process::Abort;
 use std::test::Fail;
 
 type Numbers = Groups<u32, u64>;
+
 type HotNumbers = Hot<u32, u64>;
 
-fn put(rt: &impl Abort, groups: &mut Numbers, group: usize, chan: u32, message: u64)
--> Result<(), Memory> {
+fn put(
+    rt: &impl Abort,
+    groups: &mut Numbers,
+    group: usize,
+    chan: u32,
+    message: u64,
+) -> Result<(), Memory> {
     assert!(rt; group < groups.len());
     assert!(rt; chan < groups.width(group));
     groups.reserve(1)?;
@@ -118,8 +124,12 @@ fn a_group_in_the_middle_is_removed(rt: HostRuntime) -> Result<(), Fail> {
     Ok(())
 }
 
-fn put_hot(rt: &impl Abort, hot: &mut HotNumbers, group: usize, message: u64)
--> Result<(), Memory> {
+fn put_hot(
+    rt: &impl Abort,
+    hot: &mut HotNumbers,
+    group: usize,
+    message: u64,
+) -> Result<(), Memory> {
     assert!(rt; group < hot.groups().len());
     assert!(rt; hot.groups().width(group) > 0);
     hot.reserve(1)?;

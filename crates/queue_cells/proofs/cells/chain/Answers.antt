@@ -1,4 +1,4 @@
-use Rattle.std.proofs.Common.{◌≡◌, ◌<◌, refl, arith}
+use Rattle.std.proofs.Common.{◌<◌, arith}
 use Rattle.queue_cells.proofs.Walks.{Chained-first, Chained-next, Linked-from}
 use Rattle.queue_cells.proofs.cells.chain.Goals as goal
 

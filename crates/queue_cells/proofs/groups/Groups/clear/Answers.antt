@@ -1,4 +1,4 @@
-use Rattle.std.proofs.Common.{◌≡◌, ◌<◌, ◌≤◌, [], None, length, refl, sym, ap, ◌∙◌, arith, rules}
+use Rattle.std.proofs.Common.{◌≡◌, None, length, refl, sym, ap, ◌∙◌, arith, rules}
 use Rattle.std.specs.Prelude.{slice_get}
 use Rattle.queue_cells.specs.Grouped.{queue_in, with_queue, lists_at}
 use Rattle.queue_cells.proofs.RowLemmas.{with_queue-same, with_queue-twice, length-with_queue, width-with_queue, nil_from_front}

@@ -1,4 +1,4 @@
-use Rattle.std.proofs.Common.{◌≡◌, ◌<◌, length, arith}
+use Rattle.std.proofs.Common.{◌<◌, length, arith}
 use Rattle.queue_cells.proofs.IndexLemmas.{IsIndex-added}
 use Rattle.queue_cells.proofs.hot.Hot.add_reserved.Goals as goal
 

@@ -1,4 +1,4 @@
-use Rattle.std.proofs.Common.{◌≡◌, ◌<◌, [], length, refl}
+use Rattle.std.proofs.Common.{refl}
 use Rattle.std.proofs.lemmas.List.{length-set}
 use Rattle.queue_cells.proofs.RowLemmas.{length-with_queue}
 use Rattle.queue_cells.proofs.IndexLemmas.{IsIndex-noted}

@@ -1,5 +1,4 @@
-use Rattle.std.proofs.Common.{◌≡◌, ◌<◌, ◌≤◌, false, length, set, refl, ap, ◌∙◌, arith}
-use Rattle.std.specs.Prelude.{remove}
+use Rattle.std.proofs.Common.{◌≤◌, false, length, set, refl, ap, ◌∙◌, arith}
 use Rattle.queue_cells.proofs.IndexLemmas.{IsIndexBelow-removed, IsIndexBelow-all}
 use Rattle.queue_cells.proofs.hot.Hot.remove.Goals as goal
 
