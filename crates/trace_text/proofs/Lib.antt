@@ -1,4 +1,6 @@
 pub mod Lists
+pub mod Keys
+pub mod Telling
 pub mod Taking
 pub mod Fronts
 pub mod Outcome

@@ -3,6 +3,7 @@ pub mod LogText
 pub mod Fields
 pub mod LogFields
 pub mod Later
+pub mod Tables
 pub mod Bounds
 pub mod Printed
 pub mod Reading

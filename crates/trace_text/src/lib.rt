@@ -6,6 +6,7 @@ mod fields;
 mod log;
 mod names;
 mod read;
+mod tables;
 mod text;
 mod trace;
 

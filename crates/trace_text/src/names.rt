@@ -1,9 +1,10 @@
 // The names of a trace: their spellings and their ranks.
-ghost use Rattle.std.specs.Prelude.{◌≡◌, ◌<◌, ◌^◌, IfOk, OnOk};
+ghost use Rattle.std.specs.Prelude.{◌≡◌, IfOk, OnOk};
 ghost use Rattle.trace_text.specs.TraceText.{seen_spelling, binder_spelling, is_ranked};
-ghost use Rattle.trace_text.specs.TraceText.{is_in, ranked_after, ranked, place_in};
+ghost use Rattle.trace_text.specs.TraceText.{ranked_after, ranked};
 
-use chem_model::{Items, Memory, Name, Names, Naming, Outs, Program, binder_in, same_name};
+use crate::tables::{Binders, Ranks};
+use chem_model::{Memory, Name, Names, Outs, Program};
 use std::alloc::Global;
 
 /// The spelling of the observed name of a declaration.
@@ -30,70 +31,46 @@ pub(crate) fn binder_spelling(program: &Program, binder: Option<u32>) -> &[u8]
 }
 
 /// Whether a name has a rank: it is neither observed nor site-level.
-pub(crate) fn is_ranked(program: &Program, named: &Naming, name: Name) -> bool
-    ensures { result ≡ is_ranked program.now named.now name }
+pub(crate) fn is_ranked(program: &Program, binders: &Binders, name: Name) -> bool
+    ensures { result ≡ is_ranked program.now binders.now name }
 {
     match name {
         Name::Seen(_) => false,
-        Name::Place(_) | Name::Chan { .. } => match binder_in(named, name) {
+        Name::Place(_) | Name::Chan { .. } => match binders.get(name) {
             Some(binder) => binder >= program.tops,
             None => false,
         },
     }
 }
 
-fn is_in(name: Name, names: &Names) -> bool
-    ensures { result ≡ is_in name names.now }
-{
-    for other in names.as_slice() {
-        if same_name(*other, name) {
-            return true;
-        }
-    }
-    false
-}
-
-/// How many names come before the first that is this one.
-pub(crate) fn place_in(name: Name, names: &Names) -> usize
-    ensures place { result ≡ place_in name names.now }
-    ensures small { result < 2 ^ 32 }
-{
-    for (place, other) in names.as_slice().iter().enumerate() {
-        if same_name(*other, name) {
-            return place;
-        }
-    }
-    names.len()
-}
-
 /// The names of a trace that have a rank, in order of first appearance.
 pub(crate) fn ranked(
     alloc: Global,
     program: &Program,
-    named: &Naming,
+    binders: &Binders,
     outs: &Outs,
-) -> Result<Names, Memory>
-    ensures { IfOk result (λ names. names ≡ ranked program.now named.now outs.now) }
+) -> Result<Ranks, Memory>
+    ensures { IfOk result (λ ranks. ranks ≡ ranked program.now binders.now outs.now) }
 {
-    let mut names = Items::new(alloc);
+    let mut ranks = Ranks::new(alloc);
     for out in outs.as_slice() {
-        add_ranked(&mut names, program, named, &out.args)?;
+        add_ranked(&mut ranks, program, binders, &out.args)?;
     }
-    Ok(names)
+    Ok(ranks)
 }
 
 /// Appends those arguments that have a rank and don't stand there yet.
 fn add_ranked(
-    names: &mut Names,
+    ranks: &mut Ranks,
     program: &Program,
-    named: &Naming,
+    binders: &Binders,
     args: &Names,
 ) -> Result<(), Memory>
-    ensures { OnOk result (names.new ≡ ranked_after program.now named.now names.old args.now) }
+    ensures { OnOk result (ranks.new ≡ ranked_after program.now binders.now ranks.old args.now) }
 {
     for arg in args.as_slice() {
-        if is_ranked(program, named, *arg) && !is_in(*arg, names) {
-            names.push(*arg)?;
+        if is_ranked(program, binders, *arg) {
+            ranks.add(*arg)?;
         }
     }
     Ok(())

@@ -4,9 +4,10 @@ ghost use Rattle.trace_text.specs.TraceText.{out_text, outs_text, ending_text, t
 ghost use Rattle.trace_text.specs.Later.{later_text};
 ghost use Rattle.trace_text.specs.Printed.{IsTraceOf};
 
-use crate::names::{binder_spelling, is_ranked, place_in, ranked, seen_spelling};
+use crate::names::{binder_spelling, is_ranked, ranked, seen_spelling};
+use crate::tables::{Binders, Ranks};
 use crate::text::{Ending, push_all, push_number};
-use chem_model::{Items, Memory, Name, Names, Naming, Out, Outs, Program, Text, binder_in};
+use chem_model::{Items, Memory, Name, Names, Naming, Out, Outs, Program, Text};
 use std::alloc::Global;
 use trace_history::Book;
 
@@ -32,9 +33,10 @@ fn run_text(
 ) -> Result<Text, Memory>
     ensures { IfOk result (λ text. text ≡ trace_text program.now named.now outs.now ending) }
 {
-    let ranks = ranked(alloc, program, named, outs)?;
+    let binders = Binders::of(alloc, named)?;
+    let ranks = ranked(alloc, program, &binders, outs)?;
     let mut text = Items::new(alloc);
-    push_outs(&mut text, program, named, &ranks, outs)?;
+    push_outs(&mut text, program, &binders, &ranks, outs)?;
     push_ending(&mut text, ending)?;
     Ok(text)
 }
@@ -54,15 +56,15 @@ pub fn push_ending(text: &mut Text, ending: Ending) -> Result<(), Memory>
 fn push_outs(
     text: &mut Text,
     program: &Program,
-    named: &Naming,
-    ranks: &Names,
+    binders: &Binders,
+    ranks: &Ranks,
     outs: &Outs,
 ) -> Result<(), Memory>
     ensures { OnOk result (text.new ≡
-        text.old ++ outs_text program.now named.now ranks.now outs.now) }
+        text.old ++ outs_text program.now binders.now ranks.now outs.now) }
 {
     for out in outs.as_slice() {
-        push_out(text, program, named, ranks, out)?;
+        push_out(text, program, binders, ranks, out)?;
     }
     Ok(())
 }
@@ -70,16 +72,16 @@ fn push_outs(
 fn push_out(
     text: &mut Text,
     program: &Program,
-    named: &Naming,
-    ranks: &Names,
+    binders: &Binders,
+    ranks: &Ranks,
     out: &Out,
 ) -> Result<(), Memory>
     ensures { OnOk result (text.new ≡
-        text.old ++ out_text program.now named.now ranks.now out.now) }
+        text.old ++ out_text program.now binders.now ranks.now out.now) }
 {
     push_all(text, seen_spelling(program, out.on))?;
     push_all(text, b"(")?;
-    push_names(text, program, named, ranks, &out.args)?;
+    push_names(text, program, binders, ranks, &out.args)?;
     push_all(text, b")\n")
 }
 
@@ -87,19 +89,19 @@ fn push_out(
 fn push_names(
     text: &mut Text,
     program: &Program,
-    named: &Naming,
-    ranks: &Names,
+    binders: &Binders,
+    ranks: &Ranks,
     names: &Names,
 ) -> Result<(), Memory>
     ensures { OnOk result (text.new ≡
-        text.old ++ names_text program.now named.now ranks.now names.now) }
+        text.old ++ names_text program.now binders.now ranks.now names.now) }
 {
     let members = names.as_slice();
     let [first, others @ ..] = members else {
         return Ok(());
     };
-    push_name(text, program, named, ranks, *first)?;
-    push_later(text, program, named, ranks, others)?;
+    push_name(text, program, binders, ranks, *first)?;
+    push_later(text, program, binders, ranks, others)?;
     Ok(())
 }
 
@@ -107,16 +109,16 @@ fn push_names(
 fn push_later(
     text: &mut Text,
     program: &Program,
-    named: &Naming,
-    ranks: &Names,
+    binders: &Binders,
+    ranks: &Ranks,
     names: &[Name],
 ) -> Result<(), Memory>
     ensures { OnOk result (text.new ≡
-        text.old ++ later_text program.now named.now ranks.now names.now) }
+        text.old ++ later_text program.now binders.now ranks.now names.now) }
 {
     for name in names {
         push_all(text, b", ")?;
-        push_name(text, program, named, ranks, *name)?;
+        push_name(text, program, binders, ranks, *name)?;
     }
     Ok(())
 }
@@ -124,15 +126,15 @@ fn push_later(
 fn push_name(
     text: &mut Text,
     program: &Program,
-    named: &Naming,
-    ranks: &Names,
+    binders: &Binders,
+    ranks: &Ranks,
     name: Name,
 ) -> Result<(), Memory>
-    ensures { OnOk result (text.new ≡ text.old ++ name_text program.now named.now ranks.now name) }
+    ensures { OnOk result (text.new ≡ text.old ++ name_text program.now binders.now ranks.now name) }
 {
     match name {
         Name::Seen(declaration) => push_all(text, seen_spelling(program, declaration)),
-        Name::Place(_) | Name::Chan { .. } => push_made(text, program, named, ranks, name),
+        Name::Place(_) | Name::Chan { .. } => push_made(text, program, binders, ranks, name),
     }
 }
 
@@ -140,14 +142,14 @@ fn push_name(
 fn push_made(
     text: &mut Text,
     program: &Program,
-    named: &Naming,
-    ranks: &Names,
+    binders: &Binders,
+    ranks: &Ranks,
     name: Name,
 ) -> Result<(), Memory>
-    ensures { OnOk result (text.new ≡ text.old ++ made_text program.now named.now ranks.now name) }
+    ensures { OnOk result (text.new ≡ text.old ++ made_text program.now binders.now ranks.now name) }
 {
-    push_all(text, binder_spelling(program, binder_in(named, name)))?;
-    if is_ranked(program, named, name) {
+    push_all(text, binder_spelling(program, binders.get(name)))?;
+    if is_ranked(program, binders, name) {
         push_rank(text, ranks, name)
     } else {
         Ok(())
@@ -155,10 +157,10 @@ fn push_made(
 }
 
 /// Appends `'` and the rank of a name.
-fn push_rank(text: &mut Text, ranks: &Names, name: Name) -> Result<(), Memory>
+fn push_rank(text: &mut Text, ranks: &Ranks, name: Name) -> Result<(), Memory>
     ensures { OnOk result (text.new ≡
         text.old ++ codes "'" ++ decimal (place_in name ranks.now + 1)) }
 {
     push_all(text, b"'")?;
-    push_number(text, place_in(name, ranks) as u64 + 1)
+    push_number(text, ranks.place(name) as u64 + 1)
 }
