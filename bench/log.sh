@@ -7,7 +7,7 @@
 set -eu
 . "$(dirname "$0")/scratch.sh"
 
-scratch log_bench chem_model chem_laws trace_history trace_text <<'PROGRAM'
+scratch log_bench chem_model chem_laws chem_plain chem_commit trace_history trace_text <<'PROGRAM'
 //! Reads logs of many events.
 #![tactic(auto)]
 
