@@ -1,0 +1,122 @@
+// The expected values were worked out by hand.
+
+use crate::code::{
+    code_of, expect_block, expect_counts, expect_enter, expect_guard, expect_leave, expect_level,
+    expect_mask, expect_send, expect_sizes, guard_body, observed, place_body, site_body, tops_of,
+};
+use chem_model::{Loc, Name};
+use env_store::Slot;
+use std::test::Fail;
+
+const ROOT: Loc = Loc { site: 0, k: 0 };
+
+fn channel(k: u64) -> Name {
+    Name::Chan {
+        site: 0,
+        k,
+        home: ROOT,
+    }
+}
+
+#[test]
+fn the_first_example(rt: HostRuntime) -> Result<(), Fail> {
+    let alloc = rt.alloc();
+    let text = b"observe out/1; site s [ x(u) => out(u) : x(s) ]";
+    let code = code_of(alloc, text).ok_or("no code")?;
+    expect_sizes(&rt, &code, [1, 1, 1, 2, 1]);
+    expect_level(&rt, &code, 0, [0, 0, 1], None);
+    expect_counts(&rt, &code, 0, 1, Some(1));
+    expect_guard(&rt, &code, 0, [0, 0, 1]);
+    expect_mask(&rt, &code, 0, &[1]);
+    let rule = guard_body(&code, 0);
+    expect_send(&rt, &code, rule, 0, observed(), Some(Slot::Env(0)));
+    let root = Slot::Known(Name::Place(ROOT));
+    let process = site_body(&code);
+    expect_send(&rt, &code, process, 0, Slot::Known(channel(1)), Some(root));
+    assert_eq!(rt; code.seen.as_slice(), [1].as_slice());
+    assert_eq!(rt; code.tops.as_slice(), [ROOT].as_slice());
+    let tops = tops_of(alloc, text).ok_or("no names")?;
+    assert_eq!(rt; tops.as_slice(), [Name::Place(ROOT), channel(1)].as_slice());
+    Ok(())
+}
+
+/// The rule receives `u`, and the block within names the inner `x`.
+#[test]
+fn the_inner_name_hides_the_outer_one(rt: HostRuntime) -> Result<(), Fail> {
+    let alloc = rt.alloc();
+    let text = b"observe out/1; site s [ x(u) => def x(v) => out(v) in x(u) : x(s) ]";
+    let code = code_of(alloc, text).ok_or("no code")?;
+    expect_sizes(&rt, &code, [2, 2, 2, 3, 1]);
+    expect_level(&rt, &code, 1, [2, 1, 1], None);
+    let rule = guard_body(&code, 0);
+    expect_enter(&rt, &code, rule, 0, 1);
+    expect_send(&rt, &code, rule, 1, Slot::Env(1), Some(Slot::Env(0)));
+    expect_leave(&rt, &code, rule, 2, 1);
+    let inner = guard_body(&code, 1);
+    expect_send(&rt, &code, inner, 0, observed(), Some(Slot::Env(2)));
+    Ok(())
+}
+
+/// A `def` within a rule within a `def`, two places, and 65 channels in the site's level: `a`, and
+/// `c1` to `c64` in one pattern.
+fn nested() -> &'static [u8] {
+    b"observe out/1; site s [ a() => def b(u) => def c() => out(u) in c() \
+      and m[ k() => b(m) : k() ] and n[ none : b(n) ] in b(s) and \
+      c1() | c2() | c3() | c4() | c5() | c6() | c7() | c8() | c9() | c10() | c11() | \
+      c12() | c13() | c14() | c15() | c16() | c17() | c18() | c19() | c20() | c21() | \
+      c22() | c23() | c24() | c25() | c26() | c27() | c28() | c29() | c30() | c31() | \
+      c32() | c33() | c34() | c35() | c36() | c37() | c38() | c39() | c40() | c41() | \
+      c42() | c43() | c44() | c45() | c46() | c47() | c48() | c49() | c50() | c51() | \
+      c52() | c53() | c54() | c55() | c56() | c57() | c58() | c59() | c60() | c61() | \
+      c62() | c63() | c64() \
+      => 0 : a() ]"
+}
+
+/// The levels are the site's, the outer `def`'s, the inner one's, and those of `m` and `n`. The
+/// names of the outer block are `b`, `m`, `k` and `n`, and the inner rule stands
+/// under these, `u` and `c`.
+#[test]
+fn levels_and_guards(rt: HostRuntime) -> Result<(), Fail> {
+    let alloc = rt.alloc();
+    let code = code_of(alloc, nested()).ok_or("no code")?;
+    expect_sizes(&rt, &code, [5, 5, 3, 8, 1]);
+    expect_counts(&rt, &code, 0, 65, Some(0));
+    expect_level(&rt, &code, 0, [0, 0, 2], None);
+    expect_level(&rt, &code, 1, [4, 2, 1], None);
+    expect_level(&rt, &code, 2, [6, 3, 1], None);
+    expect_level(&rt, &code, 3, [4, 4, 1], Some(0));
+    expect_level(&rt, &code, 4, [4, 5, 0], Some(1));
+    expect_block(&rt, &code, 0, &[0], 65);
+    expect_block(&rt, &code, 1, &[1, 3, 4], 4);
+    expect_block(&rt, &code, 2, &[2], 1);
+    expect_guard(&rt, &code, 0, [0, 2, 3]);
+    expect_guard(&rt, &code, 2, [1, 0, 1]);
+    expect_guard(&rt, &code, 3, [2, 0, 1]);
+    expect_guard(&rt, &code, 4, [3, 0, 1]);
+    expect_mask(&rt, &code, 0, &[1, 0]);
+    expect_mask(&rt, &code, 1, &[u64::MAX - 1, 1]);
+    Ok(())
+}
+
+/// The bodies of the same text.
+#[test]
+fn bodies_of_nested_levels(rt: HostRuntime) -> Result<(), Fail> {
+    let alloc = rt.alloc();
+    let code = code_of(alloc, nested()).ok_or("no code")?;
+    let rule = guard_body(&code, 0);
+    expect_enter(&rt, &code, rule, 0, 4);
+    let root = Slot::Known(Name::Place(ROOT));
+    expect_send(&rt, &code, rule, 1, Slot::Env(0), Some(root));
+    expect_leave(&rt, &code, rule, 2, 4);
+    let within = guard_body(&code, 2);
+    expect_enter(&rt, &code, within, 0, 1);
+    expect_send(&rt, &code, within, 1, Slot::Env(5), None);
+    let inner = guard_body(&code, 3);
+    expect_send(&rt, &code, inner, 0, observed(), Some(Slot::Env(4)));
+    let at_m = guard_body(&code, 4);
+    expect_send(&rt, &code, at_m, 0, Slot::Env(0), Some(Slot::Env(1)));
+    expect_send(&rt, &code, place_body(&code, 3), 0, Slot::Env(2), None);
+    let of_n = place_body(&code, 4);
+    expect_send(&rt, &code, of_n, 0, Slot::Env(0), Some(Slot::Env(3)));
+    Ok(())
+}
