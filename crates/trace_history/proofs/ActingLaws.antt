@@ -118,3 +118,18 @@ elsewhere n s i a at apart = sym (ap (acting_under n s) (sym at) ∙ go (can_act
     go true true e = absurd (apart (eqb-true s (root (standing n.places) a.loc).site e))
     go true false e = refl
     go false u e = refl
+
+-- ---- a key that stands for no request is taken out
+
+pub request_finds : (n : Numbered) → IsSound n → (a : NumberedAtom) → IsIn a n.atoms → can_act n a ≡ true → find_request n (request_key n a) ≡ Some a
+request_finds n sound a at acts =
+    ap (acting_under n (root (standing n.places) a.loc).site) (member_found n.atoms (atoms_differ n sound 0) a at)
+    ∙ ap (λ t. cond (t && ((root (standing n.places) a.loc).site == (root (standing n.places) a.loc).site)) (Some a) None) acts
+    ∙ ap (λ t. cond t (Some a) None) (eq-eqb (root (standing n.places) a.loc).site (root (standing n.places) a.loc).site refl)
+
+pub still_acting : (n : Numbered) (k : Key) (old new : List Key) → find_request n k ≡ None → ((j : Key) → IsIn j old → (j ≡ k) ⊎ IsIn j new) → IsSound n → AllActing n old → AllActing n new
+still_acting n k old new none stay sound all a at acts = go (stay (request_key n a) (all a at acts))
+  where
+    go : (request_key n a ≡ k) ⊎ IsIn (request_key n a) new → IsIn (request_key n a) new
+    go (inl e) = let some = request_finds n sound a at acts in let other : find_request n (request_key n a) ≡ None = ap (find_request n) e ∙ none in cc
+    go (inr h) = h

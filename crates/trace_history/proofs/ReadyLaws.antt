@@ -308,3 +308,18 @@ walk-append {K} {X} find (x ∷ xs) ys = go (find x) (walk-append find xs ys)
     go : (o : Option X) → walk find (xs ++ ys) ≡ or_else (walk find xs) (walk find ys) → or_else o (walk find (xs ++ ys)) ≡ or_else (or_else o (walk find xs)) (walk find ys)
     go (Some z) h = refl
     go None h = h
+
+-- ---- a key that stands for no rule is taken out
+
+pub rule_finds : (n : Numbered) → IsSound n → (r : NumberedRule) → IsIn r n.rules → is_ready n r ≡ true → find_rule n (rule_key n r) ≡ Some r
+rule_finds n sound r at ready =
+    ap (ready_under n (root (standing n.places) r.loc).site) (rule_member_found n.rules (rules_differ n sound 0) r at)
+    ∙ ap (λ t. cond (t && ((root (standing n.places) r.loc).site == (root (standing n.places) r.loc).site)) (Some r) None) ready
+    ∙ ap (λ t. cond t (Some r) None) (eq-eqb (root (standing n.places) r.loc).site (root (standing n.places) r.loc).site refl)
+
+pub still_ready : (n : Numbered) (k : Key) (old new : List Key) → find_rule n k ≡ None → ((j : Key) → IsIn j old → (j ≡ k) ⊎ IsIn j new) → IsSound n → AllReady n old → AllReady n new
+still_ready n k old new none stay sound all r at ready = go (stay (rule_key n r) (all r at ready))
+  where
+    go : (rule_key n r ≡ k) ⊎ IsIn (rule_key n r) new → IsIn (rule_key n r) new
+    go (inl e) = let some = rule_finds n sound r at ready in let other : find_rule n (rule_key n r) ≡ None = ap (find_rule n) e ∙ none in cc
+    go (inr h) = h

@@ -7,6 +7,7 @@ use Rattle.chem_model.specs.declared.event.Event.TheVariants.{React, Move, Halt,
 use Rattle.chem_model.specs.declared.numbered.NumberedAtom.{NumberedAtom}
 use Rattle.chem_model.specs.declared.numbered.Numbered.{Numbered}
 use Rattle.chem_model.specs.Apply.{atom_at}
+use Rattle.chem_model.specs.Sound.{IsSound}
 use Rattle.trace_history.specs.declared.candidates.Candidates.{Candidates}
 use Rattle.trace_history.specs.declared.candidates.Since.{Since}
 use Rattle.trace_history.specs.Search.{is_ready, can_act}
@@ -46,3 +47,7 @@ IsSince n (Move i) s =
 -- the candidates gained all that is new, or are whole
 abbrev pub Renews : Numbered → Since → Candidates → Candidates → Type 0
 Renews n s old new = IsWhole n new ⊎ ((old.whole ≡ true) × Gains n s old new)
+
+-- where a solution is sound, candidates that were whole are still
+abbrev pub StaysWhole : Numbered → Candidates → Candidates → Type 0
+StaysWhole n old new = IsSound n → IsWhole n old → IsWhole n new

@@ -9,7 +9,9 @@ use Rattle.chem_model.specs.declared.numbered.NumberedRule.{NumberedRule}
 use Rattle.chem_model.specs.declared.numbered.NumberedAtom.{NumberedAtom}
 use Rattle.chem_model.specs.declared.numbered.Numbered.{Numbered}
 use Rattle.trace_history.specs.Search.{IsIn, is_ready, receives, is_met}
-use Rattle.trace_history.specs.Ready.{Key, rule_key}
+use Rattle.chem_model.specs.Sound.{IsSound}
+use Rattle.trace_history.specs.Ready.{Key, rule_key, AllReady}
+use Rattle.trace_history.specs.Acting.{AllActing}
 
 -- a pattern receives one of these messages at the location
 abbrev pub Touches : Loc → List NumberedAtom → List Pat → Type 0
@@ -41,3 +43,10 @@ is_at (Some a) l = same_loc a l
 -- a rule that one of these messages touches, or whose location has moved, and that is ready
 abbrev pub is_woken : Numbered → List NumberedAtom → Option Loc → NumberedRule → Bool
 is_woken n poured moved r = (is_touched poured r || is_at moved r.loc) && is_ready n r
+
+-- where a solution is sound, the keys that were all there are still
+abbrev pub StillReady : Numbered → List Key → List Key → Type 0
+StillReady n old new = IsSound n → AllReady n old → AllReady n new
+
+abbrev pub StillActing : Numbered → List Key → List Key → Type 0
+StillActing n old new = IsSound n → AllActing n old → AllActing n new

@@ -5,9 +5,11 @@ ghost use Rattle.chem_model.specs.Sound.{IsSound};
 ghost use Rattle.trace_history.specs.Search.{IsFirstOf, can_act, request_before};
 ghost use Rattle.trace_history.specs.Walk.{walk};
 ghost use Rattle.trace_history.specs.Acting.{AllActing, find_request};
+ghost use Rattle.trace_history.specs.Upkeep.{StillActing};
 
+use crate::keys::drop_key;
 use crate::search::can_act;
-use chem_model::{AtomId, Numbered, NumberedAtom};
+use chem_model::{AtomId, Loc, Numbered, NumberedAtom, same_loc};
 use chem_plain::atom_at;
 use std::collections::BTreeSet;
 use std::collections::btree_set::Range;
@@ -69,6 +71,38 @@ pub(crate) fn first_acting<'a>(
         None => {
             let low = keys.range((Bound::Unbounded, Bound::Excluded(start)));
             walk_requests(low, numbered)
+        }
+    }
+}
+
+/// Takes the key of a request out where the request can't be met under that site. It takes no
+/// memory.
+pub(crate) fn drop_spent(
+    keys: &mut BTreeSet<(u32, (u32, u64))>,
+    numbered: &Numbered,
+    site: u32,
+    id: AtomId,
+)
+    ensures { StillActing numbered.now keys.old.keys keys.new.keys }
+{
+    match find_request(numbered, site, id) {
+        Some(_) => {}
+        None => drop_key(keys, (site, (id.site, id.k))),
+    }
+}
+
+/// Takes the keys of the requests at a location out that stand for none under that site.
+pub(crate) fn drop_spent_requests(
+    keys: &mut BTreeSet<(u32, (u32, u64))>,
+    numbered: &Numbered,
+    site: u32,
+    at: Loc,
+)
+    ensures { StillActing numbered.now keys.old.keys keys.new.keys }
+{
+    for atom in numbered.atoms.as_slice() {
+        if same_loc(atom.loc, at) && keys.contains(&(site, (atom.id.site, atom.id.k))) {
+            drop_spent(keys, numbered, site, atom.id);
         }
     }
 }

@@ -10,7 +10,7 @@ ghost use Rattle.trace_history.specs.Kept.{is_enabled};
 ghost use Rattle.trace_history.specs.Book.{Commits, IsAStart, IsAReduction, OnSolution};
 ghost use Rattle.trace_history.specs.Book.{IsStuck, IsQuiet, Finds, Replays};
 
-use crate::candidates::{Candidates, candidates_of, renew, since_of};
+use crate::candidates::{Candidates, candidates_of, drop_all_idle, idle_of, renew, since_of};
 use crate::search::{first_event, is_stuck};
 use chem_commit::make_event;
 use chem_laws::{event_is_a_reduction, opening_is_a_start, replay_is_a_run, stuck_is_quiet};
@@ -118,9 +118,11 @@ impl Book {
         let copy = event.copy(alloc)?;
         self.journal.push(copy)?;
         let since = since_of(&self.solution, event);
+        let idle = idle_of(&self.solution, event);
         match make_event(alloc, &mut self.solution, event) {
             Ok(true) => {
                 renew(&mut self.candidates, &self.solution, since);
+                drop_all_idle(&mut self.candidates, &self.solution, idle);
                 Ok(Commit::Place(place as u64))
             }
             Ok(false) => {

@@ -6,14 +6,16 @@ ghost use Rattle.trace_history.specs.Acting.{request_key};
 ghost use Rattle.trace_history.specs.Upkeep.{AllKeyed, KeepsKeys, is_touched, is_at, is_woken};
 ghost use Rattle.std.specs.Option.{option_copied};
 ghost use Rattle.trace_history.specs.Candidates.{location_of_atom};
-ghost use Rattle.trace_history.specs.Candidates.{IsWhole, Gains, IsSince, Renews};
+ghost use Rattle.trace_history.specs.Candidates.{IsWhole, Gains, IsSince, Renews, StaysWhole};
 
+use crate::acting::{drop_spent, drop_spent_requests};
 use crate::keys::add_key;
+use crate::ready::drop_idle_rules;
 use crate::search::{can_act, is_ready};
 use chem_model::{
-    Event, Loc, Memory, Numbered, NumberedAtom, NumberedRule, Pat, same_loc,
+    AtomId, Event, Loc, Memory, Numbered, NumberedAtom, NumberedRule, Pat, same_loc,
 };
-use chem_plain::{atom_at, meets};
+use chem_plain::{atom_at, meets, rule_at};
 use std::alloc::Global;
 use std::collections::BTreeSet;
 
@@ -270,5 +272,58 @@ pub(crate) fn renew(candidates: &mut Candidates, numbered: &Numbered, since: Sin
     match gain(candidates, numbered, since) {
         Ok(()) => {}
         Err(_) => candidates.whole = false,
+    }
+}
+
+/// What an event may leave idle: the rules and requests at a location, under the site of the root
+/// above before the event, and the request that it meets.
+#[derive(Clone, Copy, Debug)]
+pub(crate) struct Idle {
+    at: Loc,
+    site: u32,
+    request: Option<AtomId>,
+    /// Whether other requests there may be idle, too.
+    requests: bool,
+}
+
+fn idle_at(numbered: &Numbered, at: Loc, request: Option<AtomId>, requests: bool) -> Idle {
+    Idle {
+        at,
+        site: numbered.root(at).site,
+        request,
+        requests,
+    }
+}
+
+/// What an event may leave idle. Nothing hangs on it but how many keys stay that stand for none.
+pub(crate) fn idle_of(numbered: &Numbered, event: &Event) -> Option<Idle> {
+    match event {
+        Event::React { rule, .. } => match rule_at(numbered, *rule) {
+            Some(rule) => Some(idle_at(numbered, rule.loc, None, false)),
+            None => None,
+        },
+        Event::Move { atom } | Event::Halt { atom } => match atom_at(&numbered.atoms, *atom) {
+            Some(request) => Some(idle_at(numbered, request.loc, Some(*atom), true)),
+            None => None,
+        },
+        Event::Detect { atom } => match atom_at(&numbered.atoms, *atom) {
+            Some(request) => Some(idle_at(numbered, request.loc, Some(*atom), false)),
+            None => None,
+        },
+    }
+}
+
+/// Takes keys out that stand for none. It takes no memory.
+pub(crate) fn drop_all_idle(candidates: &mut Candidates, numbered: &Numbered, idle: Option<Idle>)
+    ensures { StaysWhole numbered.now candidates.old candidates.new }
+{
+    if let Some(idle) = idle {
+        drop_idle_rules(&mut candidates.ready, numbered, idle.site, idle.at);
+        if let Some(id) = idle.request {
+            drop_spent(&mut candidates.acting, numbered, idle.site, id);
+        }
+        if idle.requests {
+            drop_spent_requests(&mut candidates.acting, numbered, idle.site, idle.at);
+        }
     }
 }

@@ -1,11 +1,10 @@
 // Keys of what may be possible, in order.
-ghost use Rattle.std.specs.Prelude.{◌≡◌, OnOk, None};
+ghost use Rattle.std.specs.Prelude.{◌≡◌, ◌⊎◌, OnOk};
 ghost use Rattle.trace_history.specs.Search.{IsIn};
-ghost use Rattle.trace_history.specs.Ready.{AllReady, find_rule};
-ghost use Rattle.trace_history.specs.Acting.{AllActing, find_request};
+ghost use Rattle.trace_history.specs.Ready.{Key};
 ghost use Rattle.trace_history.specs.Upkeep.{KeepsKeys};
 
-use chem_model::{Memory, Numbered};
+use chem_model::Memory;
 use std::collections::BTreeSet;
 
 /// Adds a key.
@@ -20,4 +19,11 @@ pub(crate) fn add_key(
         Ok(_) => Ok(()),
         Err(_) => Err(Memory),
     }
+}
+
+/// Takes a key out. The others stay. It takes no memory.
+pub(crate) fn drop_key(keys: &mut BTreeSet<(u32, (u32, u64))>, key: (u32, (u32, u64)))
+    ensures { (k : Key) → IsIn k keys.old.keys → (k ≡ key) ⊎ IsIn k keys.new.keys }
+{
+    keys.remove(&key);
 }

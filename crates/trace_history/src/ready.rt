@@ -5,9 +5,11 @@ ghost use Rattle.chem_model.specs.Sound.{IsSound};
 ghost use Rattle.trace_history.specs.Search.{IsFirstOf, is_ready, rule_before};
 ghost use Rattle.trace_history.specs.Walk.{walk};
 ghost use Rattle.trace_history.specs.Ready.{AllReady, find_rule};
+ghost use Rattle.trace_history.specs.Upkeep.{StillReady};
 
+use crate::keys::drop_key;
 use crate::search::is_ready;
-use chem_model::{Numbered, NumberedRule, RuleId};
+use chem_model::{Loc, Numbered, NumberedRule, RuleId, same_loc};
 use chem_plain::rule_at;
 use std::collections::BTreeSet;
 use std::collections::btree_set::Range;
@@ -66,6 +68,37 @@ pub(crate) fn first_ready<'a>(
         None => {
             let low = keys.range((Bound::Unbounded, Bound::Excluded(start)));
             walk(low, numbered)
+        }
+    }
+}
+
+/// Takes the key of a rule out where the rule isn't ready under that site. It takes no memory.
+fn drop_idle(
+    keys: &mut BTreeSet<(u32, (u32, u64))>,
+    numbered: &Numbered,
+    site: u32,
+    id: RuleId,
+)
+    ensures { StillReady numbered.now keys.old.keys keys.new.keys }
+{
+    match find_rule(numbered, site, id) {
+        Some(_) => {}
+        None => drop_key(keys, (site, (id.site, id.k))),
+    }
+}
+
+/// Takes the keys of the rules at a location out that stand for none under that site.
+pub(crate) fn drop_idle_rules(
+    keys: &mut BTreeSet<(u32, (u32, u64))>,
+    numbered: &Numbered,
+    site: u32,
+    at: Loc,
+)
+    ensures { StillReady numbered.now keys.old.keys keys.new.keys }
+{
+    for rule in numbered.rules.as_slice() {
+        if same_loc(rule.loc, at) && keys.contains(&(site, (rule.id.site, rule.id.k))) {
+            drop_idle(keys, numbered, site, rule.id);
         }
     }
 }

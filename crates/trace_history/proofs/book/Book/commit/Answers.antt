@@ -15,7 +15,8 @@ invariant_of-self-in-Ok-true c =
     let made : apply before c.args.event.now ≡ Some after = replaced _ before after c.in-Ok-true.field-0 c.in-Ok-true.ensures.done c.in-Ok-true.field-0-test in
     (
       replay_pushed c.self.inside.program c.self.inside.journal c.push.new.self c.args.event.now c.in_ok-copy.copy before after c.self.invariant.0 c.in_ok-push.ensures.ok c.in_ok-copy.ensures made,
-      whole_after before after c.args.event.now c.since_of-since.result c.self.inside.candidates c.renew.new.candidates (c.is_sound.ensures before leads) made c.since_of-since.ensures c.self.invariant.1 c.renew.ensures,
+      c.drop_all_idle.ensures (c.event_is_a_reduction.ensures before after c.args.event.now (c.is_sound.ensures before leads) made).sound
+          (whole_after before after c.args.event.now c.since_of-since.result c.self.inside.candidates c.renew.new.candidates (c.is_sound.ensures before leads) made c.since_of-since.ensures c.self.invariant.1 c.renew.ensures),
     )
 
 pub returns-in-Ok-true-clause-reduction : goal.returns-in-Ok-true-clause-reduction
