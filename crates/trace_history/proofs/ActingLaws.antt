@@ -1,5 +1,5 @@
 -- The keys of the requests that may be met, walked from one site upwards and then from the first one, lead to the first that can be met.
-use Rattle.std.proofs.Common.{◌≡◌, ℕ, ◌<◌, ◌≤◌, List, [], ◌∷◌, ◌++◌, Option, Some, None, Bool, true, false, cond, refl, ap, sym, ◌∙◌, subst, arith, ◌==◌, ◌&&◌, ◌||◌, ◌⊎◌, inl, inr, length, eqb-true, eq-eqb}
+use Rattle.std.proofs.Common.{◌≡◌, ℕ, ◌<◌, List, [], ◌∷◌, Option, Some, None, Bool, true, false, cond, refl, ap, sym, ◌∙◌, subst, arith, ◌==◌, ◌&&◌, ◌||◌, ◌⊎◌, inl, inr, length, eqb-true, eq-eqb}
 use Rattle.std.specs.Prelude.{nat_lt}
 use Rattle.std.specs.List.{filter}
 use Rattle.std.specs.List.Sorted.{IsStrictlySortedBy}
@@ -13,16 +13,16 @@ use Rattle.chem_model.specs.Apply.{atom_at, same_atom}
 use Rattle.chem_model.specs.Sound.{IsSound, IsAtom}
 use Rattle.chem_laws.proofs.Places.{root_is}
 use Rattle.chem_laws.proofs.Taking.{atom_found}
-use Rattle.trace_history.specs.First.{turns, less, atom_less}
+use Rattle.trace_history.specs.First.{turns, atom_less}
 use Rattle.trace_history.specs.Search.{IsIn, IsFirstOf, can_act, turn, request_before}
 use Rattle.trace_history.proofs.Order.{not_less, not_sooner}
 use Rattle.trace_history.proofs.Least.{atom_has, member_found}
 use Rattle.trace_history.proofs.Founds.{atoms_differ}
-use Rattle.trace_history.specs.Walk.{walk, Leads, Covers}
-use Rattle.trace_history.specs.Ready.{Key, key_below}
+use Rattle.trace_history.specs.Walk.{walk}
+use Rattle.trace_history.specs.Ready.{Key}
 use Rattle.trace_history.specs.Acting.{request_key, AllActing, acting_under, atom_of, find_request}
-use Rattle.trace_history.proofs.WalkLaws.{walk_first}
-use Rattle.trace_history.proofs.ReadyLaws.{key_cmp, is_high, is_low, walked, walked_in_order, in_filter, in_front, in_back, is_high_at, is_low_at}
+use Rattle.trace_history.proofs.WalkLaws.{Leads, walk_first}
+use Rattle.trace_history.proofs.ReadyLaws.{key_below, key_cmp, is_high, is_low, walked, walked_in_order, in_filter, in_front, in_back, is_high_at, is_low_at}
 
 atom_in : (atoms : List NumberedAtom) (i : AtomId) (r : NumberedAtom) → atom_at atoms i ≡ Some r → IsIn r atoms
 atom_in [] i r e = cc
@@ -63,10 +63,10 @@ module _ (n : Numbered) where
         let sx = (root (standing n.places) x.loc).site in
         let sy = (root (standing n.places) y.loc).site in
         let all : key_below n from k j ≡ request_before n from x y =
-            ap (λ (s : ℕ). ordered s (atom_of k) j.0 (atom_of j)) a.site
-            ∙ ap (λ (i : AtomId). ordered sx i j.0 (atom_of j)) (sym (atom_has n.atoms (atom_of k) x a.at))
-            ∙ ap (λ (s : ℕ). ordered sx x.id s (atom_of j)) b.site
-            ∙ ap (λ (i : AtomId). ordered sx x.id sy i) (sym (atom_has n.atoms (atom_of j) y b.at)) in
+        ap (λ (s : ℕ). ordered s (atom_of k) j.0 (atom_of j)) a.site
+        ∙ ap (λ (i : AtomId). ordered sx i j.0 (atom_of j)) (sym (atom_has n.atoms (atom_of k) x a.at))
+        ∙ ap (λ (s : ℕ). ordered sx x.id s (atom_of j)) b.site
+        ∙ ap (λ (i : AtomId). ordered sx x.id sy i) (sym (atom_has n.atoms (atom_of j) y b.at)) in
         sym all ∙ h
 
     itself : (x : NumberedAtom) → request_before n from x x ≡ false

@@ -1,5 +1,5 @@
 -- After a pour the requests that stood there can be met exactly where they could: so the keys of those poured are all that is owed.
-use Rattle.std.proofs.Common.{◌≡◌, List, [], ◌∷◌, ◌++◌, Option, Some, None, Bool, true, false, cond, refl, ap, sym, ◌∙◌, subst, ◌&&◌, ◌||◌, ◌⊎◌, inl, inr, ℕ, is_some}
+use Rattle.std.proofs.Common.{◌≡◌, List, [], ◌∷◌, Some, None, Bool, true, false, cond, refl, ap, sym, ◌∙◌, subst, ◌&&◌, ◌||◌, ◌⊎◌, inl, inr, ℕ, is_some}
 use Rattle.std.specs.Prelude.{not}
 use Rattle.chem_model.specs.declared.name.Loc.{Loc}
 use Rattle.chem_model.specs.declared.name.Ref.{Ref}
@@ -10,12 +10,11 @@ use Rattle.chem_model.specs.declared.numbered.NumberedAtom.{NumberedAtom}
 use Rattle.chem_model.specs.declared.numbered.Numbered.{Numbered}
 use Rattle.chem_model.specs.declared.numbered.Made.{Made}
 use Rattle.chem_model.specs.Process.{Process, Msg, Par, Def, Go, Fail, Halt}
-use Rattle.chem_model.specs.Each.{Each}
 use Rattle.chem_model.specs.Solution.{root, live, dead, is_there, is_marked, host_of}
 use Rattle.chem_model.specs.Numbered.{standing}
 use Rattle.chem_model.specs.Pour.{add_made}
 use Rattle.chem_model.specs.Apply.{can_go, can_detect, move_atom, halt_atom, detect_atom}
-use Rattle.chem_model.specs.Sound.{IsSound, IsAtom, IsSettled, IsKnown, IsNameOf}
+use Rattle.chem_model.specs.Sound.{IsSound, IsAtom, IsSettled, IsNameOf}
 use Rattle.chem_laws.proofs.Places.{standing_left, root_is}
 use Rattle.trace_history.specs.Search.{IsIn, can_act}
 use Rattle.trace_history.specs.Ready.{Key}
@@ -146,11 +145,12 @@ module _ (n : Numbered) (i : AtomId) (x : Loc) where
       let both = and_parts (live (standing halted.places) l && is_some (host_of (standing halted.places l))) (live (standing halted.places) b && not (is_some (host_of (standing halted.places b)))) h in
       let from = and_parts (live (standing halted.places) l) (is_some (host_of (standing halted.places l))) both.0 in
       let to = and_parts (live (standing halted.places) b) (not (is_some (host_of (standing halted.places b)))) both.1 in
-      let at = was_live l from.0 in
-      (true_both (live (standing n.places) l && is_some (host_of (standing n.places l))) (live (standing n.places) b && not (is_some (host_of (standing n.places b))))
-          (true_both (live (standing n.places) l) (is_some (host_of (standing n.places l))) at.0 (sym (ap is_some (hosts l)) ∙ from.1))
-          (true_both (live (standing n.places) b) (not (is_some (host_of (standing n.places b)))) (was_live b to.0).0 (sym (ap (λ o. not (is_some o)) (hosts b)) ∙ to.1)),
-        at.1)
+      let at = was_live l from.0 in (
+        true_both (live (standing n.places) l && is_some (host_of (standing n.places l))) (live (standing n.places) b && not (is_some (host_of (standing n.places b))))
+            (true_both (live (standing n.places) l) (is_some (host_of (standing n.places l))) at.0 (sym (ap is_some (hosts l)) ∙ from.1))
+            (true_both (live (standing n.places) b) (not (is_some (host_of (standing n.places b)))) (was_live b to.0).0 (sym (ap (λ o. not (is_some o)) (hosts b)) ∙ to.1)),
+        at.1,
+      )
 
   abbrev acts_as : Numbered → NumberedAtom → Process → Bool
   acts_as m a p = is_some (move_atom m a.id a.loc p) || (is_some (halt_atom m a.id a.loc p) || is_some (detect_atom m a.id a.loc p))

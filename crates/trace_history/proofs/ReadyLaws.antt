@@ -18,22 +18,25 @@ use Rattle.chem_model.specs.Apply.{rule_at, same_rule}
 use Rattle.chem_model.specs.Sound.{IsSound}
 use Rattle.trace_history.specs.First.{turns, less, rule_less}
 use Rattle.trace_history.specs.Search.{IsIn, IsFirstOf, is_ready, turn, rule_before}
-use Rattle.trace_history.proofs.Order.{less_asym, less_is, not_less, not_sooner}
+use Rattle.trace_history.proofs.Order.{less_asym, not_less, not_sooner}
 use Rattle.trace_history.proofs.Least.{rule_has, rule_member_found}
 use Rattle.trace_history.proofs.Founds.{rules_differ}
 use Rattle.chem_laws.proofs.Places.{live_parts, root_is}
 use Rattle.std.specs.List.{list_all}
 use Rattle.trace_history.specs.Search.{is_met}
-use Rattle.std.specs.Prelude.{OnOk}
-use Rattle.trace_history.specs.Walk.{walk, or_else, InOrder, Leads, Covers}
-use Rattle.trace_history.specs.Ready.{Key, rule_key, AllReady, ready_under, id_of, find_rule, key_below}
-use Rattle.trace_history.proofs.WalkLaws.{walk_first}
+use Rattle.trace_history.specs.Walk.{walk, or_else}
+use Rattle.trace_history.specs.Ready.{Key, rule_key, AllReady, ready_under, id_of, find_rule}
+use Rattle.trace_history.proofs.WalkLaws.{InOrder, Leads, walk_first}
 
 abbrev pub pair_cmp : ℕ × ℕ → ℕ × ℕ → Ordering
 pair_cmp x y = ordering_then (nat_cmp x.0 y.0) (nat_cmp x.1 y.1)
 
 abbrev pub key_cmp : Key → Key → Ordering
 key_cmp x y = ordering_then (nat_cmp x.0 y.0) (pair_cmp x.1 y.1)
+
+-- whether the site of a key has its turn before the other's, or the same site and a lesser number
+abbrev pub key_below : Numbered → ℕ → Key → Key → Bool
+key_below n from k j = nat_lt (turns (length n.counts) from k.0) (turns (length n.counts) from j.0) || ((turns (length n.counts) from k.0 == turns (length n.counts) from j.0) && less k.1.0 k.1.1 j.1.0 j.1.1)
 
 -- ---- the order of keys
 
@@ -226,8 +229,8 @@ module _ (n : Numbered) (from : ℕ) where
       let high = is_high (length n.counts) from in
       let low = is_low from in
       order_append (key_below n from) (λ k. high k ≡ true) (λ k. low k ≡ true) low_later (filter high ks) (filter low ks) (each_filter high ks) (each_filter low ks)
-          (sorted_in_order key_cmp (key_below n from) (λ k. high k ≡ true) high_after (filter high ks) (sorted_filter key_cmp high ks s) (each_filter high ks))
-          (sorted_in_order key_cmp (key_below n from) (λ k. low k ≡ true) low_after (filter low ks) (sorted_filter key_cmp low ks s) (each_filter low ks))
+      (sorted_in_order key_cmp (key_below n from) (λ k. high k ≡ true) high_after (filter high ks) (sorted_filter key_cmp high ks s) (each_filter high ks))
+      (sorted_in_order key_cmp (key_below n from) (λ k. low k ≡ true) low_after (filter low ks) (sorted_filter key_cmp low ks s) (each_filter low ks))
 
 -- ---- what a key finds
 
@@ -260,10 +263,10 @@ module _ (n : Numbered) where
         let sx = (root (standing n.places) x.loc).site in
         let sy = (root (standing n.places) y.loc).site in
         let all : key_below n from k j ≡ rule_before n from x y =
-            ap (λ (s : ℕ). ordered s (id_of k) j.0 (id_of j)) a.site
-            ∙ ap (λ (i : RuleId). ordered sx i j.0 (id_of j)) (sym (rule_has n.rules (id_of k) x a.at))
-            ∙ ap (λ (s : ℕ). ordered sx x.id s (id_of j)) b.site
-            ∙ ap (λ (i : RuleId). ordered sx x.id sy i) (sym (rule_has n.rules (id_of j) y b.at)) in
+        ap (λ (s : ℕ). ordered s (id_of k) j.0 (id_of j)) a.site
+        ∙ ap (λ (i : RuleId). ordered sx i j.0 (id_of j)) (sym (rule_has n.rules (id_of k) x a.at))
+        ∙ ap (λ (s : ℕ). ordered sx x.id s (id_of j)) b.site
+        ∙ ap (λ (i : RuleId). ordered sx x.id sy i) (sym (rule_has n.rules (id_of j) y b.at)) in
         sym all ∙ h
 
     itself : (x : NumberedRule) → rule_before n from x x ≡ false

@@ -1,5 +1,5 @@
 -- After an event each rule that is ready has its key among the old ones and those of the rules that it may have made ready.
-use Rattle.std.proofs.Common.{◌≡◌, List, [], ◌∷◌, ◌++◌, Option, Some, None, Bool, true, false, cond, refl, ap, sym, ◌∙◌, subst, ◌&&◌, ◌||◌, ◌⊎◌, inl, inr, ℕ, ◌<◌, length, arith}
+use Rattle.std.proofs.Common.{◌≡◌, List, [], ◌∷◌, ◌++◌, Option, Some, None, Bool, true, false, cond, refl, ap, sym, ◌∙◌, subst, ◌&&◌, ◌||◌, ◌⊎◌, inl, inr, ℕ, arith}
 use Rattle.std.specs.Prelude.{not}
 use Rattle.std.specs.List.{list_any, list_all}
 use Rattle.std.proofs.lemmas.Bool.{and_parts}
@@ -24,14 +24,27 @@ use Rattle.chem_model.specs.Sound.{IsSound, IsRule, IsKnown, IsNameOf, IsHomedAt
 use Rattle.chem_laws.proofs.Places.{standing_left, root_is}
 use Rattle.trace_history.specs.Search.{IsIn, is_ready, is_met, receives}
 use Rattle.trace_history.specs.Ready.{Key, rule_key, AllReady}
-use Rattle.trace_history.specs.Upkeep.{Touches, Woken, KeepsKeys, RulesStand}
+use Rattle.trace_history.specs.Upkeep.{KeepsKeys}
 use Rattle.chem_model.specs.Solution.{same_loc, rehosted, marked, with_mark, with_host, Standing}
 use Rattle.chem_model.specs.Apply.{with_hosts, with_marks}
 use Rattle.chem_laws.proofs.Requests.{standing_hosts, standing_marks, host_there, host_marked, new_host, mark_there, mark_host}
-use Rattle.chem_laws.proofs.Within.{same_loc_is, same_loc_refl}
 use Rattle.chem_laws.proofs.Places.{live_parts}
 use Rattle.chem_laws.proofs.Lists.{true_both}
 use Rattle.std.proofs.lemmas.Bool.{or_parts}
+
+-- ---- which rules an event may make ready: those that it lays, and those one of whose patterns receives one of the messages that it pours
+
+-- a pattern receives one of these messages at the location
+abbrev pub Touches : Loc → List NumberedAtom → List Pat → Type 0
+Touches l atoms ps = (p : Pat) × IsIn p ps × (a : NumberedAtom) × IsIn a atoms × (receives l p a ≡ true)
+
+-- the rules that were laid, and those that one of these messages may have made ready, have their keys there where they are ready
+abbrev pub Woken : Numbered → List NumberedRule → List NumberedAtom → List Key → Type 0
+Woken n laid poured ks = (r : NumberedRule) → IsIn r n.rules → is_ready n r ≡ true → IsIn r laid ⊎ Touches r.loc poured r.pats → IsIn (rule_key n r) ks
+
+-- each rule's location is one of the solution, and so is the root above it
+abbrev pub RulesStand : Numbered → Type 0
+RulesStand n = (r : NumberedRule) → IsIn r n.rules → (is_there (standing n.places r.loc) ≡ true) × (is_there (standing n.places (root (standing n.places) r.loc)) ≡ true)
 
 -- ---- lists
 
@@ -139,7 +152,7 @@ module _ (n : Numbered) (stand : RulesStand n) (left : List NumberedAtom) (fewer
   same_place r at =
       let there = stand r at in
       live_same (standing n.places) (standing after.places) r.loc (standing_left n.places made.births r.loc there.0)
-          (standing_left n.places made.births (root (standing n.places) r.loc) there.1)
+      (standing_left n.places made.births (root (standing n.places) r.loc) there.1)
 
   -- each rule that was ready and still is has its key there, and so has each rule that may have become ready
   pub upkeep_each : (new : List Key) → ((r : NumberedRule) → IsIn r n.rules → is_ready n r ≡ true → rule_key after r ≡ rule_key n r → is_ready after r ≡ true → IsIn (rule_key after r) new) → Woken after made.rules made.atoms new → AllReady after new

@@ -1,9 +1,8 @@
 -- The candidates after an event: what they gained is all that the event may have made possible.
-use Rattle.std.proofs.Common.{◌≡◌, ℕ, zero, suc, ◌+◌, ◌-◌, ◌≤◌, List, [], ◌∷◌, ◌++◌, Option, Some, None, Bool, true, false, cond, refl, ap, sym, ◌∙◌, subst, arith, ◌&&◌, ◌||◌, ◌⊎◌, inl, inr, length, drop, is_some}
+use Rattle.std.proofs.Common.{◌≡◌, ℕ, zero, suc, ◌+◌, ◌-◌, ◌≤◌, List, [], ◌∷◌, ◌++◌, Option, Some, None, Bool, true, false, cond, refl, ap, sym, ◌∙◌, subst, arith, ◌&&◌, ◌||◌, inl, inr, length, drop, is_some}
 use Rattle.std.specs.Prelude.{slice_index, not}
 use Rattle.std.specs.List.{list_any}
 use Rattle.chem_model.specs.declared.name.Loc.{Loc}
-use Rattle.chem_model.specs.declared.name.Pat.{Pat}
 use Rattle.chem_model.specs.declared.name.Name.TheVariants as name
 use Rattle.chem_model.specs.declared.name.Ref.{Ref}
 use Rattle.chem_model.specs.declared.name.Ref.TheVariants.{Binder, Known}
@@ -22,7 +21,6 @@ use Rattle.chem_model.specs.Reduction.{continuation}
 use Rattle.chem_model.specs.Pour.{pour, add_made}
 use Rattle.chem_model.specs.Apply.{same_atom, rule_at, atom_at, received_all, react_received, react_rule, without, without_all, with_hosts, with_marks, can_go, can_detect, move_atom, halt_atom, detect_atom, with_atom, apply}
 use Rattle.chem_model.specs.Sound.{IsSound}
-use Rattle.chem_laws.proofs.Within.{same_loc_refl}
 use Rattle.std.proofs.lemmas.Bool.{and_parts}
 use Rattle.chem_laws.proofs.Places.{live_parts}
 use Rattle.trace_history.specs.declared.candidates.Since.{Since}
@@ -30,10 +28,10 @@ use Rattle.trace_history.specs.declared.candidates.Candidates.{Candidates}
 use Rattle.trace_history.specs.Search.{IsIn, is_ready, is_met, can_act, receives}
 use Rattle.trace_history.specs.Ready.{Key, rule_key, AllReady}
 use Rattle.trace_history.specs.Acting.{request_key, AllActing}
-use Rattle.trace_history.specs.Upkeep.{Touches, Woken, KeepsKeys, RulesStand, AllKeyed, is_touched, is_at, is_woken}
+use Rattle.trace_history.specs.Upkeep.{KeepsKeys, AllKeyed, is_touched, is_at, is_woken}
 use Rattle.trace_history.specs.Candidates.{IsWhole, Gains, IsSince, Renews, location_of_atom}
 use Rattle.trace_history.proofs.Replays.{same_some}
-use Rattle.trace_history.proofs.UpkeepLaws.{rules_stand, any_without, any_without_all, upkeep, upkeep_each, upkeep_halt, moved_stand, stays_keyed}
+use Rattle.trace_history.proofs.UpkeepLaws.{Touches, Woken, RulesStand, rules_stand, any_without, any_without_all, upkeep, upkeep_each, upkeep_halt, moved_stand, stays_keyed}
 use Rattle.trace_history.proofs.ReadyLaws.{in_front}
 use Rattle.trace_history.proofs.ActingUpkeep.{in_without, upkeep_acting}
 
@@ -117,9 +115,9 @@ module _ (n : Numbered) (sound : IsSound n) where
     after_pour : (left : List NumberedAtom) (site : ℕ) (made : Made) → ((a : NumberedAtom) → IsIn a left → IsIn a n.atoms) → ((p : NumberedAtom → Bool) → list_any p left ≡ true → list_any p n.atoms ≡ true)
         → s.laid ≤ length n.rules → s.poured ≤ length left → s.requests ≤ length left → Gains (add_made (record n { atoms = left }) site made) s old new → Holds (add_made (record n { atoms = left }) site made)
     after_pour left site made fewer fewer_any low few first g = (
-        rules_poured n (rules_stand n sound) left fewer_any site made old.ready.keys new.ready.keys s.laid s.poured s.moved low few ready g.0 g.2 g.3,
-        requests_poured left site made fewer old.acting.keys new.acting.keys s.requests first acting g.1 g.4,
-      )
+      rules_poured n (rules_stand n sound) left fewer_any site made old.ready.keys new.ready.keys s.laid s.poured s.moved low few ready g.0 g.2 g.3,
+      requests_poured left site made fewer old.acting.keys new.acting.keys s.requests first acting g.1 g.4,
+    )
 
     same_holds : (x m : Numbered) → Some x ≡ Some m → (Gains x s old new → Holds x) → Gains m s old new → Holds m
     same_holds x m e h g = let same : x ≡ m = same_some x m e in subst (λ (y : Numbered). Holds y) same (h (subst (λ (y : Numbered). Gains y s old new) (sym same) g))
@@ -139,7 +137,7 @@ module _ (n : Numbered) (sound : IsSound n) where
         let made : Made = pour n.seen top.site top k r.loc (slice_index n.counts top.site) r.body in
         let len = length_without_all took n.atoms in
         same_holds (add_made (record n { atoms = left }) top.site made) m e
-            (after_pour left top.site made (in_without_all took n.atoms) (λ p h. any_without_all p took n.atoms h) (omega arith) (omega arith) (omega arith)) g
+        (after_pour left top.site made (in_without_all took n.atoms) (λ p h. any_without_all p took n.atoms h) (omega arith) (omega arith) (omega arith)) g
 
     rule_holds : (m : Numbered) (took : List AtomId) (o : Option NumberedRule) → react_rule n took o ≡ Some m
         → s.laid ≡ length n.rules → s.poured ≡ length n.atoms - length took → s.requests ≡ length n.atoms - length took → Gains m s old new → Holds m
@@ -160,7 +158,7 @@ module _ (n : Numbered) (sound : IsSound n) where
         let made : Made = pour n.seen top.site top [] l (slice_index n.counts top.site) (continuation k) in
         let len = length_without i n.atoms in
         when (can_detect n l a) (add_made (record n { atoms = left }) top.site made) m e
-            (λ _. after_pour left top.site made (in_without i n.atoms) (λ q h. any_without q i n.atoms h) (omega arith) (omega arith) (omega arith)) g
+        (λ _. after_pour left top.site made (in_without i n.atoms) (λ q h. any_without q i n.atoms h) (omega arith) (omega arith) (omega arith)) g
     detect_holds m i l (Fail (Binder b) k) e x y z g = cc
     detect_holds m i l (Fail (Known (name.Seen j)) k) e x y z g = cc
     detect_holds m i l (Fail (Known (name.Chan t j h)) k) e x y z g = cc
@@ -256,6 +254,6 @@ whole_after n m e s old new sound made since whole (inr gained) = let was = whol
 -- where all was looked at
 pub whole_of_all : (n : Numbered) (s : Since) (old new : Candidates) → s.laid ≡ 0 → s.requests ≡ 0 → Gains n s old new → IsWhole n new
 whole_of_all n s old new a b g = λ _. (
-    subst (λ (k : ℕ). AllKeyed (is_ready n) (rule_key n) (drop k n.rules) new.ready.keys) a g.2,
-    subst (λ (k : ℕ). AllKeyed (can_act n) (request_key n) (drop k n.atoms) new.acting.keys) b g.4,
-  )
+  subst (λ (k : ℕ). AllKeyed (is_ready n) (rule_key n) (drop k n.rules) new.ready.keys) a g.2,
+  subst (λ (k : ℕ). AllKeyed (can_act n) (request_key n) (drop k n.atoms) new.acting.keys) b g.4,
+)

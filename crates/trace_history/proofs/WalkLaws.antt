@@ -2,7 +2,21 @@
 use Rattle.std.proofs.Common.{◌≡◌, List, [], ◌∷◌, Option, Some, None, Bool, true, false, refl, ap, sym, ◌∙◌, subst, ◌⊎◌, inl, inr}
 use Rattle.chem_model.specs.Each.{Each}
 use Rattle.trace_history.specs.Search.{IsIn, IsFirstOf}
-use Rattle.trace_history.specs.Walk.{or_else, walk, InOrder, Leads, Covers}
+use Rattle.trace_history.specs.Walk.{or_else, walk}
+
+-- no later key comes before an earlier one
+abbrev pub InOrder : {K : Type 0} → (K → K → Bool) → List K → Type 0
+InOrder below [] = Unit {0}
+InOrder below (k ∷ ks) = Each (λ j. below j k ≡ false) ks × InOrder below ks
+
+-- one of the keys stands for this member
+abbrev pub Leads : {K X : Type 0} → (K → Option X) → List K → X → Type 0
+Leads {K} find ks x = (k : K) × IsIn k ks × (find k ≡ Some x)
+
+-- keys by which each member that passes is found, and none that doesn't. Other keys may stand among them
+pub record Covers {K X : Type 0} (find : K → Option X) (test : X → Bool) (xs : List X) (ks : List K) : Type 0 where
+  pub right : (k : K) (x : X) → find k ≡ Some x → IsIn x xs × (test x ≡ true)
+  pub all : (x : X) → IsIn x xs → test x ≡ true → Leads find ks x
 
 each_in : {X : Type 0} (P : X → Type 0) (xs : List X) → ((x : X) → IsIn x xs → P x) → Each P xs
 each_in P [] h = tt

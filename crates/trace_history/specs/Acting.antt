@@ -1,4 +1,5 @@
--- Requests that may be met, in an ordered set of keys: the site of the root above the request, and then its number.
+-- Requests that may be met, in an ordered set of keys: the site of the root above the request, and
+-- then its number. Private contracts alone cite it.
 use Rattle.std.specs.Prelude.{◌≡◌, ℕ, List, Option, Some, None, true, ◌==◌, ◌&&◌, cond}
 use Rattle.chem_model.specs.declared.event.AtomId.{AtomId}
 use Rattle.chem_model.specs.declared.numbered.NumberedAtom.{NumberedAtom}
@@ -14,11 +15,13 @@ request_key n a = ((root (standing n.places) a.loc).site, (a.id.site, a.id.k))
 
 -- one side alone: each request that can be met has its key there
 abbrev pub AllActing : Numbered → List Key → Type 0
-AllActing n ks = (a : NumberedAtom) → IsIn a n.atoms → can_act n a ≡ true → IsIn (request_key n a) ks
+AllActing n ks =
+    (a : NumberedAtom) → IsIn a n.atoms → can_act n a ≡ true → IsIn (request_key n a) ks
 
 abbrev pub acting_under : Numbered → ℕ → Option NumberedAtom → Option NumberedAtom
 acting_under n s None = None
-acting_under n s (Some a) = cond (can_act n a && (s == (root (standing n.places) a.loc).site)) (Some a) None
+acting_under n s (Some a) =
+    cond (can_act n a && (s == (root (standing n.places) a.loc).site)) (Some a) None
 
 abbrev pub atom_of : Key → AtomId
 atom_of k = record { site = k.1.0; k = k.1.1 }

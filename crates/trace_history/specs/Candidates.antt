@@ -1,6 +1,7 @@
 -- What may be possible, by one-sided sets of keys: each rule that is ready and each request that
--- can be met is among the candidates. What else is there doesn't matter.
-use Rattle.std.specs.Prelude.{◌≡◌, ℕ, ◌-◌, ◌⊎◌, List, Option, Some, None, Bool, true, false, length, drop}
+-- can be met is among the candidates. What else is there doesn't matter. Private contracts and the
+-- book's invariant alone cite it.
+use Rattle.std.specs.Prelude.{◌≡◌, ◌-◌, ◌⊎◌, Option, Some, None, true, length, drop}
 use Rattle.chem_model.specs.declared.name.Loc.{Loc}
 use Rattle.chem_model.specs.declared.event.Event.{Event}
 use Rattle.chem_model.specs.declared.event.Event.TheVariants.{React, Move, Halt, Detect}

@@ -1,32 +1,18 @@
--- Which rules an event may make ready: those that it lays, and those one of whose patterns receives one of the messages that it pours.
-use Rattle.std.specs.Prelude.{◌≡◌, List, ◌⊎◌, Option, Some, None, Bool, true, false, ◌&&◌, ◌||◌}
+-- Keys that were added, and keys that are still there. Private contracts alone cite it.
+use Rattle.std.specs.Prelude.{◌≡◌, List, Option, Some, None, Bool, true, false, ◌&&◌, ◌||◌}
 use Rattle.std.specs.List.{list_any}
-use Rattle.chem_model.specs.Solution.{root, is_there, same_loc}
-use Rattle.chem_model.specs.Numbered.{standing}
+use Rattle.chem_model.specs.Solution.{same_loc}
 use Rattle.chem_model.specs.declared.name.Loc.{Loc}
-use Rattle.chem_model.specs.declared.name.Pat.{Pat}
 use Rattle.chem_model.specs.declared.numbered.NumberedRule.{NumberedRule}
 use Rattle.chem_model.specs.declared.numbered.NumberedAtom.{NumberedAtom}
 use Rattle.chem_model.specs.declared.numbered.Numbered.{Numbered}
-use Rattle.trace_history.specs.Search.{IsIn, is_ready, receives, is_met}
+use Rattle.trace_history.specs.Search.{IsIn, is_ready, is_met}
 use Rattle.chem_model.specs.Sound.{IsSound}
-use Rattle.trace_history.specs.Ready.{Key, rule_key, AllReady}
+use Rattle.trace_history.specs.Ready.{Key, AllReady}
 use Rattle.trace_history.specs.Acting.{AllActing}
-
--- a pattern receives one of these messages at the location
-abbrev pub Touches : Loc → List NumberedAtom → List Pat → Type 0
-Touches l atoms ps = (p : Pat) × IsIn p ps × (a : NumberedAtom) × IsIn a atoms × (receives l p a ≡ true)
-
--- the rules that were laid, and those that one of these messages may have made ready, have their keys there where they are ready
-abbrev pub Woken : Numbered → List NumberedRule → List NumberedAtom → List Key → Type 0
-Woken n laid poured ks = (r : NumberedRule) → IsIn r n.rules → is_ready n r ≡ true → IsIn r laid ⊎ Touches r.loc poured r.pats → IsIn (rule_key n r) ks
 
 abbrev pub KeepsKeys : List Key → List Key → Type 0
 KeepsKeys old new = (k : Key) → IsIn k old → IsIn k new
-
--- each rule's location is one of the solution, and so is the root above it
-abbrev pub RulesStand : Numbered → Type 0
-RulesStand n = (r : NumberedRule) → IsIn r n.rules → (is_there (standing n.places r.loc) ≡ true) × (is_there (standing n.places (root (standing n.places) r.loc)) ≡ true)
 
 -- each member that passes has its key there
 abbrev pub AllKeyed : {X : Type 0} → (X → Bool) → (X → Key) → List X → List Key → Type 0

@@ -12,9 +12,7 @@ use crate::acting::{drop_spent, drop_spent_requests};
 use crate::keys::add_key;
 use crate::ready::drop_idle_rules;
 use crate::search::{can_act, is_ready};
-use chem_model::{
-    AtomId, Event, Loc, Memory, Numbered, NumberedAtom, NumberedRule, Pat, same_loc,
-};
+use chem_model::{AtomId, Event, Loc, Memory, Numbered, NumberedAtom, NumberedRule, Pat, same_loc};
 use chem_plain::{atom_at, meets, rule_at};
 use std::alloc::Global;
 use std::collections::BTreeSet;

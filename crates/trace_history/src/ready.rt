@@ -73,12 +73,7 @@ pub(crate) fn first_ready<'a>(
 }
 
 /// Takes the key of a rule out where the rule isn't ready under that site. It takes no memory.
-fn drop_idle(
-    keys: &mut BTreeSet<(u32, (u32, u64))>,
-    numbered: &Numbered,
-    site: u32,
-    id: RuleId,
-)
+fn drop_idle(keys: &mut BTreeSet<(u32, (u32, u64))>, numbered: &Numbered, site: u32, id: RuleId)
     ensures { StillReady numbered.now keys.old.keys keys.new.keys }
 {
     match find_rule(numbered, site, id) {

@@ -1,8 +1,8 @@
 -- Each member that passes has its key there.
-use Rattle.std.proofs.Common.{◌≡◌, sym, ◌∙◌, subst, take, ◌+◌}
+use Rattle.std.proofs.Common.{sym, ◌∙◌, subst, take, ◌+◌}
 use Rattle.trace_history.specs.Search.{can_act}
 use Rattle.trace_history.specs.Acting.{request_key}
-use Rattle.trace_history.specs.Upkeep.{AllKeyed, KeepsKeys, is_woken}
+use Rattle.trace_history.specs.Upkeep.{AllKeyed, KeepsKeys}
 use Rattle.trace_history.proofs.Keyed.{keyed_step, keyed_skip}
 use Rattle.trace_history.proofs.candidates.add_acting.Goals as goal
 use Rattle.trace_history.proofs.candidates.add_acting.Goals.{then-can_act+in_ok-add_key, else-can_act}

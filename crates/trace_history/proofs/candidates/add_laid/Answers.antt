@@ -1,8 +1,8 @@
 -- Each member that passes has its key there.
-use Rattle.std.proofs.Common.{◌≡◌, sym, ◌∙◌, subst, take, ◌+◌}
+use Rattle.std.proofs.Common.{sym, ◌∙◌, subst, take, ◌+◌}
 use Rattle.trace_history.specs.Search.{is_ready}
 use Rattle.trace_history.specs.Ready.{rule_key}
-use Rattle.trace_history.specs.Upkeep.{AllKeyed, KeepsKeys, is_woken}
+use Rattle.trace_history.specs.Upkeep.{AllKeyed, KeepsKeys}
 use Rattle.trace_history.proofs.Keyed.{keyed_step, keyed_skip}
 use Rattle.trace_history.proofs.candidates.add_laid.Goals as goal
 use Rattle.trace_history.proofs.candidates.add_laid.Goals.{then-is_ready+in_ok-add_key, else-is_ready}

@@ -1,5 +1,5 @@
 -- Each member that passes has its key there.
-use Rattle.std.proofs.Common.{◌≡◌, sym, ◌∙◌, subst, take, ◌+◌}
+use Rattle.std.proofs.Common.{sym, ◌∙◌, subst, take, ◌+◌}
 use Rattle.trace_history.specs.Ready.{rule_key}
 use Rattle.trace_history.specs.Upkeep.{AllKeyed, KeepsKeys, is_woken}
 use Rattle.trace_history.proofs.Keyed.{keyed_step, keyed_skip}

@@ -1,5 +1,5 @@
 -- The keys of each kind were added, and those that were there are still.
-use Rattle.std.proofs.Common.{◌≡◌, ap, sym, ◌∙◌, subst, drop, List}
+use Rattle.std.proofs.Common.{◌≡◌, ap, ◌∙◌, subst, drop, List}
 use Rattle.chem_model.specs.declared.numbered.NumberedRule.{NumberedRule}
 use Rattle.chem_model.specs.declared.numbered.NumberedAtom.{NumberedAtom}
 use Rattle.trace_history.specs.Search.{is_ready, can_act}

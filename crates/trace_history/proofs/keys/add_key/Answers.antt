@@ -1,4 +1,4 @@
-use Rattle.std.proofs.Common.{◌≡◌, sym, subst, List}
+use Rattle.std.proofs.Common.{sym, subst, List}
 use Rattle.trace_history.specs.Search.{IsIn}
 use Rattle.trace_history.specs.Ready.{Key}
 use Rattle.trace_history.proofs.KeyLaws.{added, kept}
