@@ -2,3 +2,8 @@ pub mod Kept
 pub mod First
 pub mod Book
 pub mod Search
+pub mod Walk
+pub mod Ready
+pub mod Acting
+pub mod Upkeep
+pub mod Candidates
