@@ -58,17 +58,17 @@ fn the_inner_name_hides_the_outer_one(rt: HostRuntime) -> Result<(), Fail> {
 }
 
 /// A `def` within a rule within a `def`, two places, and 65 channels in the site's level: `a`, and
-/// `c1` to `c64` in one pattern.
+/// `q1` to `q64` in one pattern.
 fn nested() -> &'static [u8] {
     b"observe out/1; site s [ a() => def b(u) => def c() => out(u) in c() \
       and m[ k() => b(m) : k() ] and n[ none : b(n) ] in b(s) and \
-      c1() | c2() | c3() | c4() | c5() | c6() | c7() | c8() | c9() | c10() | c11() | \
-      c12() | c13() | c14() | c15() | c16() | c17() | c18() | c19() | c20() | c21() | \
-      c22() | c23() | c24() | c25() | c26() | c27() | c28() | c29() | c30() | c31() | \
-      c32() | c33() | c34() | c35() | c36() | c37() | c38() | c39() | c40() | c41() | \
-      c42() | c43() | c44() | c45() | c46() | c47() | c48() | c49() | c50() | c51() | \
-      c52() | c53() | c54() | c55() | c56() | c57() | c58() | c59() | c60() | c61() | \
-      c62() | c63() | c64() \
+      q1() | q2() | q3() | q4() | q5() | q6() | q7() | q8() | q9() | q10() | q11() | \
+      q12() | q13() | q14() | q15() | q16() | q17() | q18() | q19() | q20() | q21() | \
+      q22() | q23() | q24() | q25() | q26() | q27() | q28() | q29() | q30() | q31() | \
+      q32() | q33() | q34() | q35() | q36() | q37() | q38() | q39() | q40() | q41() | \
+      q42() | q43() | q44() | q45() | q46() | q47() | q48() | q49() | q50() | q51() | \
+      q52() | q53() | q54() | q55() | q56() | q57() | q58() | q59() | q60() | q61() | \
+      q62() | q63() | q64() \
       => 0 : a() ]"
 }
 
