@@ -1,5 +1,5 @@
 -- A trace has the same text by all lists of names that tell the same binders.
-use Rattle.std.proofs.Common.{◌≡◌, ℕ, ◌+◌, List, [], ◌∷◌, ◌++◌, Bool, Option, cond, not, ◌&&◌, codes, decimal, refl, ap, ◌∙◌}
+use Rattle.std.proofs.Common.{◌≡◌, ℕ, ◌+◌, List, [], ◌∷◌, ◌++◌, Option, cond, not, ◌&&◌, codes, decimal, refl, ap, ◌∙◌}
 use Rattle.chem_model.specs.declared.name.Name.{Name}
 use Rattle.chem_model.specs.declared.name.Name.TheVariants as name
 use Rattle.chem_model.specs.declared.event.Out.{Out}

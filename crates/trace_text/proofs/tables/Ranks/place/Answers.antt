@@ -1,5 +1,5 @@
 -- The index in the map is the place among the names.
-use Rattle.std.proofs.Common.{◌≡◌, ℕ, List, length, Option, ap, sym, ◌∙◌}
+use Rattle.std.proofs.Common.{ℕ, List, length, Option, ap, ◌∙◌}
 use Rattle.std.specs.Prelude.{unwrap_or}
 use Rattle.std.specs.Map.{keys_of}
 use Rattle.std.specs.List.{position}
