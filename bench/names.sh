@@ -1,49 +1,88 @@
 #!/usr/bin/env bash
-# Measures the text of a trace in which each line has a fresh name with a rank: prints how long trace_bytes takes for
-# 1,000, 10,000, 30,000 and 100,000 such names, and how long it took to make the run. A hundred names a reaction, so
-# that there are few reactions.
+# Measures the text of a trace in which each line has a fresh name with a rank: prints how long it takes to write it for
+# 1,000 to 1,000,000 names. The run that would give them is left out, as it takes longer: the names and the lines are
+# lists, and the scratch copy of trace_text makes the function public that trace_bytes calls with those of a book.
 # A measure and no test.
 set -eu
 . "$(dirname "$0")/scratch.sh"
 
-scratch names_bench chem_model chem_plain chem_laws chem_commit trace_history site_runner trace_text \
-    join_base join_lex join_parse scope_names scope_check <<'PROGRAM'
-//! Writes the traces of runs of the text on standard input.
+scratch names_bench chem_model chem_plain chem_laws chem_commit trace_history trace_text <<'PROGRAM'
+//! Writes traces of fresh names.
 #![tactic(auto)]
 
-use join_base::{StdSource, read_all};
-use join_lex::lex;
-use join_parse::parse;
-use scope_check::check;
-use site_runner::alone;
+use chem_model::{Items, Loc, Memory, Name, Named, Naming, Out, Outs, Proc, Program, Ref, SeenDecl, SiteTerm};
+use std::alloc::Global;
 use std::time::Instant;
-use trace_history::Book;
-use trace_text::{Ending, trace_bytes};
+use trace_text::{Ending, LogEnd, run_text};
+
+fn channel(k: u64) -> Name {
+    Name::Chan {
+        site: 0,
+        k,
+        home: Loc { site: 0, k: 0 },
+    }
+}
+
+fn named(alloc: Global, count: u64) -> Result<Naming, Memory> {
+    let mut list = Items::new(alloc);
+    for k in 0..count {
+        list.push(Named {
+            binder: 1,
+            name: channel(k),
+        })?;
+    }
+    Ok(list)
+}
+
+fn outs(alloc: Global, count: u64) -> Result<Outs, Memory> {
+    let mut list = Items::new(alloc);
+    for k in 0..count {
+        let mut args = Items::new(alloc);
+        args.push(channel(k))?;
+        list.push(Out { on: 0, args })?;
+    }
+    Ok(list)
+}
+
+fn program(alloc: Global) -> Result<Program, Memory> {
+    let mut seen = Items::new(alloc);
+    seen.push(SeenDecl {
+        count: 0,
+        spell: Items::from_slice(alloc, b"out")?,
+    })?;
+    let mut sites = Items::new(alloc);
+    sites.push(SiteTerm {
+        name: 0,
+        defs: Items::new(alloc),
+        body: Proc::msg(Ref::Known(Name::Seen(0)), Items::new(alloc)),
+    })?;
+    let mut spell = Items::new(alloc);
+    spell.push(Items::from_slice(alloc, b"s")?)?;
+    Ok(Program {
+        seen,
+        sites,
+        tops: 1,
+        spell,
+    })
+}
 
 fn main(rt: HostRuntime) -> Result<(), anyhow::Error> {
     let alloc = rt.alloc();
-    let mut source = StdSource::new(rt.stdin());
-    let text = read_all(alloc, &mut source, 1_048_576)?;
-    let tokens = lex(alloc, text.as_slice())?;
-    let tree = parse(alloc, &tokens)?;
-    let program = check(alloc, &tree)?;
-    for budget in [10, 100, 300, 1000] {
+    let program = program(alloc).map_err(|_memory| LogEnd::Memory)?;
+    for count in [1_000, 10_000, 30_000, 100_000, 300_000, 1_000_000] {
+        let named = named(alloc, count).map_err(|_memory| LogEnd::Memory)?;
+        let outs = outs(alloc, count).map_err(|_memory| LogEnd::Memory)?;
         let start = Instant::now(&rt)?;
-        let run = alone(alloc, Book::start(alloc, &program)?, budget)?;
-        let made = start.elapsed(&rt)?;
-        let start = Instant::now(&rt)?;
-        let trace = trace_bytes(alloc, &run.book, Ending::Stopped)?;
+        let trace = run_text(alloc, &program, &named, &outs, Ending::Stopped).map_err(|_memory| LogEnd::Memory)?;
         let taken = start.elapsed(&rt)?;
-        println!(rt; "{} names in {} bytes: written in {} microseconds, made in {}", run.book.names().len(), trace.len(), taken.as_micros(), made.as_micros())?;
+        println!(rt; "{} names: {} bytes in {} microseconds", count, trace.len(), taken.as_micros())?;
     }
     Ok(())
 }
 PROGRAM
 
-{
-    printf 'observe out/1; site s [ c() => c()'
-    for ((i = 0; i < 100; i++)); do printf ' | (def d() => 0 in out(d))'; done
-    printf ' : c() ]\n'
-} >stdin
+sed -i 's/^fn run_text/pub fn run_text/' ../trace_text/src/trace.rt
+sed -i 's/^pub use trace::{push_ending, trace_bytes}/pub use trace::{push_ending, run_text, trace_bytes}/' ../trace_text/src/lib.rt
+: >stdin
 build
-cat log
+out/names_bench

@@ -130,7 +130,8 @@ fn push_name(
     ranks: &Ranks,
     name: Name,
 ) -> Result<(), Memory>
-    ensures { OnOk result (text.new ≡ text.old ++ name_text program.now binders.now ranks.now name) }
+    ensures { OnOk result (text.new ≡
+        text.old ++ name_text program.now binders.now ranks.now name) }
 {
     match name {
         Name::Seen(declaration) => push_all(text, seen_spelling(program, declaration)),
@@ -146,7 +147,8 @@ fn push_made(
     ranks: &Ranks,
     name: Name,
 ) -> Result<(), Memory>
-    ensures { OnOk result (text.new ≡ text.old ++ made_text program.now binders.now ranks.now name) }
+    ensures { OnOk result (text.new ≡
+        text.old ++ made_text program.now binders.now ranks.now name) }
 {
     push_all(text, binder_spelling(program, binders.get(name)))?;
     if is_ranked(program, binders, name) {
