@@ -6,6 +6,7 @@ use crate::code::{
 };
 use chem_model::{Loc, Name};
 use env_store::Slot;
+use std::alloc::{AllocError, Global};
 use std::test::Fail;
 
 const ROOT: Loc = Loc { site: 0, k: 0 };
@@ -118,5 +119,26 @@ fn bodies_of_nested_levels(rt: HostRuntime) -> Result<(), Fail> {
     expect_send(&rt, &code, place_body(&code, 3), 0, Slot::Env(2), None);
     let of_n = place_body(&code, 4);
     expect_send(&rt, &code, of_n, 0, Slot::Env(0), Some(Slot::Env(3)));
+    Ok(())
+}
+
+/// `def a() => 0 in def a() => 0 in .. a()`, so many of them, as the process of a site.
+fn deep(alloc: Global, definitions: usize) -> Result<Vec<u8>, AllocError> {
+    let mut text = Vec::new(alloc);
+    text.extend_from_slice(b"site s [ none : ")?;
+    for _definition in 0..definitions {
+        text.extend_from_slice(b"def a() => 0 in ")?;
+    }
+    text.extend_from_slice(b"a() ]")?;
+    Ok(text)
+}
+
+/// The site opens the first of the 200 levels that a text may have. Each has a block; each but the
+/// site's has a rule, and the bodies are those of the rules and of the site.
+#[test]
+fn two_hundred_levels_fit_the_stack(rt: HostRuntime) -> Result<(), Fail> {
+    let text = deep(rt.alloc(), 199)?;
+    let code = code_of(rt.alloc(), text.as_slice()).ok_or("no code")?;
+    expect_sizes(&rt, &code, [200, 199, 200, 200, 1]);
     Ok(())
 }
