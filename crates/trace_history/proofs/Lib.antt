@@ -7,11 +7,3 @@ pub mod OneFirst
 pub mod SomeFirst
 pub mod Replays
 pub mod Quiets
-pub mod WalkLaws
-pub mod ReadyLaws
-pub mod UpkeepLaws
-pub mod KeyLaws
-pub mod ActingLaws
-pub mod ActingUpkeep
-pub mod Keyed
-pub mod Upkept

@@ -2,8 +2,3 @@ pub mod Kept
 pub mod First
 pub mod Book
 pub mod Search
-pub mod Walk
-pub mod Ready
-pub mod Acting
-pub mod Upkeep
-pub mod Candidates

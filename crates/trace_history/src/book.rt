@@ -10,7 +10,6 @@ ghost use Rattle.trace_history.specs.Kept.{is_enabled};
 ghost use Rattle.trace_history.specs.Book.{Commits, IsAStart, IsAReduction, OnSolution};
 ghost use Rattle.trace_history.specs.Book.{IsStuck, IsQuiet, Finds, Replays};
 
-use crate::candidates::{Candidates, candidates_of, drop_all_idle, idle_of, renew, since_of};
 use crate::search::{first_event, is_stuck};
 use chem_commit::make_event;
 use chem_laws::{event_is_a_reduction, opening_is_a_start, replay_is_a_run, stuck_is_quiet};
@@ -57,21 +56,18 @@ impl Found {
     }
 }
 
-/// A program, the events since its opening, the numbered solution to which they lead, and what may
-/// be possible in it.
+/// A program, the events since its opening, and the numbered solution to which they lead.
 #[derive(Drop)]
 pub struct Book {
     program: Program,
     journal: Journal,
     solution: Numbered,
-    candidates: Candidates,
 }
 
 impl Model for Book {
     ghost use Rattle.std.specs.Prelude.{◌≡◌, Some};
     ghost use Rattle.chem_model.specs.Apply.{replay};
     ghost use Rattle.trace_history.specs.Kept.{Kept, kept_code};
-    ghost use Rattle.trace_history.specs.Candidates.{IsWhole};
 
     ghost Value = { Kept };
 
@@ -79,8 +75,7 @@ impl Model for Book {
 
     ghost view = { λ b. record { program = b.program; journal = b.journal } };
 
-    ghost invariant = { λ b.
-        (replay b.program b.journal ≡ Some b.solution) × IsWhole b.solution b.candidates };
+    ghost invariant = { λ b. replay b.program b.journal ≡ Some b.solution };
 }
 
 impl Book {
@@ -94,12 +89,10 @@ impl Book {
         let _ = &program.tops;
         let program = program.copy(alloc)?;
         let solution = opening(alloc, &program)?;
-        let candidates = candidates_of(alloc, &solution);
         Ok(Book {
             program,
             journal: Items::new(alloc),
             solution,
-            candidates,
         })
     }
 
@@ -117,14 +110,8 @@ impl Book {
         let place = self.journal.len();
         let copy = event.copy(alloc)?;
         self.journal.push(copy)?;
-        let since = since_of(&self.solution, event);
-        let idle = idle_of(&self.solution, event);
         match make_event(alloc, &mut self.solution, event) {
-            Ok(true) => {
-                renew(&mut self.candidates, &self.solution, since);
-                drop_all_idle(&mut self.candidates, &self.solution, idle);
-                Ok(Commit::Place(place as u64))
-            }
+            Ok(true) => Ok(Commit::Place(place as u64)),
             Ok(false) => {
                 self.journal.truncate(place);
                 Ok(Commit::NotEnabled)
@@ -150,7 +137,7 @@ impl Book {
     {
         self.is_sound();
         stuck_is_quiet();
-        is_stuck(&self.candidates, &self.solution)
+        is_stuck(&self.solution)
     }
 
     /// The event that comes first, where the site `from` is looked at first, and its site. None
@@ -163,7 +150,7 @@ impl Book {
         ensures memory { OnErr result (IsStuck self.now → ⊥) }
     {
         self.is_sound();
-        first_event(alloc, &self.candidates, &self.solution, from)
+        first_event(alloc, &self.solution, from)
     }
 
     /// The events since the opening.

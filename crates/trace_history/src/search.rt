@@ -8,12 +8,8 @@ ghost use Rattle.trace_history.specs.Search.{IsFirstOf, beats, receives, atom_be
 ghost use Rattle.trace_history.specs.Search.{is_met, AreLeast, is_ready, turn};
 ghost use Rattle.trace_history.specs.Search.{rule_before, can_act, request_before};
 ghost use Rattle.trace_history.specs.Search.{event_of, IsReaction, IsMeeting, IsFound};
-ghost use Rattle.trace_history.specs.Candidates.{IsWhole};
 
-use crate::acting::first_acting;
 use crate::book::Found;
-use crate::candidates::Candidates;
-use crate::ready::first_ready;
 use chem_model::{
     AtomId, Atoms, Event, Items, Loc, Memory, Numbered, NumberedAtom, NumberedRule, Pat, Pats,
     Proc, ProcNode,
@@ -99,7 +95,7 @@ fn is_met(numbered: &Numbered, at: Loc, pat: &Pat) -> bool
 }
 
 /// Whether a rule stands at a live location and each of its patterns receives a message.
-pub(crate) fn is_ready(numbered: &Numbered, rule: &NumberedRule) -> bool
+fn is_ready(numbered: &Numbered, rule: &NumberedRule) -> bool
     ensures { result ≡ is_ready numbered.now rule.now }
 {
     if !numbered.is_live(rule.loc) {
@@ -133,8 +129,8 @@ fn is_earlier_rule(
     }
 }
 
-/// The first of all rules that are ready.
-fn first_of_rules(numbered: &Numbered, from: u32) -> Option<&NumberedRule>
+/// The first of the rules that are ready.
+fn first_rule(numbered: &Numbered, from: u32) -> Option<&NumberedRule>
     ensures { IsFirstOf (is_ready numbered.now) (rule_before numbered.now from) numbered.now.rules
         (option_copied result) }
 {
@@ -148,7 +144,7 @@ fn first_of_rules(numbered: &Numbered, from: u32) -> Option<&NumberedRule>
 }
 
 /// Whether this is a request that can be met.
-pub(crate) fn can_act(numbered: &Numbered, atom: &NumberedAtom) -> bool
+fn can_act(numbered: &Numbered, atom: &NumberedAtom) -> bool
     ensures { result ≡ can_act numbered.now atom.now }
 {
     can_move(numbered, atom.id, atom)
@@ -176,8 +172,8 @@ fn is_earlier_request(
     }
 }
 
-/// The first of all requests that can be met.
-fn first_of_requests(numbered: &Numbered, from: u32) -> Option<&NumberedAtom>
+/// The first of the requests that can be met.
+fn first_request(numbered: &Numbered, from: u32) -> Option<&NumberedAtom>
     ensures { IsFirstOf (can_act numbered.now) (request_before numbered.now from) numbered.now.atoms
         (option_copied result) }
 {
@@ -188,44 +184,6 @@ fn first_of_requests(numbered: &Numbered, from: u32) -> Option<&NumberedAtom>
         }
     }
     first
-}
-
-/// The first of the rules that are ready: among the candidates where these are whole, else among
-/// all.
-fn first_rule<'a>(
-    candidates: &Candidates,
-    numbered: &'a Numbered,
-    from: u32,
-) -> Option<&'a NumberedRule>
-    requires sound { IsSound numbered.now }
-    requires whole { IsWhole numbered.now candidates.now }
-    ensures { IsFirstOf (is_ready numbered.now) (rule_before numbered.now from) numbered.now.rules
-        (option_copied result) }
-{
-    if candidates.whole && (from as usize) < numbered.counts.len() {
-        first_ready(&candidates.ready, numbered, from)
-    } else {
-        first_of_rules(numbered, from)
-    }
-}
-
-/// The first of the requests that can be met: among the candidates where these are whole, else
-/// among all.
-fn first_request<'a>(
-    candidates: &Candidates,
-    numbered: &'a Numbered,
-    from: u32,
-) -> Option<&'a NumberedAtom>
-    requires sound { IsSound numbered.now }
-    requires whole { IsWhole numbered.now candidates.now }
-    ensures { IsFirstOf (can_act numbered.now) (request_before numbered.now from) numbered.now.atoms
-        (option_copied result) }
-{
-    if candidates.whole && (from as usize) < numbered.counts.len() {
-        first_acting(&candidates.acting, numbered, from)
-    } else {
-        first_of_requests(numbered, from)
-    }
 }
 
 /// The reaction of a rule, by the least message for each of its patterns.
@@ -272,17 +230,15 @@ fn meeting(numbered: &Numbered, atom: &NumberedAtom) -> Option<Found>
 /// only where an event is possible.
 pub(crate) fn first_event(
     alloc: Global,
-    candidates: &Candidates,
     numbered: &Numbered,
     from: u32,
 ) -> Result<Option<Found>, Memory>
-    requires sound { IsSound numbered.now }
-    requires whole { IsWhole numbered.now candidates.now }
+    requires { IsSound numbered.now }
     ensures found { IfOk result (λ found. IsFound numbered.now from found) }
     ensures memory { OnErr result (IsFound numbered.now from None → ⊥) }
 {
-    match first_rule(candidates, numbered, from) {
-        Some(rule) => match first_request(candidates, numbered, from) {
+    match first_rule(numbered, from) {
+        Some(rule) => match first_request(numbered, from) {
             Some(request) => {
                 if turn(numbered, from, request.loc) < turn(numbered, from, rule.loc) {
                     return Ok(meeting(numbered, request));
@@ -295,7 +251,7 @@ pub(crate) fn first_event(
                 Ok(Some(found))
             }
         },
-        None => match first_request(candidates, numbered, from) {
+        None => match first_request(numbered, from) {
             Some(request) => Ok(meeting(numbered, request)),
             None => Ok(None),
         },
@@ -303,14 +259,13 @@ pub(crate) fn first_event(
 }
 
 /// Whether no event is possible.
-pub(crate) fn is_stuck(candidates: &Candidates, numbered: &Numbered) -> bool
-    requires sound { IsSound numbered.now }
-    requires whole { IsWhole numbered.now candidates.now }
+pub(crate) fn is_stuck(numbered: &Numbered) -> bool
+    requires { IsSound numbered.now }
     ensures { IsTrue result ↔ IsFound numbered.now 0 None }
 {
-    match first_rule(candidates, numbered, 0) {
+    match first_rule(numbered, 0) {
         Some(_) => false,
-        None => match first_request(candidates, numbered, 0) {
+        None => match first_request(numbered, 0) {
             Some(_) => false,
             None => true,
         },
