@@ -1,0 +1,5 @@
+pub mod Ranks
+pub mod Queueing
+pub mod Naming
+pub mod Putting
+pub mod Keeping
