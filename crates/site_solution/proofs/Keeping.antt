@@ -12,16 +12,20 @@ use Rattle.wire_packet.specs.declared.packet.Request.{Request}
 use Rattle.queue_cells.specs.Grouped.{Queued, lists_at, queue_in, with_queue, with_last}
 use Rattle.net_laws.specs.Site.{Told, Group, Site, told_in}
 use Rattle.net_laws.specs.Net.{among, home_or}
-use Rattle.net_laws.specs.Kept.{IsKept}
-use Rattle.net_laws.specs.Changes.{Takes}
+use Rattle.net_laws.specs.Kept.{IsKept, AreApart}
+use Rattle.net_laws.specs.Changes.{Takes, AreQueues}
 use Rattle.net_laws.specs.Posting.{with_queues}
-use Rattle.net_laws.specs.Holding.{put, with_request, without_request, in_groups}
-use Rattle.net_laws.proofs.Holding.{put_is}
+use Rattle.net_laws.specs.Holding.{put, put_all, with_request, without_request, in_groups, new_group, lay}
+use Rattle.net_laws.proofs.Holding.{put_is, lay_is}
 use Rattle.net_laws.proofs.Posting.{host_kept, each_with, fronts_go}
 use Rattle.site_solution.specs.declared.site.Site.TheInside.{Inside}
 use Rattle.site_solution.specs.Held.{queues_of, queues_in, queue_of, without_front, has_atom, in_groups_of, is_id_of}
-use Rattle.site_solution.specs.Index.{Rows, groups_of, told_of, holding, locate, same_key, IsIndex}
-use Rattle.site_solution.specs.Stored.{seen, HasNumbers, IsStored}
+use Rattle.site_solution.specs.Index.{Rows, Key, key_of, groups_of, told_of, holding, locate, same_key, IsIndex}
+use Rattle.site_solution.specs.declared.told.Spot.{Spot}
+use Rattle.std.proofs.lemmas.List.{length-append}
+use Rattle.chem_laws.proofs.Lists.{Each-append}
+use Rattle.site_solution.specs.Stored.{seen, IsStored}
+use Rattle.site_solution.specs.CanLay.{HasNumbers, CanLay}
 use Rattle.site_solution.proofs.Queueing.{queues-are}
 use Rattle.site_solution.proofs.Putting.{told-many, queue-set}
 
@@ -172,4 +176,43 @@ front-stored a new j c m h some front is =
       };
       numbers = subst (Each HasNumbers) (sym told) h.numbers;
       few = let many = sym (told-many new) ∙ ap length told ∙ told-many qs in omega (arith, h.few);
+    }
+
+-- ---- a group is laid
+
+-- the site would be stored with these groups, these stuck messages and this index
+pub record AreIndexed (a : Inside) (find : Key → Option Spot) (qs : Rows) (ws : List Waiting) : Type 0 where
+  pub kept : IsKept (holding (seen a) qs ws)
+  pub index : IsIndex find (groups_of qs)
+  pub numbers : Each HasNumbers (told_of qs)
+  pub few : length qs < 2 ^ 32
+
+pub room-stored : (a : Inside) (find : Key → Option Spot) (qs : Rows) → IsStored a → qs ≡ a.groups.groups → ((k : Key) → find k ≡ get same_key a.spots k) → AreIndexed a find qs a.stuck.items
+room-stored a find qs h groups same =
+    let back = sym groups in
+    record {
+      kept = subst (λ ps. IsKept (holding (seen a) ps a.stuck.items)) back h.kept;
+      index = record {
+        named = λ site k home. same (key_of site k home) ∙ h.index.named site k home ∙ ap (λ ps. locate (told_of ps) site k home) back;
+        queues = subst (λ ps. Each (λ (g : Group). AreQueues g.told.inst 0 g.told.counts g.queues) (groups_of ps)) back h.index.queues;
+        apart = subst (λ ps. AreApart (told_of ps)) back h.index.apart;
+      };
+      numbers = subst (λ ps. Each HasNumbers (told_of ps)) back h.numbers;
+      few = subst (λ (ps : Rows). length ps < 2 ^ 32) back h.few;
+    }
+
+pub laid-site : (s : Site) (more qs : Rows) (d e : Told) (stuck empty waiting ws : List Waiting) → groups_of more ≡ s.groups ++ new_group e ∷ [] → e ≡ d → empty ≡ [] → waiting ≡ s.stuck → put_all waiting (holding s more empty) ≡ holding s qs ws → holding s qs ws ≡ lay d s
+laid-site s more qs d e stuck empty waiting ws groups told none there put =
+    sym put ∙ ap (λ vs. put_all vs (holding s more empty)) there ∙ ap (λ vs. put_all s.stuck (holding s more vs)) none ∙ ap (λ gs. put_all s.stuck (record s { groups = gs; stuck = [] })) groups ∙ ap (λ (x : Told). lay x s) told
+
+pub laid-stored : (a : Inside) (find : Key → Option Spot) (qs : Rows) (ws : List Waiting) (d : Told) → IsStored a → CanLay d (seen a) → holding (seen a) qs ws ≡ lay d (seen a) → IsIndex find (groups_of qs) → length a.groups.groups + 1 < 2 ^ 32 → AreIndexed a find qs ws
+laid-stored a find qs ws d h can is index few =
+    let laid = lay_is d (seen a) h.kept can.here can.apart in
+    let told : told_of qs ≡ told_of a.groups.groups ++ d ∷ [] = ap (λ (s : Site). told_in s.groups) is ∙ laid.told in
+    let many = sym (told-many qs) ∙ ap length told ∙ length-append (told_of a.groups.groups) (d ∷ []) in
+    record {
+      kept = subst IsKept (sym is) laid.kept;
+      index = index;
+      numbers = subst (Each HasNumbers) (sym told) (Each-append HasNumbers (told_of a.groups.groups) (d ∷ []) h.numbers (can.numbers, tt));
+      few = omega (arith, few, told-many a.groups.groups);
     }

@@ -1,4 +1,5 @@
 pub mod Told
+pub mod CanLay
 pub mod Held
 pub mod Rising
 pub mod Index

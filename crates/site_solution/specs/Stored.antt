@@ -5,6 +5,7 @@ use Rattle.chem_model.specs.Each.{Each}
 use Rattle.net_laws.specs.Site.{Told, Site, told_in}
 use Rattle.net_laws.specs.Kept.{IsKept}
 use Rattle.site_solution.specs.declared.site.Site.TheInside.{Inside}
+use Rattle.site_solution.specs.CanLay.{HasNumbers}
 use Rattle.site_solution.specs.Index.{groups_of, same_key, IsIndex}
 
 abbrev pub seen : Inside → Site
@@ -16,11 +17,6 @@ seen a = record {
   stuck = a.stuck.items;
   requests = a.requests;
 }
-
--- its channels and rules have numbers of 64 bits
-pub record HasNumbers (d : Told) : Type 0 where
-  pub chans : d.inst.chans.k + length d.counts ≤ 2 ^ 64
-  pub rules : d.inst.rules.k + d.guards ≤ 2 ^ 64
 
 pub record IsStored (a : Inside) : Type 0 where
   pub kept : IsKept (seen a)

@@ -7,19 +7,23 @@ ghost use Rattle.net_laws.specs.Site.{Group, told_in};
 ghost use Rattle.net_laws.specs.Net.{among, home_or};
 ghost use Rattle.net_laws.specs.Opening.{empty_site};
 ghost use Rattle.net_laws.specs.Posting.{with_queues};
-ghost use Rattle.net_laws.specs.Holding.{put, ask, host_all, request_with, drop_request};
+ghost use Rattle.site_solution.specs.Told.{told_by};
+ghost use Rattle.site_solution.specs.CanLay.{CanLay};
+ghost use Rattle.net_laws.specs.Holding.{put, ask, lay, host_all, request_with, drop_request};
 ghost use Rattle.queue_cells.specs.Grouped.{AllHeld};
 ghost use Rattle.status_words.specs.Words.{number_of_words};
 ghost use Rattle.site_solution.specs.Held.{queues_of, queue_of, without_front, inst_in, has_atom};
 
 use crate::asked::Asked;
-use crate::finding::{Spots, find};
+use crate::finding::{Spots, add_group, find, settle};
 use crate::told::Told;
 use chem_model::{AtomId, Items, Loc, Memory, same_loc};
-use queue_cells::Groups;
+use env_store::Code;
+use queue_cells::{Groups, Idle};
 use std::alloc::Global;
 use std::collections::HashMap;
 use std::marker::Model;
+use std::mem;
 use wire_packet::{GroupInst, Msg, Request, Waiting};
 
 /// What one root hosts. Contracts see its number, how many numbers it has made, its locations, its
@@ -150,6 +154,49 @@ impl Site {
             Some(spot) => self.groups.push_back(spot.group, spot.chan, msg),
             None => keep(&mut self.stuck, *loc, msg),
         }
+    }
+
+    /// Lays a group of a level of the code. What is stuck for one of its channels goes into its
+    /// queue, in the order in which it came.
+    pub fn lay(&mut self, alloc: Global, code: &Code, group: GroupInst) -> Result<(), Memory>
+        requires may { CanLay (told_by code.now group) self.old }
+        requires level { group.level < length code.now.levels }
+        ensures ok { OnOk result (self.new ≡ lay (told_by code.now group) self.old) }
+        ensures err { OnErr result (self.new ≡ self.old) }
+    {
+        let level = &code.levels.as_slice()[group.level as usize];
+        let counts = level.counts.copy(alloc)?;
+        let told = Told {
+            inst: group,
+            counts,
+            guards: level.guards,
+        };
+        self.add(alloc, told)
+    }
+
+    // Lays a group of which this is told.
+    fn add(&mut self, alloc: Global, told: Told) -> Result<(), Memory>
+        requires { CanLay told self.old }
+        ensures ok { OnOk result (self.new ≡ lay told self.old) }
+        ensures err { OnErr result (self.new ≡ self.old) }
+    {
+        if self.groups.len() >= u32::MAX as usize {
+            return Err(Memory);
+        }
+        let first = told.inst.chans;
+        let home = told.inst.loc;
+        let width = told.counts.len() as u32;
+        let count = self.stuck.len();
+        self.groups.reserve(count)?;
+        self.groups.reserve_groups(1)?;
+        self.spots.reserve(width as usize)?;
+        let mut rest = Vec::with_capacity(alloc, count)?;
+        let idle = Idle::new(alloc, told, width)?;
+        add_group(&mut self.groups, &mut self.spots, idle, first, home, width);
+        let waiting = mem::replace(&mut self.stuck, Vec::new(alloc));
+        settle(&mut self.groups, &self.spots, &mut rest, waiting);
+        self.stuck = rest;
+        Ok(())
     }
 
     /// Drops the front of the queue of one of a group's channels.
