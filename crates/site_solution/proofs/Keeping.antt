@@ -1,5 +1,5 @@
 -- What each call keeps of a site.
-use Rattle.std.proofs.Common.{◌≡◌, ℕ, zero, suc, ◌+◌, ◌<◌, ◌≤◌, ◌^◌, Bool, true, false, cond, List, [], ◌∷◌, ◌++◌, length, Option, Some, None, Result, Ok, Err, refl, sym, ap, subst, ◌∙◌, arith}
+use Rattle.std.proofs.Common.{◌≡◌, ℕ, zero, suc, ◌+◌, ◌<◌, ◌^◌, Bool, true, false, cond, List, [], ◌∷◌, ◌++◌, length, Option, Some, None, Result, Ok, Err, refl, sym, ap, subst, ◌∙◌, arith}
 use Rattle.std.specs.Prelude.{slice_get, slice_set, slice_index_or, drop, OnOk, OnErr}
 use Rattle.std.specs.HashMap.{get}
 use Rattle.chem_model.specs.declared.name.Loc.{Loc}
@@ -9,17 +9,17 @@ use Rattle.chem_model.specs.Each.{Each}
 use Rattle.wire_packet.specs.MessageFacts.{MessageParts}
 use Rattle.wire_packet.specs.declared.packet.Waiting.{Waiting}
 use Rattle.wire_packet.specs.declared.packet.Request.{Request}
-use Rattle.queue_cells.specs.Grouped.{Queued, lists_at, queue_in, with_queue, with_last}
+use Rattle.queue_cells.specs.Grouped.{lists_at, queue_in, with_queue}
 use Rattle.net_laws.specs.Site.{Told, Group, Site, told_in}
 use Rattle.net_laws.specs.Net.{among, home_or}
 use Rattle.net_laws.specs.Kept.{IsKept, AreApart}
 use Rattle.net_laws.specs.Changes.{Takes, AreQueues}
 use Rattle.net_laws.specs.Posting.{with_queues}
-use Rattle.net_laws.specs.Holding.{put, put_all, with_request, without_request, in_groups, new_group, lay}
+use Rattle.net_laws.specs.Holding.{put, put_all, with_request, without_request, new_group, lay}
 use Rattle.net_laws.proofs.Holding.{put_is, lay_is}
 use Rattle.net_laws.proofs.Posting.{host_kept, each_with, fronts_go}
 use Rattle.site_solution.specs.declared.site.Site.TheInside.{Inside}
-use Rattle.site_solution.specs.Held.{queues_of, queues_in, queue_of, without_front, has_atom, in_groups_of, is_id_of}
+use Rattle.site_solution.specs.Held.{queues_in, queue_of, without_front}
 use Rattle.site_solution.specs.Index.{Rows, Key, key_of, groups_of, told_of, holding, locate, same_key, IsIndex}
 use Rattle.site_solution.specs.declared.told.Spot.{Spot}
 use Rattle.std.proofs.lemmas.List.{length-append}

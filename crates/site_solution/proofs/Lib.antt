@@ -3,3 +3,4 @@ pub mod Queueing
 pub mod Naming
 pub mod Putting
 pub mod Keeping
+pub mod Walked

@@ -1,13 +1,12 @@
 -- What is put, laid and taken, for a site with groups as queue_cells has them.
-use Rattle.std.proofs.Common.{◌≡◌, ℕ, zero, suc, ◌+◌, ◌<◌, ◌≤◌, Bool, true, false, cond, List, [], ◌∷◌, ◌++◌, length, Option, Some, None, refl, sym, ap, subst, ◌∙◌, arith}
-use Rattle.std.specs.Prelude.{slice_get, slice_set, slice_index_or, drop, replicate}
+use Rattle.std.proofs.Common.{◌≡◌, ℕ, zero, suc, List, [], ◌∷◌, ◌++◌, length, Some, None, refl, sym, ap, ◌∙◌}
+use Rattle.std.specs.Prelude.{slice_get, slice_set, replicate}
 use Rattle.chem_model.specs.declared.name.Loc.{Loc}
 use Rattle.wire_packet.specs.MessageFacts.{MessageParts}
 use Rattle.wire_packet.specs.declared.packet.Waiting.{Waiting}
-use Rattle.queue_cells.specs.Grouped.{Queued, lists_at, queue_in, with_queue, with_last, idle_group}
+use Rattle.queue_cells.specs.Grouped.{Queued, with_queue, idle_group}
 use Rattle.net_laws.specs.Site.{Told, Group, Site, told_in}
-use Rattle.net_laws.specs.Holding.{in_groups, put_in, put, put_all, empty_queues, new_group, lay}
-use Rattle.site_solution.specs.Held.{queues_of, without_front}
+use Rattle.net_laws.specs.Holding.{in_groups, put_in, put, put_all, empty_queues, new_group}
 use Rattle.site_solution.specs.Index.{Rows, groups_of, told_of, holding}
 
 pub put-queued : (s : Site) (qs new : Rows) (ws : List Waiting) (l : Loc) (m : MessageParts) → in_groups (groups_of qs) m ≡ Some (groups_of new) → put l m (holding s qs ws) ≡ holding s new ws

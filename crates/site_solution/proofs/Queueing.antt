@@ -1,6 +1,6 @@
 -- The queue of a channel: where it is, and what it is for the groups as the laws see them.
 use Rattle.std.proofs.Common.{◌≡◌, ℕ, zero, suc, ◌+◌, ◌-◌, ◌<◌, ◌≤◌, Bool, true, false, cond, List, [], ◌∷◌, ◌++◌, length, Option, Some, None, refl, sym, ap, subst, ◌∙◌, arith, eqb-true, eq-eqb}
-use Rattle.std.specs.Prelude.{slice_get, slice_set, slice_index_or, ◌&&◌, ◌==◌, nat_lt, drop}
+use Rattle.std.specs.Prelude.{slice_get, slice_set, slice_index_or, ◌&&◌, ◌==◌, nat_lt}
 use Rattle.std.proofs.lemmas.Bool.{and_parts}
 use Rattle.std.proofs.lemmas.Bool.Decides.{nat_tests}
 use Rattle.chem_model.specs.declared.name.Loc.{Loc}
@@ -10,11 +10,11 @@ use Rattle.chem_model.specs.Each.{Each}
 use Rattle.chem_model.specs.Numbered.{same_name}
 use Rattle.chem_model.specs.Solution.{same_loc}
 use Rattle.chem_laws.proofs.Lists.{true_both, Each-weaker, Each-right, is_false}
-use Rattle.chem_laws.proofs.Taking.{same_name_is, same_name_refl}
+use Rattle.chem_laws.proofs.Taking.{same_name_refl}
 use Rattle.chem_laws.proofs.Within.{same_loc_is, same_loc_refl}
 use Rattle.wire_packet.specs.MessageFacts.{MessageParts}
 use Rattle.wire_packet.specs.declared.packet.GroupInst.{GroupInst}
-use Rattle.queue_cells.specs.Grouped.{Queued, lists_at, queue_in, with_queue, with_last}
+use Rattle.queue_cells.specs.Grouped.{Queued, lists_at, with_last}
 use Rattle.net_laws.specs.Site.{Told, Group, told_in}
 use Rattle.net_laws.specs.Changes.{channel_of, AreQueues}
 use Rattle.net_laws.specs.Kept.{Fits, FitsNone, AreDisjoint, AreApart}
@@ -23,7 +23,7 @@ use Rattle.net_laws.proofs.Holding.{on_is, AreAllQueues, in_groups_is}
 use Rattle.net_laws.proofs.Holds.{each_get}
 use Rattle.site_solution.specs.declared.told.Spot.{Spot}
 use Rattle.site_solution.specs.Held.{queues_of}
-use Rattle.site_solution.specs.Index.{Rows, Key, groups_of, told_of, has_channel, is_one_of, locate_from, locate, is_count, on_count, counts_in, with_count, spot_on, spot_of, IsIndex}
+use Rattle.site_solution.specs.Index.{Rows, Key, groups_of, told_of, has_channel, locate_from, locate, is_count, on_count, counts_in, with_count, spot_on, spot_of, IsIndex}
 
 -- ---- groups as queue_cells has them
 

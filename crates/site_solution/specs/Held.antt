@@ -1,5 +1,5 @@
 -- What a site holds: its queues, and the ids of what waits there.
-use Rattle.std.specs.Prelude.{ℕ, Bool, false, ◌||◌, List, [], ◌∷◌, Option, Some, None, is_some}
+use Rattle.std.specs.Prelude.{ℕ, Bool, ◌||◌, List, [], Option, Some, None, is_some}
 use Rattle.std.specs.Prelude.{slice_get, slice_index_or, drop, slice_set}
 use Rattle.std.specs.List.{list_any}
 use Rattle.chem_model.specs.declared.event.AtomId.{AtomId}
@@ -38,12 +38,10 @@ abbrev pub is_id_of : AtomId → MessageParts → Bool
 is_id_of i m = same_atom m.id i
 
 abbrev pub in_queues : AtomId → List (List MessageParts) → Bool
-in_queues i [] = false
-in_queues i (q ∷ qs) = list_any (is_id_of i) q || in_queues i qs
+in_queues i qs = list_any (list_any (is_id_of i)) qs
 
 abbrev pub in_groups_of : AtomId → List Group → Bool
-in_groups_of i [] = false
-in_groups_of i (g ∷ gs) = in_queues i g.queues || in_groups_of i gs
+in_groups_of i gs = list_any (λ (g : Group). in_queues i g.queues) gs
 
 -- a waiting message or a request has this id
 abbrev pub has_atom : AtomId → Site → Bool

@@ -1,8 +1,8 @@
 -- How a site lies in its fields. No public contract cites it.
-use Rattle.std.specs.Prelude.{◌≤◌, ◌<◌, ◌+◌, ◌^◌, length}
+use Rattle.std.specs.Prelude.{◌<◌, ◌^◌, length}
 use Rattle.std.specs.HashMap.{get}
 use Rattle.chem_model.specs.Each.{Each}
-use Rattle.net_laws.specs.Site.{Told, Site, told_in}
+use Rattle.net_laws.specs.Site.{Site, told_in}
 use Rattle.net_laws.specs.Kept.{IsKept}
 use Rattle.site_solution.specs.declared.site.Site.TheInside.{Inside}
 use Rattle.site_solution.specs.CanLay.{HasNumbers}

@@ -6,6 +6,8 @@
 mod asked;
 mod finding;
 mod site;
+mod testing;
 mod told;
+mod walking;
 
 pub use site::Site;

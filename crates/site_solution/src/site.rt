@@ -12,13 +12,25 @@ ghost use Rattle.site_solution.specs.CanLay.{CanLay};
 ghost use Rattle.net_laws.specs.Holding.{put, ask, lay, host_all, request_with, drop_request};
 ghost use Rattle.queue_cells.specs.Grouped.{AllHeld};
 ghost use Rattle.status_words.specs.Words.{number_of_words};
+ghost use Rattle.std.specs.List.{list_all};
+ghost use Rattle.std.specs.Prelude.{is_some};
+ghost use Rattle.loc_tree.specs.Tree.{spot};
+ghost use Rattle.chem_model.specs.declared.name.Loc.{Loc};
+ghost use Rattle.site_solution.specs.InCode.{is_in_code};
+ghost use Rattle.site_solution.specs.Draws.{all_drawn, CanDraw};
+ghost use Rattle.site_solution.specs.InTree.{has_number, is_in_tree};
 ghost use Rattle.site_solution.specs.Held.{queues_of, queue_of, without_front, inst_in, has_atom};
 
 use crate::asked::Asked;
 use crate::finding::{Spots, add_group, find, settle};
+use crate::testing::{
+    Count, are_told_by, groups_are_drawn, locs_are_drawn, requests_are_drawn, stuck_are_drawn,
+};
 use crate::told::Told;
+use crate::walking::{groups_are_there, in_groups, in_stuck, requests_are_there, stuck_are_there};
 use chem_model::{AtomId, Items, Loc, Memory, same_loc};
 use env_store::Code;
+use loc_tree::LocTree;
 use queue_cells::{Groups, Idle};
 use std::alloc::Global;
 use std::collections::HashMap;
@@ -175,7 +187,7 @@ impl Site {
     }
 
     // Lays a group of which this is told.
-    fn add(&mut self, alloc: Global, told: Told) -> Result<(), Memory>
+    pub(crate) fn add(&mut self, alloc: Global, told: Told) -> Result<(), Memory>
         requires { CanLay told self.old }
         ensures ok { OnOk result (self.new ≡ lay told self.old) }
         ensures err { OnErr result (self.new ≡ self.old) }
@@ -228,6 +240,73 @@ impl Site {
         count
     }
 
+    /// Whether a waiting message or a request has this id.
+    pub fn has_atom(&self, atom: &AtomId) -> bool
+        ensures { result ≡ has_atom atom.now self.now }
+    {
+        in_groups(&self.groups, *atom)
+            || in_stuck(&self.stuck, *atom)
+            || self.requests.find(*atom).is_some()
+    }
+
+    // Whether each location here is in the tree with the number of the site.
+    fn locs_are_there(&self, tree: &LocTree) -> bool
+        ensures { result ≡ list_all (has_number tree.now self.now.number) self.now.locs }
+    {
+        for loc in self.locs.as_slice() {
+            if !(tree.holds(loc) && tree.root(loc) == self.number) {
+                return false;
+            }
+        }
+        true
+    }
+
+    /// Whether each location here is in the tree with the number of the site, its root is one of
+    /// them, and each location and each home of a channel that an environment, a waiting message or
+    /// a request names is in the tree.
+    pub fn in_tree(&self, tree: &LocTree) -> bool
+        ensures { result ≡ is_in_tree tree.now self.now }
+    {
+        let root = Loc {
+            site: self.number,
+            k: 0,
+        };
+        self.locs_are_there(tree)
+            && self.has(&root)
+            && groups_are_there(tree, &self.groups)
+            && stuck_are_there(tree, &self.stuck)
+            && requests_are_there(tree, self.requests.as_slice())
+    }
+
+    /// Whether each group is of a level of the code, with the counts, the guards and the length of
+    /// environments that the level has, and each location of the code's `tops` is in the tree.
+    pub fn in_code(&self, code: &Code, tree: &LocTree) -> bool
+        ensures { result ≡ is_in_code code.now tree.now self.now }
+    {
+        are_told_by(code, &self.groups) && tops_are_there(tree, code.tops.as_slice())
+    }
+
+    /// Whether the count is below 2^63, each location, rule, channel and atom that this site made
+    /// and holds has a number below it, and so has each location of the tree that this site made.
+    pub fn can_draw(&self, tree: &LocTree) -> bool
+        ensures { IsTrue result ↔ CanDraw tree.now self.now }
+    {
+        self.made < 1 << 63 && self.all_drawn() && tree.fresh(self.number, self.made)
+    }
+
+    fn all_drawn(&self) -> bool
+        ensures { result ≡ all_drawn self.now }
+    {
+        let count = Count {
+            number: self.number,
+            made: self.made,
+        };
+        locs_are_drawn(count, self.locs.as_slice())
+            && groups_are_drawn(count, &self.groups)
+            && stuck_are_drawn(count, &self.stuck)
+            && requests_are_drawn(count, self.requests.as_slice())
+    }
+
     /// Adds a request.
     pub fn ask(&mut self, request: Request) -> Result<(), Memory>
         requires here { among self.old.locs request.loc ≡ true }
@@ -245,6 +324,17 @@ impl Site {
     {
         self.requests.remove(*atom);
     }
+}
+
+fn tops_are_there(tree: &LocTree, tops: &[Loc]) -> bool
+    ensures { result ≡ list_all (λ (l : Loc). is_some (spot tree.now l)) tops.now }
+{
+    for loc in tops {
+        if !tree.holds(loc) {
+            return false;
+        }
+    }
+    true
 }
 
 // Keeps a message that no queue takes, or hands it back.

@@ -1,8 +1,7 @@
-use Rattle.std.proofs.Common.{◌≡◌, ◌∙◌, ◌∷◌, ◌++◌, [], length, ℕ, sym, ap}
+use Rattle.std.proofs.Common.{◌∙◌, ◌∷◌, ◌++◌, [], sym, ap}
 use Rattle.std.specs.HashMap as hash
 use Rattle.queue_cells.specs.Grouped.{idle_group}
-use Rattle.net_laws.specs.Holding.{new_group}
-use Rattle.site_solution.specs.Index.{Rows, groups_of, same_key}
+use Rattle.site_solution.specs.Index.{groups_of, same_key}
 use Rattle.site_solution.proofs.Putting.{group-laid}
 use Rattle.site_solution.proofs.Naming.{index-added}
 use Rattle.site_solution.proofs.finding.add_group.Goals as goal

@@ -1,8 +1,8 @@
-use Rattle.std.proofs.Common.{◌≡◌, sym, ◌∙◌, ap, length, Some, ◌-◌, ℕ}
+use Rattle.std.proofs.Common.{sym, ◌∙◌, ap, length}
 use Rattle.std.specs.Prelude.{slice_get}
 use Rattle.std.specs.HashMap as hash
 use Rattle.site_solution.specs.Index.{same_key, on_count}
-use Rattle.site_solution.proofs.Queueing.{taken, not_taken, found-group, spot-is}
+use Rattle.site_solution.proofs.Queueing.{found-group, spot-is}
 use Rattle.site_solution.proofs.finding.find.Goals as goal
 
 pub told-requires : goal.told-requires

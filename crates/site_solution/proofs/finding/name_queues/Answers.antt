@@ -1,4 +1,4 @@
-use Rattle.std.proofs.Common.{◌≡◌, ◌<◌, ◌≤◌, ◌+◌, arith}
+use Rattle.std.proofs.Common.{◌<◌, arith}
 use Rattle.std.specs.HashMap as hash
 use Rattle.std.specs.HashMap.{spare}
 use Rattle.site_solution.specs.Index.{same_key, key_of}

@@ -1,4 +1,4 @@
-use Rattle.std.proofs.Common.{◌≡◌, sym, ◌∙◌, ap, subst, length, Some, None, ◌-◌, ◌∷◌, ◌+◌, ◌<◌, ◌≤◌, ℕ, arith, rules}
+use Rattle.std.proofs.Common.{◌≡◌, sym, ◌∙◌, ap, subst, length, Some, None, ◌∷◌, arith, rules}
 use Rattle.std.specs.HashMap as hash
 use Rattle.std.specs.Vec.Iter.{into_iter_items}
 use Rattle.net_laws.specs.Holding.{put_all}

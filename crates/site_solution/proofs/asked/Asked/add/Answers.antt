@@ -1,9 +1,7 @@
-use Rattle.std.proofs.Common.{◌≡◌, ◌<◌, ◌≤◌, Some, None, true, false, cond, arith, length, ap, subst, sym, ◌∙◌}
-use Rattle.std.specs.Prelude.{insert, remove, slice_get, IsSome}
-use Rattle.wire_packet.specs.declared.packet.Request.{Request}
-use Rattle.net_laws.specs.Holding.{with_request, without_request, request_with}
-use Rattle.site_solution.specs.Rising.{rank, Rising}
-use Rattle.site_solution.proofs.Ranks.{request-at, if_same, insert-at_rank, Rising-with, length-with, Rising-without, remove-at_rank, rank-below_length, slice_get-read, slice_get-past}
+use Rattle.std.proofs.Common.{◌≡◌, arith, ap, sym, ◌∙◌}
+use Rattle.std.specs.Prelude.{insert}
+use Rattle.site_solution.specs.Rising.{rank}
+use Rattle.site_solution.proofs.Ranks.{insert-at_rank, Rising-with, length-with}
 use Rattle.site_solution.proofs.asked.Asked.add.Goals as goal
 
 pub invariant_of-self-2 : goal.invariant_of-self-2

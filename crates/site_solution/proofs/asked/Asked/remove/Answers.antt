@@ -1,9 +1,7 @@
-use Rattle.std.proofs.Common.{◌≡◌, ◌<◌, ◌≤◌, Some, None, true, false, cond, arith, length, ap, subst, sym, ◌∙◌}
-use Rattle.std.specs.Prelude.{insert, remove, slice_get, IsSome}
-use Rattle.wire_packet.specs.declared.packet.Request.{Request}
-use Rattle.net_laws.specs.Holding.{with_request, without_request, request_with}
-use Rattle.site_solution.specs.Rising.{rank, Rising}
-use Rattle.site_solution.proofs.Ranks.{request-at, if_same, insert-at_rank, Rising-with, Rising-without, length-without, remove-at_rank, rank-below_length, slice_get-read, slice_get-past}
+use Rattle.std.proofs.Common.{◌≡◌, arith, ap, sym, ◌∙◌}
+use Rattle.std.specs.Prelude.{remove}
+use Rattle.site_solution.specs.Rising.{rank}
+use Rattle.site_solution.proofs.Ranks.{Rising-without, length-without, remove-at_rank, rank-below_length}
 use Rattle.site_solution.proofs.asked.Asked.remove.Goals as goal
 
 pub remove-requires : goal.remove-requires

@@ -1,8 +1,8 @@
-use Rattle.std.proofs.Common.{rules, ◌≡◌, ◌+◌, ◌<◌, ◌≤◌, ◌^◌, ◌∙◌, ◌∷◌, ◌++◌, [], length, Some, None, true, false, ℕ, List, sym, ap, subst, arith}
+use Rattle.std.proofs.Common.{◌+◌, ◌<◌, ◌^◌, ◌∙◌, ◌∷◌, ◌++◌, [], length, ap, arith}
 use Rattle.std.specs.HashMap as hash
-use Rattle.site_solution.specs.Index.{Rows, groups_of, same_key, holding}
+use Rattle.site_solution.specs.Index.{Rows, groups_of, same_key}
 use Rattle.site_solution.specs.Stored.{seen}
-use Rattle.net_laws.specs.Holding.{lay, new_group}
+use Rattle.net_laws.specs.Holding.{new_group}
 use Rattle.site_solution.proofs.Keeping.{room-stored, laid-site, laid-stored}
 use Rattle.site_solution.proofs.site.Site.add.Goals as goal
 

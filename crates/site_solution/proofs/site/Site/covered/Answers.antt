@@ -1,11 +1,8 @@
-use Rattle.std.proofs.Common.{rules, ◌≡◌, ◌+◌, ◌<◌, ◌≤◌, ◌∙◌, ◌∷◌, ◌++◌, [], length, Some, None, true, false, ℕ, List, sym, ap, subst, arith}
-use Rattle.std.specs.Prelude.{slice_get, slice_set, drop}
-use Rattle.std.specs.HashMap as hash
+use Rattle.std.proofs.Common.{◌∙◌, length, sym, ap, subst, arith}
 use Rattle.site_solution.proofs.Queueing.{groups-many, queues-are}
-use Rattle.queue_cells.specs.Grouped.{lists_at, AllHeld}
+use Rattle.queue_cells.specs.Grouped.{AllHeld}
 use Rattle.std.specs.Prelude.{◌↔◌, IsTrue}
 use Rattle.status_words.specs.Words.{number_of_words}
-use Rattle.site_solution.specs.Held.{queues_of}
 use Rattle.site_solution.proofs.site.Site.covered.Goals as goal
 
 pub covers-requires-clause-group : goal.covers-requires-clause-group

@@ -1,8 +1,6 @@
-use Rattle.std.proofs.Common.{rules, ◌≡◌, ◌+◌, ◌<◌, ◌≤◌, ◌∙◌, ◌∷◌, ◌++◌, [], length, Some, None, true, false, ℕ, List, sym, ap, subst, arith}
-use Rattle.std.specs.Prelude.{slice_get, slice_set, drop}
-use Rattle.std.specs.HashMap as hash
+use Rattle.std.proofs.Common.{sym, subst}
 use Rattle.site_solution.proofs.Keeping.{drop-stored}
-use Rattle.site_solution.specs.Stored.{seen, IsStored}
+use Rattle.site_solution.specs.Stored.{IsStored}
 use Rattle.site_solution.proofs.site.Site.drop_request.Goals as goal
 
 pub invariant_of-self : goal.invariant_of-self

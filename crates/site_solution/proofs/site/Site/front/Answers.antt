@@ -1,6 +1,5 @@
-use Rattle.std.proofs.Common.{rules, ◌≡◌, ◌+◌, ◌<◌, ◌≤◌, ◌∙◌, ◌∷◌, ◌++◌, [], length, Some, None, true, false, ℕ, List, sym, ap, subst, arith}
-use Rattle.std.specs.Prelude.{slice_get, slice_set, drop}
-use Rattle.std.specs.HashMap as hash
+use Rattle.std.proofs.Common.{◌∙◌, [], length, sym, ap, arith}
+use Rattle.std.specs.Prelude.{slice_get}
 use Rattle.site_solution.proofs.Queueing.{groups-many, queues-are}
 use Rattle.std.specs.Prelude.{slice_index_or}
 use Rattle.site_solution.proofs.site.Site.front.Goals as goal

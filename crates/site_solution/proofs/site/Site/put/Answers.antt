@@ -1,12 +1,11 @@
-use Rattle.std.proofs.Common.{rules, ◌≡◌, ◌+◌, ◌<◌, ◌≤◌, ◌∙◌, ◌∷◌, ◌++◌, [], length, Some, None, true, false, ℕ, List, sym, ap, subst, arith}
-use Rattle.std.specs.Prelude.{slice_get, slice_set, drop}
+use Rattle.std.proofs.Common.{◌≡◌, ◌∙◌, None, sym}
 use Rattle.std.specs.HashMap as hash
 use Rattle.site_solution.proofs.Queueing.{taken, not_taken}
 use Rattle.site_solution.proofs.Putting.{put-queued, put-stuck}
 use Rattle.site_solution.proofs.Keeping.{either, on-success, AreStored, as-stored, put-stored}
-use Rattle.site_solution.specs.Index.{Rows, groups_of, told_of, same_key, spot_of, holding}
+use Rattle.site_solution.specs.Index.{Rows, told_of, same_key, spot_of, holding}
 use Rattle.net_laws.specs.Holding.{put}
-use Rattle.site_solution.specs.Stored.{seen, IsStored}
+use Rattle.site_solution.specs.Stored.{seen}
 use Rattle.site_solution.proofs.site.Site.put.Goals as goal
 
 pub push_back-requires-clause-group : goal.push_back-requires-clause-group

@@ -1,10 +1,6 @@
-use Rattle.std.proofs.Common.{rules, ◌≡◌, ◌+◌, ◌<◌, ◌≤◌, ◌∙◌, ◌∷◌, ◌++◌, [], length, Some, None, true, false, ℕ, List, sym, ap, subst, arith}
-use Rattle.std.specs.Prelude.{slice_get, slice_set, drop}
-use Rattle.std.specs.HashMap as hash
 use Rattle.site_solution.proofs.Keeping.{waiting, front-site, front-stored}
 use Rattle.site_solution.specs.Index.{groups_of}
-use Rattle.site_solution.specs.Held.{queue_of}
-use Rattle.site_solution.specs.Stored.{seen, IsStored}
+use Rattle.site_solution.specs.Stored.{seen}
 use Rattle.site_solution.proofs.site.Site.take_front.Goals as goal
 
 pub take_front-requires-clause-group : goal.take_front-requires-clause-group
