@@ -1,5 +1,6 @@
 // The queue of a message's channel.
-ghost use Rattle.std.specs.Prelude.{◌≡◌, ◌≤◌, ◌+◌, ◌-◌, ◌^◌, ◌++◌, ◌∷◌, [], ℕ, Some, cond, length, slice_get};
+ghost use Rattle.std.specs.Prelude.{◌≡◌, ◌≤◌, ◌+◌, ◌-◌, ◌^◌, ◌++◌};
+ghost use Rattle.std.specs.Prelude.{◌∷◌, [], ℕ, Some, cond, length, slice_get};
 ghost use Rattle.std.specs.Prelude.{vec_capacity};
 ghost use Rattle.std.specs.HashMap as hash;
 ghost use Rattle.std.specs.HashMap.{spare};
@@ -8,7 +9,8 @@ ghost use Rattle.net_laws.specs.Site.{Site};
 ghost use Rattle.net_laws.specs.Kept.{AreApart};
 ghost use Rattle.net_laws.specs.Holding.{put_all, new_group};
 ghost use Rattle.site_solution.specs.Index.{key_of, is_one_of, holding};
-ghost use Rattle.site_solution.specs.Index.{groups_of, told_of, same_key, spot_of, on_count, IsIndex};
+ghost use Rattle.site_solution.specs.Index.{groups_of, told_of, same_key, spot_of};
+ghost use Rattle.site_solution.specs.Index.{on_count, IsIndex};
 
 use crate::told::{Spot, Told};
 use chem_model::{AtomId, Loc, Name};
@@ -97,7 +99,8 @@ pub(crate) fn add_group(
     requires fits { first.k + width ≤ 2 ^ 64 }
     requires apart { AreApart (told_of groups.old.groups ++ idle.told ∷ []) }
     requires room { (1 ≤ groups.old.spare_groups) × (width ≤ spare spots.old) }
-    ensures groups { groups_of groups.new.groups ≡ groups_of groups.old.groups ++ new_group idle.told ∷ [] }
+    ensures groups { groups_of groups.new.groups
+        ≡ groups_of groups.old.groups ++ new_group idle.told ∷ [] }
     ensures many { length groups.new.groups ≡ length groups.old.groups + 1 }
     ensures spare { groups.new.spare ≡ groups.old.spare }
     ensures index { IsIndex (hash.get same_key spots.new) (groups_of groups.new.groups) }

@@ -137,7 +137,8 @@ impl Site {
     /// channel of the mask has a message in its queue.
     pub fn covered(&self, group: u32, mask: &[u64]) -> bool
         requires group { group < length self.now.groups }
-        requires words { length mask.now ≡ number_of_words (length (queues_of self.now.groups group)) }
+        requires words { length mask.now
+            ≡ number_of_words (length (queues_of self.now.groups group)) }
         ensures { IsTrue result ↔ AllHeld (queues_of self.now.groups group) mask.now }
     {
         self.groups.covers(group as usize, mask)
@@ -150,6 +151,14 @@ impl Site {
         ensures { option_copied result ≡ slice_get (queue_of self.now.groups group chan) 0 }
     {
         self.groups.front(group as usize, chan)
+    }
+
+    // How many queues a group has.
+    pub(crate) fn width(&self, group: u32) -> u32
+        requires { group < length self.now.groups }
+        ensures { result ≡ length (queues_of self.now.groups group) }
+    {
+        self.groups.width(group as usize)
     }
 
     /// Puts a message at a location: behind the others in the queue of its channel, or beside the
@@ -339,7 +348,8 @@ fn tops_are_there(tree: &LocTree, tops: &[Loc]) -> bool
 
 // Keeps a message that no queue takes, or hands it back.
 fn keep(stuck: &mut Vec<Waiting>, loc: Loc, msg: Msg) -> Result<(), (Msg, Memory)>
-    ensures ok { OnOk result (stuck.new.items ≡ stuck.old.items ++ record { loc = loc; msg = msg } ∷ []) }
+    ensures ok { OnOk result (stuck.new.items
+        ≡ stuck.old.items ++ record { loc = loc; msg = msg } ∷ []) }
     ensures err { OnErr result (stuck.new.items ≡ stuck.old.items) }
     ensures back { IfErr result (λ back. back.0 ≡ msg) }
 {
