@@ -1,0 +1,218 @@
+-- What each call keeps of a site.
+use Rattle.std.proofs.Common.{◌≡◌, ℕ, zero, suc, ◌+◌, ◌<◌, ◌^◌, Bool, true, false, cond, List, [], ◌∷◌, ◌++◌, length, Option, Some, None, Result, Ok, Err, refl, sym, ap, subst, ◌∙◌, arith}
+use Rattle.std.specs.Prelude.{slice_get, slice_set, slice_index_or, drop, OnOk, OnErr}
+use Rattle.std.specs.HashMap.{get}
+use Rattle.chem_model.specs.declared.name.Loc.{Loc}
+use Rattle.chem_model.specs.declared.event.AtomId.{AtomId}
+use Rattle.chem_model.specs.Apply.{same_atom}
+use Rattle.chem_model.specs.Each.{Each}
+use Rattle.wire_packet.specs.MessageFacts.{MessageParts}
+use Rattle.wire_packet.specs.declared.packet.Waiting.{Waiting}
+use Rattle.wire_packet.specs.declared.packet.Request.{Request}
+use Rattle.queue_cells.specs.Grouped.{lists_at, queue_in, with_queue}
+use Rattle.net_laws.specs.Site.{Told, Group, Site, told_in}
+use Rattle.net_laws.specs.Net.{among, home_or}
+use Rattle.net_laws.specs.Kept.{IsKept, AreApart}
+use Rattle.net_laws.specs.Changes.{Takes, AreQueues}
+use Rattle.net_laws.specs.Posting.{with_queues}
+use Rattle.net_laws.specs.Holding.{put, put_all, with_request, without_request, new_group, lay}
+use Rattle.net_laws.proofs.Holding.{put_is, lay_is}
+use Rattle.net_laws.proofs.Posting.{host_kept, each_with, fronts_go}
+use Rattle.site_solution.specs.declared.site.Site.TheInside.{Inside}
+use Rattle.site_solution.specs.Held.{queues_in, queue_of, without_front}
+use Rattle.site_solution.specs.Index.{Rows, Key, key_of, groups_of, told_of, holding, locate, same_key, IsIndex}
+use Rattle.site_solution.specs.declared.told.Spot.{Spot}
+use Rattle.std.proofs.lemmas.List.{length-append}
+use Rattle.chem_laws.proofs.Lists.{Each-append}
+use Rattle.site_solution.specs.Stored.{seen, IsStored}
+use Rattle.site_solution.specs.CanLay.{HasNumbers, CanLay}
+use Rattle.site_solution.proofs.Queueing.{queues-are}
+use Rattle.site_solution.proofs.Putting.{told-many, queue-set}
+
+-- what holds before and after holds of what comes out
+pub either : {A E X : Type 0} (P : X → Type 0) (r : Result A E) (old done new : X) → OnOk r (new ≡ done) → OnErr r (new ≡ old) → P old → P done → P new
+either P (Ok a) old done new ok err before after = subst P (sym ok) after
+either P (Err e) old done new ok err before after = subst P (sym err) before
+
+-- where it succeeds, what comes out is a function of what was done
+pub on-success : {A E X Y : Type 0} (f : X → Y) (y : Y) (r : Result A E) (done new : X) → OnOk r (new ≡ done) → f done ≡ y → OnOk r (f new ≡ y)
+on-success f y (Ok a) done new ok is = ap f ok ∙ is
+on-success f y (Err e) done new ok is = tt
+
+-- ---- locations and requests
+
+pub host-stored : (a : Inside) (ls : List Loc) → IsStored a → IsStored (record a { locs = a.locs ++ ls })
+host-stored a ls h = record { kept = host_kept ls a.made (seen a) h.kept; index = h.index; numbers = h.numbers; few = h.few }
+
+pub ask-stored : (a : Inside) (q : Request) → IsStored a → among a.locs q.loc ≡ true → IsStored (record a { requests = with_request q a.requests })
+ask-stored a q h here = record {
+  kept = record {
+    queues = h.kept.queues;
+    stuck = h.kept.stuck;
+    apart = h.kept.apart;
+    groups_here = h.kept.groups_here;
+    stuck_here = h.kept.stuck_here;
+    stuck_home = h.kept.stuck_home;
+    requests_here = each_with (λ (r : Request). among a.locs r.loc ≡ true) a.requests q h.kept.requests_here here;
+  };
+  index = h.index;
+  numbers = h.numbers;
+  few = h.few;
+}
+
+each-without : (P : Request → Type 0) (i : AtomId) (qs : List Request) → Each P qs → Each P (without_request i qs)
+each-without P i [] h = tt
+each-without P i (q ∷ qs) h = go (same_atom q.id i) (each-without P i qs h.1)
+  where
+    go : (b : Bool) → Each P (without_request i qs) → Each P (cond b qs (q ∷ without_request i qs))
+    go true rest = h.1
+    go false rest = (h.0, rest)
+
+pub drop-stored : (a : Inside) (i : AtomId) → IsStored a → IsStored (record a { requests = without_request i a.requests })
+drop-stored a i h = record {
+  kept = record {
+    queues = h.kept.queues;
+    stuck = h.kept.stuck;
+    apart = h.kept.apart;
+    groups_here = h.kept.groups_here;
+    stuck_here = h.kept.stuck_here;
+    stuck_home = h.kept.stuck_home;
+    requests_here = each-without (λ (r : Request). among a.locs r.loc ≡ true) i a.requests h.kept.requests_here;
+  };
+  index = h.index;
+  numbers = h.numbers;
+  few = h.few;
+}
+
+-- ---- messages
+
+-- the site would be stored with these groups and these stuck messages
+pub record AreStored (a : Inside) (qs : Rows) (ws : List Waiting) : Type 0 where
+  pub kept : IsKept (holding (seen a) qs ws)
+  pub index : IsIndex (get same_key a.spots) (groups_of qs)
+  pub numbers : Each HasNumbers (told_of qs)
+  pub few : length qs < 2 ^ 32
+
+pub as-stored : (a : Inside) → IsStored a → AreStored a a.groups.groups a.stuck.items
+as-stored a h = record { kept = h.kept; index = h.index; numbers = h.numbers; few = h.few }
+
+pub put-stored : (a : Inside) (l : Loc) (m : MessageParts) (qs : Rows) (ws : List Waiting) → IsStored a → among a.locs l ≡ true → home_or l m.on ≡ l → IsIndex (get same_key a.spots) (groups_of qs) → told_of qs ≡ told_of a.groups.groups → put l m (seen a) ≡ holding (seen a) qs ws → AreStored a qs ws
+put-stored a l m qs ws h here home index told is = record {
+  kept = subst IsKept is (put_is l m (seen a) h.kept here home).kept;
+  index = index;
+  numbers = subst (Each HasNumbers) (sym told) h.numbers;
+  few = let many = sym (told-many qs) ∙ ap length told ∙ told-many a.groups.groups in omega (arith, h.few);
+}
+
+-- ---- a front goes
+
+index-some : {X : Type 0} (xs : List (List X)) (c : ℕ) → 0 < length (slice_index_or xs c []) → c < length xs
+index-some [] c some = absurd (omega arith)
+index-some (x ∷ xs) zero some = omega arith
+index-some (x ∷ xs) (suc c) some = omega (arith, index-some xs c some)
+
+index-get : {X : Type 0} (xs : List (List X)) (c : ℕ) (x : List X) → c < length xs → slice_index_or xs c [] ≡ x → slice_get xs c ≡ Some x
+index-get [] c x within is = absurd (omega arith)
+index-get (y ∷ xs) zero x within is = ap Some is
+index-get (y ∷ xs) (suc c) x within is = index-get xs c x (omega arith) is
+
+lists-some : (qs : Rows) (j c : ℕ) → c < length (lists_at qs j) → j < length qs
+lists-some [] j c within = absurd (omega arith)
+lists-some (q ∷ qs) zero c within = omega arith
+lists-some (q ∷ qs) (suc j) c within = omega (arith, lists-some qs j c within)
+
+queue-same : (qs : Rows) (j c : ℕ) → queue_of (groups_of qs) j c ≡ queue_in qs j c
+queue-same qs j c = ap (λ ls. slice_index_or ls c []) (queues-are qs j)
+
+-- the queue is there
+pub record IsWaiting (qs : Rows) (j c : ℕ) : Type 0 where
+  pub group : j < length qs
+  pub chan : c < length (lists_at qs j)
+  pub some : 0 < length (queue_in qs j c)
+
+pub waiting : (qs : Rows) (j c : ℕ) → 0 < length (queue_of (groups_of qs) j c) → IsWaiting qs j c
+waiting qs j c some =
+    let there : 0 < length (queue_in qs j c) = subst (λ ms. 0 < length ms) (queue-same qs j c) some in
+    let chan = index-some (lists_at qs j) c there in
+    record { group = lists-some qs j c chan; chan = chan; some = there }
+
+group-there : (gs : List Group) (j c : ℕ) → 0 < length (queue_of gs j c) → (g : Group) × (slice_get gs j ≡ Some g)
+group-there gs j c some = go (slice_get gs j) refl some
+  where
+    go : (o : Option Group) → slice_get gs j ≡ o → 0 < length (slice_index_or (queues_in o) c []) → (g : Group) × (slice_get gs j ≡ Some g)
+    go None e h = absurd (omega arith)
+    go (Some g) e h = (g, e)
+
+-- the groups without this front
+front-gone : (qs new : Rows) (j c : ℕ) (m : MessageParts) (g : Group) → slice_get (groups_of qs) j ≡ Some g → queue_in qs j c ≡ m ∷ queue_in new j c → new ≡ with_queue qs j c (queue_in new j c) → groups_of new ≡ slice_set (groups_of qs) j (record g { queues = without_front g.queues c })
+front-gone qs new j c m g at front is =
+    let queue : slice_index_or g.queues c [] ≡ m ∷ queue_in new j c = ap (λ o. slice_index_or (queues_in o) c []) (sym at) ∙ queue-same qs j c ∙ front in
+    let rest : queue_in new j c ≡ drop 1 (slice_index_or g.queues c []) = ap (drop 1) (sym queue) in
+    ap groups_of is ∙ queue-set qs j c (queue_in new j c) g at ∙ ap (λ ms. slice_set (groups_of qs) j (record g { queues = slice_set g.queues c ms })) rest
+
+pub front-site : (s : Site) (qs new : Rows) (j c : ℕ) (m : MessageParts) (g : Group) → s.groups ≡ groups_of qs → slice_get s.groups j ≡ Some g → queue_in qs j c ≡ m ∷ queue_in new j c → new ≡ with_queue qs j c (queue_in new j c) → record s { groups = groups_of new } ≡ with_queues s j g (without_front g.queues c)
+front-site s qs new j c m g groups at front is =
+    let here = ap (λ gs. slice_get gs j) (sym groups) ∙ at in
+    ap (λ gs. record s { groups = gs }) (front-gone qs new j c m g here front is ∙ ap (λ gs. slice_set gs j (record g { queues = without_front g.queues c })) (sym groups))
+
+pub front-stored : (a : Inside) (new : Rows) (j c : ℕ) (m : MessageParts) → IsStored a → 0 < length (queue_of (groups_of a.groups.groups) j c) → queue_in a.groups.groups j c ≡ m ∷ queue_in new j c → new ≡ with_queue a.groups.groups j c (queue_in new j c) → AreStored a new a.stuck.items
+front-stored a new j c m h some front is =
+    let qs = a.groups.groups in
+    let there = group-there (groups_of qs) j c some in
+    let g = there.0 in
+    let queue : slice_index_or g.queues c [] ≡ m ∷ queue_in new j c = ap (λ o. slice_index_or (queues_in o) c []) (sym there.1) ∙ queue-same qs j c ∙ front in
+    let some' : 0 < length (slice_index_or g.queues c []) = subst (λ ms. 0 < length ms) (sym queue) (omega arith) in
+    let takes : Takes g.queues (c ∷ []) (m ∷ []) (slice_set g.queues c (queue_in new j c)) = (queue_in new j c, index-get g.queues c (m ∷ queue_in new j c) (index-some g.queues c some') queue, refl) in
+    let gone = fronts_go (seen a) j g (c ∷ []) (m ∷ []) (slice_set g.queues c (queue_in new j c)) h.kept there.1 takes in
+    let after : groups_of new ≡ slice_set (groups_of qs) j (record g { queues = slice_set g.queues c (queue_in new j c) }) = ap groups_of is ∙ queue-set qs j c (queue_in new j c) g there.1 in
+    let told : told_of new ≡ told_of qs = ap told_in after ∙ gone.told in
+    let kept : IsKept (holding (seen a) new a.stuck.items) = subst (λ gs. IsKept (record (seen a) { groups = gs })) (sym after) gone.kept in
+    record {
+      kept = kept;
+      index = record {
+        named = λ site k home. h.index.named site k home ∙ ap (λ ds. locate ds site k home) (sym told);
+        queues = kept.queues;
+        apart = kept.apart;
+      };
+      numbers = subst (Each HasNumbers) (sym told) h.numbers;
+      few = let many = sym (told-many new) ∙ ap length told ∙ told-many qs in omega (arith, h.few);
+    }
+
+-- ---- a group is laid
+
+-- the site would be stored with these groups, these stuck messages and this index
+pub record AreIndexed (a : Inside) (find : Key → Option Spot) (qs : Rows) (ws : List Waiting) : Type 0 where
+  pub kept : IsKept (holding (seen a) qs ws)
+  pub index : IsIndex find (groups_of qs)
+  pub numbers : Each HasNumbers (told_of qs)
+  pub few : length qs < 2 ^ 32
+
+pub room-stored : (a : Inside) (find : Key → Option Spot) (qs : Rows) → IsStored a → qs ≡ a.groups.groups → ((k : Key) → find k ≡ get same_key a.spots k) → AreIndexed a find qs a.stuck.items
+room-stored a find qs h groups same =
+    let back = sym groups in
+    record {
+      kept = subst (λ ps. IsKept (holding (seen a) ps a.stuck.items)) back h.kept;
+      index = record {
+        named = λ site k home. same (key_of site k home) ∙ h.index.named site k home ∙ ap (λ ps. locate (told_of ps) site k home) back;
+        queues = subst (λ ps. Each (λ (g : Group). AreQueues g.told.inst 0 g.told.counts g.queues) (groups_of ps)) back h.index.queues;
+        apart = subst (λ ps. AreApart (told_of ps)) back h.index.apart;
+      };
+      numbers = subst (λ ps. Each HasNumbers (told_of ps)) back h.numbers;
+      few = subst (λ (ps : Rows). length ps < 2 ^ 32) back h.few;
+    }
+
+pub laid-site : (s : Site) (more qs : Rows) (d e : Told) (stuck empty waiting ws : List Waiting) → groups_of more ≡ s.groups ++ new_group e ∷ [] → e ≡ d → empty ≡ [] → waiting ≡ s.stuck → put_all waiting (holding s more empty) ≡ holding s qs ws → holding s qs ws ≡ lay d s
+laid-site s more qs d e stuck empty waiting ws groups told none there put =
+    sym put ∙ ap (λ vs. put_all vs (holding s more empty)) there ∙ ap (λ vs. put_all s.stuck (holding s more vs)) none ∙ ap (λ gs. put_all s.stuck (record s { groups = gs; stuck = [] })) groups ∙ ap (λ (x : Told). lay x s) told
+
+pub laid-stored : (a : Inside) (find : Key → Option Spot) (qs : Rows) (ws : List Waiting) (d : Told) → IsStored a → CanLay d (seen a) → holding (seen a) qs ws ≡ lay d (seen a) → IsIndex find (groups_of qs) → length a.groups.groups + 1 < 2 ^ 32 → AreIndexed a find qs ws
+laid-stored a find qs ws d h can is index few =
+    let laid = lay_is d (seen a) h.kept can.here can.apart in
+    let told : told_of qs ≡ told_of a.groups.groups ++ d ∷ [] = ap (λ (s : Site). told_in s.groups) is ∙ laid.told in
+    let many = sym (told-many qs) ∙ ap length told ∙ length-append (told_of a.groups.groups) (d ∷ []) in
+    record {
+      kept = subst IsKept (sym is) laid.kept;
+      index = index;
+      numbers = subst (Each HasNumbers) (sym told) (Each-append HasNumbers (told_of a.groups.groups) (d ∷ []) h.numbers (can.numbers, tt));
+      few = omega (arith, few, told-many a.groups.groups);
+    }

@@ -1,0 +1,16 @@
+use Rattle.std.proofs.Common.{◌<◌, arith}
+use Rattle.std.specs.HashMap as hash
+use Rattle.std.specs.HashMap.{spare}
+use Rattle.site_solution.specs.Index.{same_key, key_of}
+use Rattle.site_solution.proofs.Naming.{named-more, from_ok}
+use Rattle.site_solution.proofs.finding.name_queues.Goals as goal
+
+pub loop-chan-preserved : goal.loop-chan-preserved
+loop-chan-preserved c =
+    let room = c.loop-chan.invariant.room in
+    let some : 0 < spare c.loop-chan.spots = omega arith in
+    let put = from_ok c.insert.result _ (c.insert.ensures.succeeds some) c.insert.ensures.updates in
+    record {
+      named = λ site k at. named-more c.args.first.site c.args.first.k c.args.home c.loop-chan.chan c.args.group site k at (hash.get same_key c.args.spots.now (key_of site k at)) (hash.get same_key c.loop-chan.spots (key_of site k at)) (hash.get same_key c.insert.new.self (key_of site k at)) (put.0 (key_of site k at)) (c.loop-chan.invariant.named site k at);
+      room = omega (arith, c.insert.ensures.spare);
+    }

@@ -1,0 +1,9 @@
+pub mod Told
+pub mod CanLay
+pub mod Held
+pub mod InTree
+pub mod InCode
+pub mod Draws
+pub mod Rising
+pub mod Index
+pub mod Stored

@@ -1,0 +1,24 @@
+-- Requests in the order of their ids, as they lie. No public contract cites it.
+use Rattle.std.specs.Prelude.{◌≡◌, ℕ, suc, ◌<◌, ◌^◌, true, cond, List, [], ◌∷◌, length}
+use Rattle.chem_model.specs.declared.event.AtomId.{AtomId}
+use Rattle.wire_packet.specs.declared.packet.Request.{Request}
+use Rattle.net_laws.specs.Holding.{precedes}
+
+-- each of these comes after the id
+abbrev pub AllAfter : AtomId → List Request → Type 0
+AllAfter id [] = Unit {0}
+AllAfter id (r ∷ rs) = (precedes id r.id ≡ true) × AllAfter id rs
+
+abbrev pub Rising : List Request → Type 0
+Rising [] = Unit {0}
+Rising (r ∷ rs) = AllAfter r.id rs × Rising rs
+
+-- how many come before the id, where they rise
+abbrev pub rank : AtomId → List Request → ℕ
+rank id [] = 0
+rank id (x ∷ xs) = cond (precedes x.id id) (suc (rank id xs)) 0
+
+-- their ids rise, and they are fewer than 2^32
+pub record AreAsked (rs : List Request) : Type 0 where
+  pub rising : Rising rs
+  pub few : length rs < 2 ^ 32

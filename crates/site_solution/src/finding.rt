@@ -1,0 +1,111 @@
+// The queue of a message's channel.
+ghost use Rattle.std.specs.Prelude.{◌≡◌, ◌≤◌, ◌+◌, ◌-◌, ◌^◌, ◌++◌};
+ghost use Rattle.std.specs.Prelude.{◌∷◌, [], ℕ, Some, cond, length, slice_get};
+ghost use Rattle.std.specs.Prelude.{vec_capacity};
+ghost use Rattle.std.specs.HashMap as hash;
+ghost use Rattle.std.specs.HashMap.{spare};
+ghost use Rattle.chem_model.specs.declared.name.Loc.{Loc};
+ghost use Rattle.net_laws.specs.Site.{Site};
+ghost use Rattle.net_laws.specs.Kept.{AreApart};
+ghost use Rattle.net_laws.specs.Holding.{put_all, new_group};
+ghost use Rattle.site_solution.specs.Index.{key_of, is_one_of, holding};
+ghost use Rattle.site_solution.specs.Index.{groups_of, told_of, same_key, spot_of};
+ghost use Rattle.site_solution.specs.Index.{on_count, IsIndex};
+
+use crate::told::{Spot, Told};
+use chem_model::{AtomId, Loc, Name};
+use queue_cells::{Groups, Idle};
+use std::collections::HashMap;
+use wire_packet::{Msg, Waiting};
+
+// The queue of each channel that a group has, by the channel's pair and that of its home.
+pub(crate) type Spots = HashMap<((u32, u64), (u32, u64)), Spot>;
+
+// The queue, where messages of this count go into it.
+fn with_count(told: &Told, spot: Spot, count: usize) -> Option<Spot>
+    ensures { result ≡ on_count (slice_get told.now.counts spot.chan) count spot }
+{
+    match told.counts.as_slice().get(spot.chan as usize) {
+        Some(own) if *own as usize == count => Some(spot),
+        _ => None,
+    }
+}
+
+// The queue that takes a message, if there is one.
+pub(crate) fn find(groups: &Groups<Told, Msg>, spots: &Spots, msg: &Msg) -> Option<Spot>
+    requires { IsIndex (hash.get same_key spots.now) (groups_of groups.now.groups) }
+    ensures { result ≡ spot_of (told_of groups.now.groups) msg.now }
+{
+    let Name::Chan { site, k, home } = msg.on else {
+        return None;
+    };
+    let spot = *spots.get(&((site, k), (home.site, home.k)))?;
+    with_count(groups.told(spot.group), spot, msg.args.len())
+}
+
+// Notes the queues of a new group. It takes no memory.
+pub(crate) fn name_queues(spots: &mut Spots, first: AtomId, home: Loc, width: u32, group: usize)
+    requires room { width ≤ spare spots.old }
+    requires fits { first.k + width ≤ 2 ^ 64 }
+    ensures { (site k : ℕ) (at : Loc) → hash.get same_key spots.new (key_of site k at)
+        ≡ cond (is_one_of first.site first.k width home site k at)
+        (Some (record { group = group; chan = k - first.k }))
+        (hash.get same_key spots.old (key_of site k at)) }
+{
+    for chan in 0..width {
+        let key = ((first.site, first.k + chan as u64), (home.site, home.k));
+        let _ = spots.insert(key, Spot { group, chan });
+    }
+}
+
+// Puts messages once more, one after another: into their queues, or behind the others that are
+// stuck. It takes no memory.
+pub(crate) fn settle(
+    groups: &mut Groups<Told, Msg>,
+    spots: &Spots,
+    stuck: &mut Vec<Waiting>,
+    waiting: Vec<Waiting>,
+)
+    requires index { IsIndex (hash.get same_key spots.now) (groups_of groups.old.groups) }
+    requires room { length waiting.items ≤ groups.old.spare }
+    requires fits { length waiting.items + length stuck.old.items ≤ vec_capacity stuck.old }
+    ensures site { (s : Site) → put_all waiting.items (holding s groups.old.groups stuck.old.items)
+        ≡ holding s groups.new.groups stuck.new.items }
+    ensures index { IsIndex (hash.get same_key spots.now) (groups_of groups.new.groups) }
+{
+    for one in waiting {
+        if let Some(spot) = find(groups, spots, &one.msg) {
+            let Waiting { loc: _, msg } = one;
+            groups.push_reserved(spot.group, spot.chan, msg);
+        } else {
+            stuck.push_reserved(one);
+        }
+    }
+}
+
+// Adds a group to come, and its queues to the index. It takes no memory.
+pub(crate) fn add_group(
+    groups: &mut Groups<Told, Msg>,
+    spots: &mut Spots,
+    idle: Idle<Told>,
+    first: AtomId,
+    home: Loc,
+    width: u32,
+)
+    requires index { IsIndex (hash.get same_key spots.old) (groups_of groups.old.groups) }
+    requires first { idle.told.inst.chans ≡ first }
+    requires home { idle.told.inst.loc ≡ home }
+    requires width { (idle.width ≡ width) × (length idle.told.counts ≡ width) }
+    requires fits { first.k + width ≤ 2 ^ 64 }
+    requires apart { AreApart (told_of groups.old.groups ++ idle.told ∷ []) }
+    requires room { (1 ≤ groups.old.spare_groups) × (width ≤ spare spots.old) }
+    ensures groups { groups_of groups.new.groups
+        ≡ groups_of groups.old.groups ++ new_group idle.told ∷ [] }
+    ensures many { length groups.new.groups ≡ length groups.old.groups + 1 }
+    ensures spare { groups.new.spare ≡ groups.old.spare }
+    ensures index { IsIndex (hash.get same_key spots.new) (groups_of groups.new.groups) }
+{
+    let group = groups.len();
+    groups.add_reserved(idle);
+    name_queues(spots, first, home, width, group);
+}

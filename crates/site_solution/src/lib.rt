@@ -1,0 +1,14 @@
+//! What one root hosts: locations, groups of rules with a queue for each of their channels,
+//! messages that no queue takes, and requests. What each call does is a function of what contracts
+//! see of the site, by the definitions of `net_laws`, so that the laws of sites hold of it as they
+//! are.
+#![tactic(auto)]
+
+mod asked;
+mod finding;
+mod site;
+mod testing;
+mod told;
+mod walking;
+
+pub use site::Site;

@@ -1,0 +1,363 @@
+// What one root hosts.
+ghost use Rattle.std.specs.Prelude.{◌≡◌, ◌+◌, ◌<◌, ◌≤◌, ◌^◌, ◌∷◌, ◌++◌, ◌↔◌, [], length, slice_get};
+ghost use Rattle.std.specs.Prelude.{Some, None, true, false, IfOk, IfErr, OnOk, OnErr, IsTrue};
+ghost use Rattle.std.specs.Prelude.{option_copied, IsSome};
+ghost use Rattle.chem_model.specs.Opening.{root_of};
+ghost use Rattle.net_laws.specs.Site.{Group, told_in};
+ghost use Rattle.net_laws.specs.Net.{among, home_or};
+ghost use Rattle.net_laws.specs.Opening.{empty_site};
+ghost use Rattle.net_laws.specs.Posting.{with_queues};
+ghost use Rattle.site_solution.specs.Told.{told_by};
+ghost use Rattle.site_solution.specs.CanLay.{CanLay};
+ghost use Rattle.net_laws.specs.Holding.{put, ask, lay, host_all, request_with, drop_request};
+ghost use Rattle.queue_cells.specs.Grouped.{AllHeld};
+ghost use Rattle.status_words.specs.Words.{number_of_words};
+ghost use Rattle.std.specs.List.{list_all};
+ghost use Rattle.std.specs.Prelude.{is_some};
+ghost use Rattle.loc_tree.specs.Tree.{spot};
+ghost use Rattle.chem_model.specs.declared.name.Loc.{Loc};
+ghost use Rattle.site_solution.specs.InCode.{is_in_code};
+ghost use Rattle.site_solution.specs.Draws.{all_drawn, CanDraw};
+ghost use Rattle.site_solution.specs.InTree.{has_number, is_in_tree};
+ghost use Rattle.site_solution.specs.Held.{queues_of, queue_of, without_front, inst_in, has_atom};
+
+use crate::asked::Asked;
+use crate::finding::{Spots, add_group, find, settle};
+use crate::testing::{
+    Count, are_told_by, groups_are_drawn, locs_are_drawn, requests_are_drawn, stuck_are_drawn,
+};
+use crate::told::Told;
+use crate::walking::{groups_are_there, in_groups, in_stuck, requests_are_there, stuck_are_there};
+use chem_model::{AtomId, Items, Loc, Memory, same_loc};
+use env_store::Code;
+use loc_tree::LocTree;
+use queue_cells::{Groups, Idle};
+use std::alloc::Global;
+use std::collections::HashMap;
+use std::marker::Model;
+use std::mem;
+use wire_packet::{GroupInst, Msg, Request, Waiting};
+
+/// What one root hosts. Contracts see its number, how many numbers it has made, its locations, its
+/// groups with a queue for each of their channels, the messages that are stuck, and its requests.
+///
+/// Each site keeps the facts of `IsKept`: all that it holds stands at locations that it hosts, a
+/// queue holds messages on its channel with its count, no group could take a stuck message, and no
+/// two groups share a channel.
+#[derive(Drop)]
+pub struct Site {
+    number: u32,
+    made: u64,
+    locs: Items<Loc>,
+    groups: Groups<Told, Msg>,
+    spots: Spots,
+    stuck: Vec<Waiting>,
+    requests: Asked,
+}
+
+impl Model for Site {
+    ghost use Rattle.net_laws.specs.Site.{Site as site_of_net};
+
+    ghost Value = { site_of_net };
+
+    ghost use Rattle.site_solution.specs.Stored.{seen, IsStored};
+
+    ghost view = { seen };
+
+    ghost invariant = { IsStored };
+}
+
+impl Site {
+    /// The root of this number alone.
+    pub fn empty(alloc: Global, number: u32) -> Result<Site, Memory>
+        ensures { IfOk result (λ site. site ≡ empty_site number 1 (root_of number ∷ [])) }
+    {
+        let mut locs = Items::new(alloc);
+        locs.push(Loc { site: number, k: 0 })?;
+        Ok(Site {
+            number,
+            made: 1,
+            locs,
+            groups: Groups::new(alloc),
+            spots: HashMap::new(alloc),
+            stuck: Vec::new(alloc),
+            requests: Asked::new(alloc),
+        })
+    }
+
+    /// Whether the location is hosted here.
+    pub fn has(&self, loc: &Loc) -> bool
+        ensures { result ≡ among self.now.locs loc.now }
+    {
+        for here in self.locs.as_slice() {
+            if same_loc(*here, *loc) {
+                return true;
+            }
+        }
+        false
+    }
+
+    /// How many numbers it has made.
+    pub fn made(&self) -> u64
+        ensures { result ≡ self.now.made }
+    {
+        self.made
+    }
+
+    /// The request with this id.
+    pub fn request(&self, atom: &AtomId) -> Option<&Request>
+        ensures { option_copied result ≡ request_with atom.now self.now.requests }
+    {
+        self.requests.find(*atom)
+    }
+
+    /// The request at this place in the order of ids.
+    pub fn request_at(&self, index: u32) -> Option<&Request>
+        ensures { option_copied result ≡ slice_get self.now.requests index }
+    {
+        self.requests.at(index as usize)
+    }
+
+    /// How many groups there are.
+    pub fn groups(&self) -> u32
+        ensures { result ≡ length self.now.groups }
+    {
+        self.groups.len() as u32
+    }
+
+    /// The group with this index.
+    pub fn group(&self, index: u32) -> &GroupInst
+        requires { index < length self.now.groups }
+        ensures { inst_in (slice_get self.now.groups index) ≡ Some result.now }
+    {
+        &self.groups.told(index as usize).inst
+    }
+
+    /// Whether the group's status covers the mask, which has as many words as the status: each
+    /// channel of the mask has a message in its queue.
+    pub fn covered(&self, group: u32, mask: &[u64]) -> bool
+        requires group { group < length self.now.groups }
+        requires words { length mask.now
+            ≡ number_of_words (length (queues_of self.now.groups group)) }
+        ensures { IsTrue result ↔ AllHeld (queues_of self.now.groups group) mask.now }
+    {
+        self.groups.covers(group as usize, mask)
+    }
+
+    /// The front of the queue of one of a group's channels, if there is one.
+    pub fn front(&self, group: u32, chan: u32) -> Option<&Msg>
+        requires group { group < length self.now.groups }
+        requires chan { chan < length (queues_of self.now.groups group) }
+        ensures { option_copied result ≡ slice_get (queue_of self.now.groups group chan) 0 }
+    {
+        self.groups.front(group as usize, chan)
+    }
+
+    // How many queues a group has.
+    pub(crate) fn width(&self, group: u32) -> u32
+        requires { group < length self.now.groups }
+        ensures { result ≡ length (queues_of self.now.groups group) }
+    {
+        self.groups.width(group as usize)
+    }
+
+    /// Puts a message at a location: behind the others in the queue of its channel, or beside the
+    /// queues where no group takes it. Where there is no memory it comes back.
+    pub fn put(&mut self, loc: &Loc, msg: Msg) -> Result<(), (Msg, Memory)>
+        requires here { among self.old.locs loc.now ≡ true }
+        requires home { home_or loc.now msg.on ≡ loc.now }
+        requires new { has_atom msg.id self.old ≡ false }
+        ensures ok { OnOk result (self.new ≡ put loc.now msg self.old) }
+        ensures err { OnErr result (self.new ≡ self.old) }
+        ensures back { IfErr result (λ back. back.0 ≡ msg) }
+    {
+        match find(&self.groups, &self.spots, &msg) {
+            Some(spot) => self.groups.push_back(spot.group, spot.chan, msg),
+            None => keep(&mut self.stuck, *loc, msg),
+        }
+    }
+
+    /// Lays a group of a level of the code. What is stuck for one of its channels goes into its
+    /// queue, in the order in which it came.
+    pub fn lay(&mut self, alloc: Global, code: &Code, group: GroupInst) -> Result<(), Memory>
+        requires may { CanLay (told_by code.now group) self.old }
+        requires level { group.level < length code.now.levels }
+        ensures ok { OnOk result (self.new ≡ lay (told_by code.now group) self.old) }
+        ensures err { OnErr result (self.new ≡ self.old) }
+    {
+        let level = &code.levels.as_slice()[group.level as usize];
+        let counts = level.counts.copy(alloc)?;
+        let told = Told {
+            inst: group,
+            counts,
+            guards: level.guards,
+        };
+        self.add(alloc, told)
+    }
+
+    // Lays a group of which this is told.
+    pub(crate) fn add(&mut self, alloc: Global, told: Told) -> Result<(), Memory>
+        requires { CanLay told self.old }
+        ensures ok { OnOk result (self.new ≡ lay told self.old) }
+        ensures err { OnErr result (self.new ≡ self.old) }
+    {
+        if self.groups.len() >= u32::MAX as usize {
+            return Err(Memory);
+        }
+        let first = told.inst.chans;
+        let home = told.inst.loc;
+        let width = told.counts.len() as u32;
+        let count = self.stuck.len();
+        self.groups.reserve(count)?;
+        self.groups.reserve_groups(1)?;
+        self.spots.reserve(width as usize)?;
+        let mut rest = Vec::with_capacity(alloc, count)?;
+        let idle = Idle::new(alloc, told, width)?;
+        add_group(&mut self.groups, &mut self.spots, idle, first, home, width);
+        let waiting = mem::replace(&mut self.stuck, Vec::new(alloc));
+        settle(&mut self.groups, &self.spots, &mut rest, waiting);
+        self.stuck = rest;
+        Ok(())
+    }
+
+    /// Drops the front of the queue of one of a group's channels.
+    pub fn take_front(&mut self, group: u32, chan: u32)
+        requires { 0 < length (queue_of self.old.groups group chan) }
+        ensures { (g : Group) → slice_get self.old.groups group ≡ Some g
+            → self.new ≡ with_queues self.old group g (without_front g.queues chan) }
+    {
+        self.groups.take_front(group as usize, chan);
+    }
+
+    /// Hosts a location.
+    pub fn host(&mut self, loc: &Loc) -> Result<(), Memory>
+        requires { among self.old.locs loc.now ≡ false }
+        ensures ok { OnOk result (self.new ≡ host_all (loc.now ∷ []) self.old) }
+        ensures err { OnErr result (self.new ≡ self.old) }
+    {
+        self.locs.push(*loc)
+    }
+
+    /// The count of made numbers, which is then raised.
+    pub fn draw(&mut self, more: u32) -> u64
+        requires { self.old.made + more < 2 ^ 64 }
+        ensures count { result ≡ self.old.made }
+        ensures site { self.new ≡ record self.old { made = self.old.made + more } }
+    {
+        let count = self.made;
+        self.made = count + more as u64;
+        count
+    }
+
+    /// Whether a waiting message or a request has this id.
+    pub fn has_atom(&self, atom: &AtomId) -> bool
+        ensures { result ≡ has_atom atom.now self.now }
+    {
+        in_groups(&self.groups, *atom)
+            || in_stuck(&self.stuck, *atom)
+            || self.requests.find(*atom).is_some()
+    }
+
+    // Whether each location here is in the tree with the number of the site.
+    fn locs_are_there(&self, tree: &LocTree) -> bool
+        ensures { result ≡ list_all (has_number tree.now self.now.number) self.now.locs }
+    {
+        for loc in self.locs.as_slice() {
+            if !(tree.holds(loc) && tree.root(loc) == self.number) {
+                return false;
+            }
+        }
+        true
+    }
+
+    /// Whether each location here is in the tree with the number of the site, its root is one of
+    /// them, and each location and each home of a channel that an environment, a waiting message or
+    /// a request names is in the tree.
+    pub fn in_tree(&self, tree: &LocTree) -> bool
+        ensures { result ≡ is_in_tree tree.now self.now }
+    {
+        let root = Loc {
+            site: self.number,
+            k: 0,
+        };
+        self.locs_are_there(tree)
+            && self.has(&root)
+            && groups_are_there(tree, &self.groups)
+            && stuck_are_there(tree, &self.stuck)
+            && requests_are_there(tree, self.requests.as_slice())
+    }
+
+    /// Whether each group is of a level of the code, with the counts, the guards and the length of
+    /// environments that the level has, and each location of the code's `tops` is in the tree.
+    pub fn in_code(&self, code: &Code, tree: &LocTree) -> bool
+        ensures { result ≡ is_in_code code.now tree.now self.now }
+    {
+        are_told_by(code, &self.groups) && tops_are_there(tree, code.tops.as_slice())
+    }
+
+    /// Whether the count is below 2^63, each location, rule, channel and atom that this site made
+    /// and holds has a number below it, and so has each location of the tree that this site made.
+    pub fn can_draw(&self, tree: &LocTree) -> bool
+        ensures { IsTrue result ↔ CanDraw tree.now self.now }
+    {
+        self.made < 1 << 63 && self.all_drawn() && tree.fresh(self.number, self.made)
+    }
+
+    fn all_drawn(&self) -> bool
+        ensures { result ≡ all_drawn self.now }
+    {
+        let count = Count {
+            number: self.number,
+            made: self.made,
+        };
+        locs_are_drawn(count, self.locs.as_slice())
+            && groups_are_drawn(count, &self.groups)
+            && stuck_are_drawn(count, &self.stuck)
+            && requests_are_drawn(count, self.requests.as_slice())
+    }
+
+    /// Adds a request.
+    pub fn ask(&mut self, request: Request) -> Result<(), Memory>
+        requires here { among self.old.locs request.loc ≡ true }
+        requires new { has_atom request.id self.old ≡ false }
+        ensures ok { OnOk result (self.new ≡ ask request self.old) }
+        ensures err { OnErr result (self.new ≡ self.old) }
+    {
+        self.requests.add(request)
+    }
+
+    /// Drops a request.
+    pub fn drop_request(&mut self, atom: &AtomId)
+        requires { IsSome (request_with atom.now self.old.requests) }
+        ensures { self.new ≡ drop_request atom.now self.old }
+    {
+        self.requests.remove(*atom);
+    }
+}
+
+fn tops_are_there(tree: &LocTree, tops: &[Loc]) -> bool
+    ensures { result ≡ list_all (λ (l : Loc). is_some (spot tree.now l)) tops.now }
+{
+    for loc in tops {
+        if !tree.holds(loc) {
+            return false;
+        }
+    }
+    true
+}
+
+// Keeps a message that no queue takes, or hands it back.
+fn keep(stuck: &mut Vec<Waiting>, loc: Loc, msg: Msg) -> Result<(), (Msg, Memory)>
+    ensures ok { OnOk result (stuck.new.items
+        ≡ stuck.old.items ++ record { loc = loc; msg = msg } ∷ []) }
+    ensures err { OnErr result (stuck.new.items ≡ stuck.old.items) }
+    ensures back { IfErr result (λ back. back.0 ≡ msg) }
+{
+    match stuck.push(Waiting { loc, msg }) {
+        Ok(()) => Ok(()),
+        Err(failed) => {
+            let Waiting { loc: _, msg } = failed.value;
+            Err((msg, Memory))
+        }
+    }
+}
