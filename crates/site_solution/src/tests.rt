@@ -106,6 +106,17 @@ fn expect_request_at(rt: &impl Abort, site: &Site, index: u32, want: Option<u64>
     assert_eq!(rt; site.request_at(index).map(|request| request.id.k), want);
 }
 
+fn drop_request(rt: &impl Abort, site: &mut Site, k: u64) {
+    let atom = id(k);
+    assert!(rt; site.request(&atom).is_some());
+    site.drop_request(&atom);
+}
+
+fn expect_drawn(rt: &impl Abort, site: &mut Site, more: u32, want: u64) {
+    assert!(rt; site.made() < 1000);
+    assert_eq!(rt; site.draw(more), want);
+}
+
 fn host(rt: &impl Abort, site: &mut Site, loc: &Loc) -> Result<(), Memory> {
     assert!(rt; !site.has(loc));
     site.host(loc)
@@ -147,15 +158,19 @@ fn requests_are_found(rt: HostRuntime) -> Result<(), Fail> {
     expect_request_at(&rt, &site, 0, Some(3));
     expect_request_at(&rt, &site, 1, Some(5));
     expect_request_at(&rt, &site, 2, None);
+    drop_request(&rt, &mut site, 3);
+    expect_request_at(&rt, &site, 0, Some(5));
     Ok(())
 }
 
 #[test]
-fn a_location_is_hosted(rt: HostRuntime) -> Result<(), Fail> {
+fn a_location_is_hosted_and_numbers_are_drawn(rt: HostRuntime) -> Result<(), Fail> {
     let mut site = Site::empty(rt.alloc(), 0)?;
     let born = Loc { site: 0, k: 1 };
     host(&rt, &mut site, &born)?;
     assert!(rt; site.has(&born));
     assert!(rt; site.has(&ROOT));
+    expect_drawn(&rt, &mut site, 3, 1);
+    expect_drawn(&rt, &mut site, 1, 4);
     Ok(())
 }
