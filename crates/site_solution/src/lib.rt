@@ -8,6 +8,8 @@ mod asked;
 mod finding;
 mod site;
 mod testing;
+#[cfg(test)]
+mod tests;
 mod told;
 mod walking;
 
