@@ -2,7 +2,9 @@
 ghost use Rattle.std.specs.Prelude.{◌≡◌, ◌≤◌, ◌+◌, ◌-◌, ◌^◌, ◌++◌};
 ghost use Rattle.std.specs.Prelude.{◌∷◌, [], ℕ, Some, cond, length, slice_get};
 ghost use Rattle.std.specs.Prelude.{vec_capacity};
+ghost use Rattle.std.specs.Prelude.{◌<◌, OnOk, OnErr, IfErr};
 ghost use Rattle.std.specs.HashMap as hash;
+ghost use Rattle.queue_cells.specs.Grouped.{lists_at, with_last};
 ghost use Rattle.std.specs.HashMap.{spare};
 ghost use Rattle.chem_model.specs.declared.name.Loc.{Loc};
 ghost use Rattle.net_laws.specs.Site.{Site};
@@ -13,7 +15,7 @@ ghost use Rattle.site_solution.specs.Index.{groups_of, told_of, same_key, spot_o
 ghost use Rattle.site_solution.specs.Index.{on_count, IsIndex};
 
 use crate::told::{Spot, Told};
-use chem_model::{AtomId, Loc, Name};
+use chem_model::{AtomId, Loc, Memory, Name};
 use queue_cells::{Groups, Idle};
 use std::collections::HashMap;
 use wire_packet::{Msg, Waiting};
@@ -41,6 +43,26 @@ pub(crate) fn find(groups: &Groups<Told, Msg>, spots: &Spots, msg: &Msg) -> Opti
     };
     let spot = *spots.get(&((site, k), (home.site, home.k)))?;
     with_count(groups.told(spot.group), spot, msg.args.len())
+}
+
+// Appends a message to a queue, or hands it back where there is no memory.
+pub(crate) fn push_back(
+    groups: &mut Groups<Told, Msg>,
+    group: usize,
+    chan: u32,
+    msg: Msg,
+) -> Result<(), (Msg, Memory)>
+    requires group { group < length groups.old.groups }
+    requires chan { chan < length (lists_at groups.old.groups group) }
+    ensures ok { OnOk result (groups.new.groups ≡ with_last groups.old.groups group chan msg) }
+    ensures err { OnErr result (groups.new.groups ≡ groups.old.groups) }
+    ensures back { IfErr result (λ back. back.0 ≡ msg) }
+{
+    if groups.reserve(1).is_err() {
+        return Err((msg, Memory));
+    }
+    groups.push_reserved(group, chan, msg);
+    Ok(())
 }
 
 // Notes the queues of a new group. It takes no memory.

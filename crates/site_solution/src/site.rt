@@ -22,7 +22,7 @@ ghost use Rattle.site_solution.specs.InTree.{has_number, is_in_tree};
 ghost use Rattle.site_solution.specs.Held.{queues_of, queue_of, without_front, inst_in, has_atom};
 
 use crate::asked::Asked;
-use crate::finding::{Spots, add_group, find, settle};
+use crate::finding::{Spots, add_group, find, push_back, settle};
 use crate::testing::{
     Count, are_told_by, groups_are_drawn, locs_are_drawn, requests_are_drawn, stuck_are_drawn,
 };
@@ -172,7 +172,7 @@ impl Site {
         ensures back { IfErr result (λ back. back.0 ≡ msg) }
     {
         match find(&self.groups, &self.spots, &msg) {
-            Some(spot) => self.groups.push_back(spot.group, spot.chan, msg),
+            Some(spot) => push_back(&mut self.groups, spot.group, spot.chan, msg),
             None => keep(&mut self.stuck, *loc, msg),
         }
     }

@@ -20,7 +20,7 @@ invariant_of-self c =
     let it = taken (hash.get same_key c.self.inside.spots) c.self.inside.groups.groups c.args.msg c.in-Some.spot c.self.invariant.index (sym c.find.ensures ∙ c.in-Some.is) in
     let is = put-queued (seen c.self.inside) c.self.inside.groups.groups _ c.self.inside.stuck.items c.args.loc.now c.args.msg it.is in
     let done = put-stored c.self.inside c.args.loc.now c.args.msg _ c.self.inside.stuck.items c.self.invariant here c.requires.home it.index it.same is in
-    let all = either (λ (qs : Rows). AreStored c.self.inside qs c.self.inside.stuck.items) c.push_back.result c.self.inside.groups.groups _ c.push_back.new.self.groups c.push_back.ensures.ok c.push_back.ensures.err (as-stored c.self.inside c.self.invariant) done in
+    let all = either (λ (qs : Rows). AreStored c.self.inside qs c.self.inside.stuck.items) c.push_back.result c.self.inside.groups.groups _ c.push_back.new.groups.groups c.push_back.ensures.ok c.push_back.ensures.err (as-stored c.self.inside c.self.invariant) done in
     record { kept = all.kept; index = all.index; numbers = all.numbers; few = all.few }
 
 pub invariant_of-self-in-None : goal.invariant_of-self-in-None
@@ -37,7 +37,7 @@ pub returns-in-Some-clause-ok : goal.returns-in-Some-clause-ok
 returns-in-Some-clause-ok c =
     let it = taken (hash.get same_key c.self.inside.spots) c.self.inside.groups.groups c.args.msg c.in-Some.spot c.self.invariant.index (sym c.find.ensures ∙ c.in-Some.is) in
     let is = put-queued (seen c.self.inside) c.self.inside.groups.groups _ c.self.inside.stuck.items c.args.loc.now c.args.msg it.is in
-    rw (← c.self.view_is) (on-success (λ (qs : Rows). holding (seen c.self.inside) qs c.self.inside.stuck.items) (put c.args.loc.now c.args.msg (seen c.self.inside)) c.push_back.result _ c.push_back.new.self.groups c.push_back.ensures.ok (sym is))
+    rw (← c.self.view_is) (on-success (λ (qs : Rows). holding (seen c.self.inside) qs c.self.inside.stuck.items) (put c.args.loc.now c.args.msg (seen c.self.inside)) c.push_back.result _ c.push_back.new.groups.groups c.push_back.ensures.ok (sym is))
 
 pub returns-in-None-clause-ok : goal.returns-in-None-clause-ok
 returns-in-None-clause-ok c =
