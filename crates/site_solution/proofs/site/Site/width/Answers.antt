@@ -1,4 +1,4 @@
-use Rattle.std.proofs.Common.{◌≡◌, ◌<◌, ◌∙◌, length, sym, ap, arith, ℕ}
+use Rattle.std.proofs.Common.{◌∙◌, length, sym, ap, arith}
 use Rattle.site_solution.proofs.Queueing.{groups-many, queues-are}
 use Rattle.site_solution.proofs.site.Site.width.Goals as goal
 
