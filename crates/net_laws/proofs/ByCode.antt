@@ -200,7 +200,7 @@ module _ (p : ProgramTerms) (c : CodeParts) (ok : IsProgram p) (kept : IsCode c)
   old_new i k n d g drawn numbered b m below_b below_m same =
       let sites : d.inst.chans.site ≡ g.chans.site = cc in
       let numbers : d.inst.chans.k + b ≡ g.chans.k + m = cc in
-      let low = drawn (sites ∙ numbered.chans.same_site) in
+      let low = drawn (sites ∙ numbered.chans.same_site) (omega arith) in
       let from = numbered.chans.from in
       absurd (omega arith)
 
