@@ -1,3 +1,4 @@
 pub mod Walks
 pub mod RowLemmas
 pub mod IndexLemmas
+pub mod Messages
