@@ -1,6 +1,6 @@
 // Which reaction is ready.
-ghost use Rattle.std.specs.Prelude.{◌≡◌, ℕ, ◌<◌, ◌↔◌, length, slice_get, Some, IfSome, IfNone, IsTrue};
-ghost use Rattle.std.specs.Prelude.{IsSome};
+ghost use Rattle.std.specs.Prelude.{◌≡◌, ℕ, ◌<◌, ◌↔◌, length, slice_get, Some};
+ghost use Rattle.std.specs.Prelude.{IfSome, IfNone, IsTrue};
 ghost use Rattle.queue_cells.specs.Grouped.{AllHeld};
 ghost use Rattle.loc_tree.specs.Tree.{spot};
 ghost use Rattle.net_laws.specs.Site.{Group};
