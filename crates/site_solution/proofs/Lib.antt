@@ -4,3 +4,7 @@ pub mod Naming
 pub mod Putting
 pub mod Keeping
 pub mod Walked
+pub mod Puts
+pub mod Together
+pub mod Possible
+pub mod Dropping

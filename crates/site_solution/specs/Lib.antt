@@ -7,3 +7,4 @@ pub mod Draws
 pub mod Rising
 pub mod Index
 pub mod Stored
+pub mod Possible

@@ -13,4 +13,5 @@ mod tests;
 mod told;
 mod walking;
 
-pub use site::Site;
+pub use site::{Site, site_is_kept};
+pub use walking::message_is_there;

@@ -7,8 +7,10 @@ ghost use Rattle.net_laws.specs.Site.{Group, told_in};
 ghost use Rattle.net_laws.specs.Net.{among, home_or};
 ghost use Rattle.net_laws.specs.Opening.{empty_site};
 ghost use Rattle.net_laws.specs.Posting.{with_queues};
+ghost use Rattle.net_laws.specs.Kept.{IsKept};
 ghost use Rattle.site_solution.specs.Told.{told_by};
-ghost use Rattle.site_solution.specs.CanLay.{CanLay};
+ghost use Rattle.chem_model.specs.Each.{Each};
+ghost use Rattle.site_solution.specs.CanLay.{CanLay, HasNumbers};
 ghost use Rattle.net_laws.specs.Holding.{put, ask, lay, host_all, request_with, drop_request};
 ghost use Rattle.queue_cells.specs.Grouped.{AllHeld};
 ghost use Rattle.status_words.specs.Words.{number_of_words};
@@ -85,6 +87,13 @@ impl Site {
         })
     }
 
+    /// The number of its root.
+    pub fn number(&self) -> u32
+        ensures { result ≡ self.now.number }
+    {
+        self.number
+    }
+
     /// Whether the location is hosted here.
     pub fn has(&self, loc: &Loc) -> bool
         ensures { result ≡ among self.now.locs loc.now }
@@ -109,6 +118,17 @@ impl Site {
         ensures { option_copied result ≡ request_with atom.now self.now.requests }
     {
         self.requests.find(*atom)
+    }
+
+    /// The request with this id, which is here.
+    pub fn asked(&self, atom: &AtomId) -> Request
+        requires { IsSome (request_with atom.now self.now.requests) }
+        ensures { request_with atom.now self.now.requests ≡ Some result }
+    {
+        match self.requests.find(*atom) {
+            Some(request) => *request,
+            None => unreachable!(),
+        }
     }
 
     /// The request at this place in the order of ids.
@@ -333,6 +353,16 @@ impl Site {
     {
         self.requests.remove(*atom);
     }
+}
+
+/// All that a site holds stands at locations that it hosts, a queue holds messages on its channel
+/// with its count, no group could take a stuck message, no two groups share a channel, and channels
+/// and rules have numbers of 64 bits. It does nothing.
+pub fn site_is_kept(site: &Site)
+    ensures kept { IsKept site.now }
+    ensures numbers { Each HasNumbers (told_in site.now.groups) }
+{
+    let _number = site.number;
 }
 
 fn tops_are_there(tree: &LocTree, tops: &[Loc]) -> bool
