@@ -1,6 +1,9 @@
 pub mod Ranks
+pub mod Marks
 pub mod Queueing
 pub mod Naming
+pub mod Left
 pub mod Putting
 pub mod Keeping
 pub mod Walked
+pub mod Copied
