@@ -1,7 +1,6 @@
 -- What each call keeps of a site.
 use Rattle.std.proofs.Common.{◌≡◌, ℕ, zero, suc, ◌+◌, ◌<◌, ◌^◌, Bool, true, false, cond, List, [], ◌∷◌, ◌++◌, length, Option, Some, None, Result, Ok, Err, refl, sym, ap, subst, ◌∙◌, arith}
 use Rattle.std.specs.Prelude.{slice_get, slice_set, slice_index_or, drop, OnOk, OnErr}
-use Rattle.std.specs.HashMap.{get}
 use Rattle.chem_model.specs.declared.name.Loc.{Loc}
 use Rattle.chem_model.specs.declared.event.AtomId.{AtomId}
 use Rattle.chem_model.specs.Apply.{same_atom}
@@ -20,13 +19,13 @@ use Rattle.net_laws.proofs.Holding.{put_is, lay_is}
 use Rattle.net_laws.proofs.Posting.{host_kept, each_with, fronts_go}
 use Rattle.site_solution.specs.declared.site.Site.TheInside.{Inside}
 use Rattle.site_solution.specs.Held.{queues_in, queue_of, without_front}
-use Rattle.site_solution.specs.Index.{Rows, Key, key_of, groups_of, told_of, holding, locate, same_key, IsIndex}
-use Rattle.site_solution.specs.declared.told.Spot.{Spot}
+use Rattle.site_solution.specs.Index.{Rows, groups_of, told_of, holding, IsIndex}
+use Rattle.site_solution.specs.declared.told.Spots.{Spots}
 use Rattle.std.proofs.lemmas.List.{length-append}
 use Rattle.chem_laws.proofs.Lists.{Each-append}
 use Rattle.site_solution.specs.Stored.{seen, IsStored}
 use Rattle.site_solution.specs.CanLay.{HasNumbers, CanLay}
-use Rattle.site_solution.proofs.Queueing.{queues-are}
+use Rattle.site_solution.proofs.Queueing.{queues-are, index-same}
 use Rattle.site_solution.proofs.Putting.{told-many, queue-set}
 
 -- what holds before and after holds of what comes out
@@ -89,14 +88,14 @@ drop-stored a i h = record {
 -- the site would be stored with these groups and these stuck messages
 pub record AreStored (a : Inside) (qs : Rows) (ws : List Waiting) : Type 0 where
   pub kept : IsKept (holding (seen a) qs ws)
-  pub index : IsIndex (get same_key a.spots) (groups_of qs)
+  pub index : IsIndex a.spots (groups_of qs)
   pub numbers : Each HasNumbers (told_of qs)
   pub few : length qs < 2 ^ 32
 
 pub as-stored : (a : Inside) → IsStored a → AreStored a a.groups.groups a.stuck.items
 as-stored a h = record { kept = h.kept; index = h.index; numbers = h.numbers; few = h.few }
 
-pub put-stored : (a : Inside) (l : Loc) (m : MessageParts) (qs : Rows) (ws : List Waiting) → IsStored a → among a.locs l ≡ true → home_or l m.on ≡ l → IsIndex (get same_key a.spots) (groups_of qs) → told_of qs ≡ told_of a.groups.groups → put l m (seen a) ≡ holding (seen a) qs ws → AreStored a qs ws
+pub put-stored : (a : Inside) (l : Loc) (m : MessageParts) (qs : Rows) (ws : List Waiting) → IsStored a → among a.locs l ≡ true → home_or l m.on ≡ l → IsIndex a.spots (groups_of qs) → told_of qs ≡ told_of a.groups.groups → put l m (seen a) ≡ holding (seen a) qs ws → AreStored a qs ws
 put-stored a l m qs ws h here home index told is = record {
   kept = subst IsKept is (put_is l m (seen a) h.kept here home).kept;
   index = index;
@@ -169,11 +168,7 @@ front-stored a new j c m h some front is =
     let kept : IsKept (holding (seen a) new a.stuck.items) = subst (λ gs. IsKept (record (seen a) { groups = gs })) (sym after) gone.kept in
     record {
       kept = kept;
-      index = record {
-        named = λ site k home. h.index.named site k home ∙ ap (λ ds. locate ds site k home) (sym told);
-        queues = kept.queues;
-        apart = kept.apart;
-      };
+      index = index-same a.spots (groups_of qs) (groups_of new) h.index told kept.queues;
       numbers = subst (Each HasNumbers) (sym told) h.numbers;
       few = let many = sym (told-many new) ∙ ap length told ∙ told-many qs in omega (arith, h.few);
     }
@@ -181,22 +176,18 @@ front-stored a new j c m h some front is =
 -- ---- a group is laid
 
 -- the site would be stored with these groups, these stuck messages and this index
-pub record AreIndexed (a : Inside) (find : Key → Option Spot) (qs : Rows) (ws : List Waiting) : Type 0 where
+pub record AreIndexed (a : Inside) (spots : Spots) (qs : Rows) (ws : List Waiting) : Type 0 where
   pub kept : IsKept (holding (seen a) qs ws)
-  pub index : IsIndex find (groups_of qs)
+  pub index : IsIndex spots (groups_of qs)
   pub numbers : Each HasNumbers (told_of qs)
   pub few : length qs < 2 ^ 32
 
-pub room-stored : (a : Inside) (find : Key → Option Spot) (qs : Rows) → IsStored a → qs ≡ a.groups.groups → ((k : Key) → find k ≡ get same_key a.spots k) → AreIndexed a find qs a.stuck.items
-room-stored a find qs h groups same =
+pub room-stored : (a : Inside) (spots : Spots) (qs : Rows) → IsStored a → qs ≡ a.groups.groups → IsIndex spots (groups_of a.groups.groups) → AreIndexed a spots qs a.stuck.items
+room-stored a spots qs h groups index =
     let back = sym groups in
     record {
       kept = subst (λ ps. IsKept (holding (seen a) ps a.stuck.items)) back h.kept;
-      index = record {
-        named = λ site k home. same (key_of site k home) ∙ h.index.named site k home ∙ ap (λ ps. locate (told_of ps) site k home) back;
-        queues = subst (λ ps. Each (λ (g : Group). AreQueues g.told.inst 0 g.told.counts g.queues) (groups_of ps)) back h.index.queues;
-        apart = subst (λ ps. AreApart (told_of ps)) back h.index.apart;
-      };
+      index = subst (λ ps. IsIndex spots (groups_of ps)) back index;
       numbers = subst (λ ps. Each HasNumbers (told_of ps)) back h.numbers;
       few = subst (λ (ps : Rows). length ps < 2 ^ 32) back h.few;
     }
@@ -205,8 +196,8 @@ pub laid-site : (s : Site) (more qs : Rows) (d e : Told) (stuck empty waiting ws
 laid-site s more qs d e stuck empty waiting ws groups told none there put =
     sym put ∙ ap (λ vs. put_all vs (holding s more empty)) there ∙ ap (λ vs. put_all s.stuck (holding s more vs)) none ∙ ap (λ gs. put_all s.stuck (record s { groups = gs; stuck = [] })) groups ∙ ap (λ (x : Told). lay x s) told
 
-pub laid-stored : (a : Inside) (find : Key → Option Spot) (qs : Rows) (ws : List Waiting) (d : Told) → IsStored a → CanLay d (seen a) → holding (seen a) qs ws ≡ lay d (seen a) → IsIndex find (groups_of qs) → length a.groups.groups + 1 < 2 ^ 32 → AreIndexed a find qs ws
-laid-stored a find qs ws d h can is index few =
+pub laid-stored : (a : Inside) (spots : Spots) (qs : Rows) (ws : List Waiting) (d : Told) → IsStored a → CanLay d (seen a) → holding (seen a) qs ws ≡ lay d (seen a) → IsIndex spots (groups_of qs) → length a.groups.groups + 1 < 2 ^ 32 → AreIndexed a spots qs ws
+laid-stored a spots qs ws d h can is index few =
     let laid = lay_is d (seen a) h.kept can.here can.apart in
     let told : told_of qs ≡ told_of a.groups.groups ++ d ∷ [] = ap (λ (s : Site). told_in s.groups) is ∙ laid.told in
     let many = sym (told-many qs) ∙ ap length told ∙ length-append (told_of a.groups.groups) (d ∷ []) in

@@ -1,6 +1,8 @@
 pub mod Ranks
+pub mod Marks
 pub mod Queueing
 pub mod Naming
+pub mod Left
 pub mod Putting
 pub mod Keeping
 pub mod Walked
@@ -8,3 +10,4 @@ pub mod Puts
 pub mod Together
 pub mod Possible
 pub mod Dropping
+pub mod Copied

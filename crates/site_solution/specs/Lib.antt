@@ -6,5 +6,7 @@ pub mod InCode
 pub mod Draws
 pub mod Rising
 pub mod Index
+pub mod Forgotten
+pub mod Packed
 pub mod Stored
 pub mod Possible

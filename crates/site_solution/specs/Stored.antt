@@ -1,12 +1,11 @@
 -- How a site lies in its fields. No public contract cites it.
 use Rattle.std.specs.Prelude.{◌<◌, ◌^◌, length}
-use Rattle.std.specs.HashMap.{get}
 use Rattle.chem_model.specs.Each.{Each}
 use Rattle.net_laws.specs.Site.{Site, told_in}
 use Rattle.net_laws.specs.Kept.{IsKept}
 use Rattle.site_solution.specs.declared.site.Site.TheInside.{Inside}
 use Rattle.site_solution.specs.CanLay.{HasNumbers}
-use Rattle.site_solution.specs.Index.{groups_of, same_key, IsIndex}
+use Rattle.site_solution.specs.Index.{groups_of, IsIndex}
 
 abbrev pub seen : Inside → Site
 seen a = record {
@@ -20,6 +19,6 @@ seen a = record {
 
 pub record IsStored (a : Inside) : Type 0 where
   pub kept : IsKept (seen a)
-  pub index : IsIndex (get same_key a.spots) (groups_of a.groups.groups)
+  pub index : IsIndex a.spots (groups_of a.groups.groups)
   pub numbers : Each HasNumbers (told_in (groups_of a.groups.groups))
   pub few : length a.groups.groups < 2 ^ 32

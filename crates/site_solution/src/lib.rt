@@ -6,6 +6,8 @@
 
 mod asked;
 mod finding;
+mod forgetting;
+mod packing;
 mod site;
 mod testing;
 #[cfg(test)]

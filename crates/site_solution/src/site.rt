@@ -24,18 +24,17 @@ ghost use Rattle.site_solution.specs.InTree.{has_number, is_in_tree};
 ghost use Rattle.site_solution.specs.Held.{queues_of, queue_of, without_front, inst_in, has_atom};
 
 use crate::asked::Asked;
-use crate::finding::{Spots, add_group, find, push_back, settle};
+use crate::finding::{add_group, find, no_spots, push_back, reserve_spots, settle};
 use crate::testing::{
     Count, are_told_by, groups_are_drawn, locs_are_drawn, requests_are_drawn, stuck_are_drawn,
 };
-use crate::told::Told;
+use crate::told::{Spots, Told};
 use crate::walking::{groups_are_there, in_groups, in_stuck, requests_are_there, stuck_are_there};
 use chem_model::{AtomId, Items, Loc, Memory, same_loc};
 use env_store::Code;
 use loc_tree::LocTree;
 use queue_cells::{Groups, Idle};
 use std::alloc::Global;
-use std::collections::HashMap;
 use std::marker::Model;
 use std::mem;
 use wire_packet::{GroupInst, Msg, Request, Waiting};
@@ -81,7 +80,7 @@ impl Site {
             made: 1,
             locs,
             groups: Groups::new(alloc),
-            spots: HashMap::new(alloc),
+            spots: no_spots(alloc),
             stuck: Vec::new(alloc),
             requests: Asked::new(alloc),
         })
@@ -230,7 +229,7 @@ impl Site {
         let count = self.stuck.len();
         self.groups.reserve(count)?;
         self.groups.reserve_groups(1)?;
-        self.spots.reserve(width as usize)?;
+        reserve_spots(&mut self.spots, 1, width as usize)?;
         let mut rest = Vec::with_capacity(alloc, count)?;
         let idle = Idle::new(alloc, told, width)?;
         add_group(&mut self.groups, &mut self.spots, idle, first, home, width);
