@@ -1,5 +1,5 @@
 -- Naming and laying blocks, put together from their parts.
-use Rattle.std.proofs.Common.{◌≡◌, ℕ, ◌+◌, ◌-◌, ◌<◌, ◌≤◌, List, [], ◌∷◌, ◌++◌, length, get_or, take, drop, Option, Some, None, Result, Ok, Err, OnOk, refl, sym, ap, ◌∙◌, subst, append_assoc, arith, length-append}
+use Rattle.std.proofs.Common.{◌≡◌, ℕ, ◌+◌, ◌-◌, ◌<◌, ◌≤◌, List, [], ◌∷◌, ◌++◌, length, get_or, take, drop, Some, Result, Ok, Err, OnOk, refl, sym, ap, ◌∙◌, subst, append_assoc, arith, length-append}
 use Rattle.std.specs.Prelude.{slice_get}
 use Rattle.std.proofs.lemmas.List.{take_all}
 use Rattle.std.proofs.lemmas.Option.{slice_get_within}
@@ -14,10 +14,10 @@ use Rattle.env_store.specs.declared.code.Block.{Block}
 use Rattle.env_store.specs.CodeParts.{CodeParts}
 use Rattle.env_store.specs.declared.code.Instr.TheVariants.{Enter}
 use Rattle.env_store.specs.CodeFacts.{IsCode, IsLevelAt, IsBlockBelow, AreBelow, names_made}
-use Rattle.env_store.specs.Running.{Ran, nothing_ran, then_ran, births_ran, group_ran, NumberedLevel, with_level, numbered_levels, loc_at, channel_names, place_names, place_births, after_place, block_names, Making, body_ran, places_ran, block_laid, levels_entered, block_entered, Entered}
+use Rattle.env_store.specs.Running.{nothing_ran, then_ran, births_ran, group_ran, NumberedLevel, with_level, numbered_levels, channel_names, place_names, place_births, Making, places_ran, levels_entered, block_entered, Entered}
 use Rattle.code_run.specs.declared.made.Run.{Run}
 use Rattle.code_run.specs.Steps.{Adds, IsThere, FitsFirst, levels_named, levels_laid}
-use Rattle.code_run.proofs.Runs.{adds_then, adds_nothing, drop_number}
+use Rattle.code_run.proofs.Runs.{adds_then, drop_number}
 use Rattle.code_run.proofs.Numbers.{block_long}
 
 module _ (c : CodeParts) where

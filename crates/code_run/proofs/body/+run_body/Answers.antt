@@ -1,4 +1,4 @@
-use Rattle.std.proofs.Common.{◌≡◌, ℕ, ◌+◌, ◌<◌, List, [], ◌∷◌, ◌++◌, length, get_or, drop, Some, None, refl, sym, ap, ◌∙◌, subst, arith}
+use Rattle.std.proofs.Common.{◌≡◌, ◌+◌, List, [], ◌∷◌, ◌++◌, length, get_or, drop, Some, refl, sym, ap, ◌∙◌, subst, arith}
 use Rattle.env_store.specs.declared.code.Instr.{Instr}
 use Rattle.chem_model.specs.declared.name.Name.{Name}
 use Rattle.env_store.specs.declared.code.Instr.TheVariants.{Enter}
@@ -7,7 +7,7 @@ use Rattle.env_store.specs.Running.{code_made, loc_at, numbered_levels}
 use Rattle.code_run.specs.declared.made.Run.{Run}
 use Rattle.code_run.specs.Steps.{FitsFirst}
 use Rattle.code_run.proofs.Runs.{drop_at, drop_number, drop_past}
-use Rattle.code_run.proofs.Blocks.{block_levels, block_there, block_below, wide_levels, enter_made, enter_env, places_at, places_there, places_below}
+use Rattle.code_run.proofs.Blocks.{block_there, block_below, wide_levels, enter_made, enter_env, places_at, places_there, places_below}
 use Rattle.code_run.proofs.Loops.{few_names, run_begins, run_steps, fits_first, falls_now, run_made, run_leaves, laying_begins, laying_steps, laying_made, place_body, body_some, body_none}
 use Rattle.code_run.proofs.body.+run_body.Goals as goal
 use Rattle.code_run.proofs.body.+run_body.Goals.{lay_places-in-Some+in_ok-run_body, lay_places-in_default}
