@@ -1,5 +1,5 @@
 -- Naming and laying blocks, put together from their parts.
-use Rattle.std.proofs.Common.{◌≡◌, ℕ, ◌+◌, ◌-◌, ◌<◌, ◌≤◌, List, [], ◌∷◌, ◌++◌, length, get_or, take, drop, Option, Some, None, Result, Ok, Err, OnOk, refl, sym, ap, ◌∙◌, subst, append_assoc, arith, length-append}
+use Rattle.std.proofs.Common.{◌≡◌, ℕ, ◌+◌, ◌-◌, ◌<◌, ◌≤◌, List, [], ◌∷◌, ◌++◌, length, get_or, take, drop, Some, Result, Ok, Err, OnOk, refl, sym, ap, ◌∙◌, subst, append_assoc, arith, length-append}
 use Rattle.std.specs.Prelude.{slice_get}
 use Rattle.std.proofs.lemmas.List.{take_all}
 use Rattle.std.proofs.lemmas.Option.{slice_get_within}
@@ -14,10 +14,10 @@ use Rattle.env_store.specs.declared.code.Block.{Block}
 use Rattle.env_store.specs.CodeParts.{CodeParts}
 use Rattle.env_store.specs.declared.code.Instr.TheVariants.{Enter}
 use Rattle.env_store.specs.CodeFacts.{IsCode, IsLevelAt, IsBlockBelow, AreBelow, names_made}
-use Rattle.env_store.specs.Running.{Ran, nothing_ran, then_ran, births_ran, group_ran, NumberedLevel, with_level, numbered_levels, loc_at, channel_names, place_names, place_births, after_place, block_names, Making, body_ran, places_ran, block_laid, levels_entered, block_entered, Entered}
+use Rattle.env_store.specs.Running.{nothing_ran, then_ran, births_ran, group_ran, NumberedLevel, with_level, numbered_levels, channel_names, place_names, place_births, Making, places_ran, levels_entered, block_entered, Entered}
 use Rattle.code_run.specs.declared.made.Run.{Run}
 use Rattle.code_run.specs.Steps.{Adds, IsThere, FitsFirst, levels_named, levels_laid}
-use Rattle.code_run.proofs.Runs.{adds_then, adds_nothing, drop_number}
+use Rattle.code_run.proofs.Runs.{adds_then, drop_number}
 use Rattle.code_run.proofs.Numbers.{block_long}
 
 module _ (c : CodeParts) where
@@ -86,19 +86,16 @@ module _ (c : CodeParts) (s : ℕ) (l : Loc) (k : ℕ) where
       ap {B = Entered} (λ (n : ℕ). record { names = []; ran = nothing_ran n }) zero
   levels_entered_is M env (v ∷ vs) = refl
 
-  pub entered_made : (M : Making) (env wide : List Name) (vs : List NumberedLevel) (names : List Name) (n : ℕ) (old mid new : Run) (o : Result (Unit {0}) Memory) → names ≡ levels_named s l k vs → n ≡ k + length names → wide ≡ env ++ names
-      → mid ≡ record { next = n; births = old.births; groups = old.groups; posts = old.posts; outs = old.outs }
-      → OnOk o (Adds mid new (levels_laid M s wide l k mid.next vs))
+  entered_made : (M : Making) (env wide : List Name) (vs : List NumberedLevel) (n : ℕ) (old new : Run) (o : Result (Unit {0}) Memory) → let ns = levels_named s l k vs in
+      n ≡ k + length ns → wide ≡ env ++ ns
+      → OnOk o (Adds (record { next = n; births = old.births; groups = old.groups; posts = old.posts; outs = old.outs }) new (levels_laid M s wide l k n vs))
       → OnOk o (Adds old new (levels_entered M s env l k vs).ran)
-  entered_made M env wide vs names n old mid new (Err m) named next whole same h = tt
-  entered_made M env wide vs names n old mid new (Ok u) named next whole same h =
+  entered_made M env wide vs n old new (Err m) next whole h = tt
+  entered_made M env wide vs n old new (Ok u) next whole h =
       let at : Run = record { next = n; births = old.births; groups = old.groups; posts = old.posts; outs = old.outs } in
       let ns = levels_named s l k vs in
-      let h1 : Adds at new (levels_laid M s wide l k n vs) = subst (λ (m : Run). Adds m new (levels_laid M s wide l k m.next vs)) same h in
-      let wide_is : wide ≡ env ++ ns = whole ∙ ap (λ xs. env ++ xs) named in
-      let next_is : n ≡ k + length ns = next ∙ ap (λ (xs : List Name). k + length xs) named in
-      let h2 : Adds at new (levels_laid M s (env ++ ns) l k (k + length ns) vs) = subst (λ (q : List Name × ℕ). Adds at new (levels_laid M s q.0 l k q.1 vs)) (λ i. (wide_is i, next_is i)) h1 in
-      subst (λ (e : Entered). Adds old new e.ran) (sym (levels_entered_is M env vs)) h2
+      let laid : Adds at new (levels_laid M s (env ++ ns) l k (k + length ns) vs) = subst (λ (q : List Name × ℕ). Adds at new (levels_laid M s q.0 l k q.1 vs)) (λ i. (whole i, next i)) h in
+      subst (λ (e : Entered). Adds old new e.ran) (sym (levels_entered_is M env vs)) laid
 
 -- ---- the block that an instruction enters
 
@@ -120,34 +117,40 @@ module _ (c : CodeParts) (d n : ℕ) (block : Block) (fits : FitsFirst c d (Ente
     named_long [] = refl
     named_long (v ∷ vs) = block_long s l k v vs
 
-    pub wide_levels : (env wide names : List Name) (levels : List ℕ) → length env ≡ d → wide ≡ env ++ names → names ≡ levels_named s l k (numbered_levels c.levels block.levels) → levels ≡ block.levels → Each (IsLevelAt c (length wide)) levels
-    wide_levels env wide names levels e whole named same =
-        let is = kept.blocks n block there in
-        let many : length names ≡ block.names = ap length named ∙ named_long (numbered_levels c.levels block.levels) ∙ sym is.names in
-        let long : length wide ≡ d + block.names = omega (arith, ap length whole, length-append env names) in
-        subst (λ (q : ℕ × List ℕ). Each (IsLevelAt c q.0) q.1) (λ i. (sym long i, sym same i)) block_levels
+    -- what it names are as many as it says
+    many : length (levels_named s l k (numbered_levels c.levels block.levels)) ≡ block.names
+    many = named_long (numbered_levels c.levels block.levels) ∙ sym (kept.blocks n block there).names
 
-    module _ (M : Making) (env : List Name) (names wide : List Name) (named : names ≡ levels_named s l k (numbered_levels c.levels block.levels)) (whole : wide ≡ env ++ names) (o : Result (Unit {0}) Memory) where
-      abbrev entered : Entered
-      entered = block_entered c M s env l k (slice_get c.blocks n)
+    module _ (env wide : List Name) (levels : List ℕ) (same : levels ≡ block.levels) (whole : wide ≡ env ++ levels_named s l k (numbered_levels c.levels levels)) where
+      wide_is : wide ≡ env ++ levels_named s l k (numbered_levels c.levels block.levels)
+      wide_is = whole ∙ ap (λ ns. env ++ levels_named s l k (numbered_levels c.levels ns)) same
 
-      entered_is : entered ≡ levels_entered M s env l k (numbered_levels c.levels block.levels)
-      entered_is = ap (block_entered c M s env l k) there
+      pub wide_levels : length env ≡ d → Each (IsLevelAt c (length wide)) levels
+      wide_levels e =
+          let long : length wide ≡ d + block.names = omega (arith, ap length wide_is, length-append env (levels_named s l k (numbered_levels c.levels block.levels)), many) in
+          subst (λ (q : ℕ × List ℕ). Each (IsLevelAt c q.0) q.1) (λ i. (sym long i, sym same i)) block_levels
 
-      pub enter_made : (levels : List ℕ) (next : ℕ) (old new : Run) → levels ≡ block.levels → next ≡ k + length names
-          → OnOk o (Adds (record { next = next; births = old.births; groups = old.groups; posts = old.posts; outs = old.outs }) new (levels_laid M s wide l k next (numbered_levels c.levels levels)))
-          → OnOk o (Adds old new (block_entered c M s env l k (slice_get c.blocks n)).ran)
-      enter_made levels next old new same up h =
-          let mid : Run = record { next = next; births = old.births; groups = old.groups; posts = old.posts; outs = old.outs } in
-          let vs = numbered_levels c.levels block.levels in
-          let at : OnOk o (Adds mid new (levels_laid M s wide l k next vs)) = subst (λ ns. OnOk o (Adds mid new (levels_laid M s wide l k next (numbered_levels c.levels ns)))) same h in
-          subst (λ (e : Entered). OnOk o (Adds old new e.ran)) (sym entered_is) (entered_made c s l k M env wide vs names next old mid new o named up whole refl at)
+      module _ (M : Making) (o : Result (Unit {0}) Memory) where
+        abbrev entered : Entered
+        entered = block_entered c M s env l k (slice_get c.blocks n)
 
-      pub enter_env : (new : List Name) → OnOk o (new ≡ wide) → OnOk o (new ≡ env ++ (block_entered c M s env l k (slice_get c.blocks n)).names)
-      enter_env new h =
-          let vs = numbered_levels c.levels block.levels in
-          let names_are : names ≡ entered.names = named ∙ ap (λ (e : Entered). e.names) (sym (entered_is ∙ levels_entered_is c s l k M env vs)) in
-          subst (λ xs. OnOk o (new ≡ xs)) (whole ∙ ap (λ xs. env ++ xs) names_are) h
+        entered_is : entered ≡ levels_entered M s env l k (numbered_levels c.levels block.levels)
+        entered_is = ap (block_entered c M s env l k) there
+
+        pub enter_made : (next : ℕ) (old new : Run) → next ≡ k + block.names
+            → OnOk o (Adds (record { next = next; births = old.births; groups = old.groups; posts = old.posts; outs = old.outs }) new (levels_laid M s wide l k next (numbered_levels c.levels levels)))
+            → OnOk o (Adds old new (block_entered c M s env l k (slice_get c.blocks n)).ran)
+        enter_made next old new up h =
+            let mid : Run = record { next = next; births = old.births; groups = old.groups; posts = old.posts; outs = old.outs } in
+            let vs = numbered_levels c.levels block.levels in
+            let at : OnOk o (Adds mid new (levels_laid M s wide l k next vs)) = subst (λ ns. OnOk o (Adds mid new (levels_laid M s wide l k next (numbered_levels c.levels ns)))) same h in
+            subst (λ (e : Entered). OnOk o (Adds old new e.ran)) (sym entered_is) (entered_made c s l k M env wide vs next old new o (up ∙ ap (λ j. k + j) (sym many)) wide_is at)
+
+        pub enter_env : (new : List Name) → OnOk o (new ≡ wide) → OnOk o (new ≡ env ++ (block_entered c M s env l k (slice_get c.blocks n)).names)
+        enter_env new h =
+            let vs = numbered_levels c.levels block.levels in
+            let names_are : levels_named s l k vs ≡ entered.names = ap (λ (e : Entered). e.names) (sym (entered_is ∙ levels_entered_is c s l k M env vs)) in
+            subst (λ xs. OnOk o (new ≡ xs)) (wide_is ∙ ap (λ xs. env ++ xs) names_are) h
 
 -- ---- the places of a block that is laid
 

@@ -27,7 +27,7 @@ use Rattle.net_laws.specs.ByCode.{counts_at, guards_at}
 use Rattle.code_run.specs.Posts.{run_of}
 use Rattle.code_run.specs.RunFacts.{IsHere, IsNameHere, IsOfRun, IsLaid, IsRun}
 use Rattle.code_run.proofs.Runs.{filled}
-use Rattle.code_run.proofs.Numbers.{Numbers, Within, guards_of, chans_of, code_numbers, opening_numbers, message_numbers}
+use Rattle.code_run.proofs.Numbers.{Numbers, Within, chans_of, code_numbers, opening_numbers, message_numbers}
 use Rattle.code_run.proofs.Stays.{Stays, IsDeep, IsOk, code_here, opening_here, message_here}
 
 or_true : (t : Bool) → t || true ≡ true

@@ -1,9 +1,8 @@
 -- The loops over a body's instructions and over places.
-use Rattle.std.proofs.Common.{◌≡◌, ℕ, zero, suc, ◌+◌, ◌-◌, ◌*◌, ◌<◌, ◌≤◌, List, [], ◌∷◌, ◌++◌, length, get_or, take, drop, Option, Some, None, Result, Ok, Err, OnOk, refl, sym, ap, ◌∙◌, subst, append_assoc, arith, length-append}
+use Rattle.std.proofs.Common.{◌≡◌, ℕ, suc, ◌+◌, ◌-◌, ◌<◌, ◌≤◌, List, [], ◌∷◌, ◌++◌, length, take, Option, Some, None, refl, sym, ap, ◌∙◌, subst, append_assoc, arith, length-append}
 use Rattle.std.specs.Prelude.{slice_get}
 use Rattle.std.proofs.lemmas.List.{length-take}
 use Rattle.std.proofs.lemmas.Option.{slice_get_within}
-use Rattle.chem_model.specs.declared.memory.Memory.{Memory}
 use Rattle.chem_model.specs.declared.name.Loc.{Loc}
 use Rattle.chem_model.specs.declared.name.Name.{Name}
 use Rattle.chem_model.specs.Each.{Each}
@@ -14,10 +13,9 @@ use Rattle.env_store.specs.declared.code.Slot.{Slot}
 use Rattle.env_store.specs.declared.code.Instr.{Instr}
 use Rattle.env_store.specs.declared.code.Instr.TheVariants.{Send, Enter, Leave, Go, Fail, Halt}
 use Rattle.env_store.specs.declared.code.Level.{Level}
-use Rattle.env_store.specs.declared.code.Block.{Block}
 use Rattle.env_store.specs.CodeParts.{CodeParts}
-use Rattle.env_store.specs.CodeFacts.{IsCode, IsLevel, IsBodyAt, IsLevelAt, IsPlaceBody, IsBelow, AreBelow, IsBlockBelow, Falls, Fits}
-use Rattle.env_store.specs.Running.{refs_at, Ran, nothing_ran, then_ran, group_ran, NumberedLevel, numbered_levels, loc_at, after_place, Making, body_ran, places_ran, block_entered, run, code_made, without_last}
+use Rattle.env_store.specs.CodeFacts.{IsCode, IsLevel, IsBodyAt, IsLevelAt, IsPlaceBody, IsBelow, AreBelow, Falls, Fits}
+use Rattle.env_store.specs.Running.{refs_at, then_ran, group_ran, NumberedLevel, numbered_levels, loc_at, after_place, Making, body_ran, places_ran, block_entered, run, code_made, without_last}
 use Rattle.env_store.proofs.Bodies.{code_made_is}
 use Rattle.env_store.proofs.Environments.{block_entered_long}
 use Rattle.code_run.specs.declared.made.Run.{Run}

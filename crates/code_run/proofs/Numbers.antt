@@ -1,5 +1,5 @@
 -- The numbers of what runs make: locations, groups, messages and requests, each behind those before it. It holds of every code.
-use Rattle.std.proofs.Common.{◌≡◌, ℕ, zero, suc, ◌+◌, ◌<◌, ◌≤◌, List, [], ◌∷◌, ◌++◌, ◌==◌, length, Option, Some, None, Bool, true, false, cond, refl, sym, ap, ◌∙◌, subst, arith, length-append, ◌⊎◌, inl, inr}
+use Rattle.std.proofs.Common.{◌≡◌, ℕ, zero, suc, ◌+◌, ◌≤◌, List, [], ◌∷◌, ◌++◌, ◌==◌, length, Option, Some, None, Bool, true, false, cond, refl, sym, ap, subst, arith, length-append, ◌⊎◌, inl, inr}
 use Rattle.std.specs.Prelude.{slice_get}
 use Rattle.chem_model.specs.declared.name.Loc.{Loc}
 use Rattle.chem_model.specs.declared.name.Name.{Name}
@@ -8,11 +8,10 @@ use Rattle.chem_model.specs.declared.name.Ref.{Ref}
 use Rattle.chem_model.specs.declared.name.Ref.TheVariants.{Binder, Known}
 use Rattle.chem_model.specs.declared.event.AtomId.{AtomId}
 use Rattle.chem_model.specs.declared.numbered.NumberedAtom.{NumberedAtom}
-use Rattle.chem_model.specs.declared.numbered.Made.{Made}
 use Rattle.chem_model.specs.Process.{Process, Msg, Par, Def, Go, Fail, Halt}
 use Rattle.chem_model.specs.Each.{Each}
 use Rattle.chem_model.specs.Pour.{known, is_count, out_made, atom_made, message_made}
-use Rattle.chem_laws.proofs.Lists.{Each-append, Each-weaker, append_nil}
+use Rattle.chem_laws.proofs.Lists.{Each-append, Each-weaker}
 use Rattle.wire_packet.specs.declared.packet.GroupInst.{GroupInst}
 use Rattle.env_store.specs.declared.code.Instr.{Instr}
 use Rattle.env_store.specs.declared.code.Instr.TheVariants as instr
@@ -22,10 +21,9 @@ use Rattle.env_store.specs.declared.code.SiteCode.{SiteCode}
 use Rattle.env_store.specs.CodeParts.{CodeParts}
 use Rattle.env_store.specs.CodeFacts.{place_names_made}
 use Rattle.env_store.specs.Groups.{AreFrom, NoneShared}
-use Rattle.env_store.specs.Running.{ref_at, refs_at, Ran, nothing_ran, atom_ran, births_ran, then_ran, group_ran, NumberedLevel, with_level, numbered_levels, loc_at, channel_names, place_names, place_births, after_place, block_names, Making, body_ran, places_ran, block_laid, levels_entered, block_entered, run, run_body, made_below, code_made, without_last, site_levels_ran, site_block_ran, site_made}
+use Rattle.env_store.specs.Running.{ref_at, refs_at, Ran, nothing_ran, atom_ran, then_ran, group_ran, NumberedLevel, with_level, numbered_levels, loc_at, channel_names, place_names, place_births, after_place, block_names, Making, body_ran, places_ran, block_laid, levels_entered, block_entered, run, run_body, made_below, code_made, without_last, site_levels_ran, site_block_ran, site_made}
 use Rattle.env_store.proofs.NamingOrder.{channels_long}
 use Rattle.net_laws.specs.Site.{Told}
-use Rattle.net_laws.specs.Changes.{channel_of}
 use Rattle.net_laws.specs.Kept.{AreDisjoint, AreApart}
 use Rattle.net_laws.specs.Parcels.{all_told}
 use Rattle.net_laws.specs.Posting.{posted_term, posted_of}

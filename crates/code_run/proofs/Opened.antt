@@ -1,16 +1,15 @@
 -- The opening of a site: its block is laid, and then its process is run.
-use Rattle.std.proofs.Common.{◌≡◌, ℕ, ◌+◌, ◌<◌, List, [], ◌∷◌, ◌++◌, length, Option, Some, None, refl, sym, ap, ◌∙◌, subst, arith}
+use Rattle.std.proofs.Common.{◌≡◌, ℕ, ◌+◌, ◌<◌, List, [], ◌∷◌, length, Option, Some, None, refl, sym, ap, ◌∙◌, subst, arith}
 use Rattle.std.specs.Prelude.{slice_get}
 use Rattle.std.proofs.lemmas.Option.{slice_get_within}
-use Rattle.chem_model.specs.declared.name.Loc.{Loc}
 use Rattle.chem_model.specs.declared.name.Name.{Name}
 use Rattle.chem_model.specs.Each.{Each}
 use Rattle.env_store.specs.declared.code.Level.{Level}
 use Rattle.env_store.specs.declared.code.Block.{Block}
 use Rattle.env_store.specs.declared.code.SiteCode.{SiteCode}
 use Rattle.env_store.specs.CodeParts.{CodeParts}
-use Rattle.env_store.specs.CodeFacts.{IsCode, IsLevelAt, IsLevel, IsPlaceBody, IsBodyAt, IsBelow, AreBelow, IsBlockAt, IsSiteCode, names_made}
-use Rattle.env_store.specs.Running.{Ran, nothing_ran, then_ran, NumberedLevel, numbered_levels, loc_at, block_names, Making, block_laid, code_made, site_levels_ran, site_block_ran, site_made}
+use Rattle.env_store.specs.CodeFacts.{IsCode, IsLevelAt, IsLevel, IsPlaceBody, IsBodyAt, IsBelow, AreBelow, IsBlockAt, names_made}
+use Rattle.env_store.specs.Running.{nothing_ran, then_ran, NumberedLevel, numbered_levels, loc_at, block_names, block_laid, code_made, site_levels_ran, site_block_ran, site_made}
 use Rattle.code_run.specs.declared.made.Run.{Run}
 use Rattle.code_run.specs.Posts.{run_of}
 use Rattle.code_run.specs.Steps.{Adds, levels_laid}

@@ -10,7 +10,6 @@ use Rattle.chem_model.specs.Pour.{message_made}
 use Rattle.chem_laws.proofs.Lists.{append_nil}
 use Rattle.env_store.specs.Running.{Ran, nothing_ran, then_ran, atom_ran}
 use Rattle.net_laws.specs.Posting.{Posted, a_message, a_request, posted_term, posted_of}
-use Rattle.code_run.specs.declared.made.Post.{Post}
 use Rattle.code_run.specs.declared.made.Run.{Run}
 use Rattle.code_run.specs.Posts.{post_of, posts_of, all_posted, run_of}
 use Rattle.code_run.specs.Steps.{Adds}

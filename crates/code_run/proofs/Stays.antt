@@ -1,32 +1,28 @@
 -- Where what runs make stands, and what it names. It holds of a body that fits, under an environment of the length that it begins with.
-use Rattle.std.proofs.Common.{◌≡◌, ℕ, zero, suc, ◌+◌, ◌-◌, ◌<◌, ◌≤◌, List, [], ◌∷◌, ◌++◌, ◌==◌, length, take, Option, Some, None, Bool, true, false, cond, refl, sym, ap, ◌∙◌, subst, arith, length-append, ◌⊎◌, inl, inr, eqb-true}
+use Rattle.std.proofs.Common.{◌≡◌, ℕ, zero, suc, ◌+◌, ◌-◌, List, [], ◌∷◌, ◌++◌, ◌==◌, length, take, Option, Some, None, Bool, true, false, cond, refl, sym, ap, ◌∙◌, subst, length-append, inl, inr, eqb-true}
 use Rattle.std.specs.Prelude.{slice_get}
-use Rattle.std.specs.List.{Contains}
 use Rattle.chem_model.specs.declared.name.Loc.{Loc}
 use Rattle.chem_model.specs.declared.name.Name.{Name}
 use Rattle.chem_model.specs.declared.name.Name.TheVariants as name
 use Rattle.chem_model.specs.declared.name.Ref.{Ref}
 use Rattle.chem_model.specs.declared.name.Ref.TheVariants.{Binder, Known}
-use Rattle.chem_model.specs.declared.event.AtomId.{AtomId}
 use Rattle.chem_model.specs.declared.numbered.NumberedAtom.{NumberedAtom}
-use Rattle.chem_model.specs.Process.{Process, Msg, Par, Def, Go, Fail, Halt}
+use Rattle.chem_model.specs.Process.{Process, Msg, Go, Fail, Halt}
 use Rattle.chem_model.specs.Each.{Each}
 use Rattle.chem_model.specs.Fill.{or_binder}
 use Rattle.chem_model.specs.Pour.{known, is_count, out_made, atom_made, message_made}
-use Rattle.chem_laws.proofs.Lists.{Each-append, Each-weaker, Each-left, Each-right}
+use Rattle.chem_laws.proofs.Lists.{Each-append, Each-left, Each-right}
 use Rattle.wire_packet.specs.declared.packet.GroupInst.{GroupInst}
 use Rattle.env_store.specs.declared.code.Slot.{Slot}
 use Rattle.env_store.specs.declared.code.Slot.TheVariants as slot
 use Rattle.env_store.specs.declared.code.Instr.{Instr}
 use Rattle.env_store.specs.declared.code.Instr.TheVariants as instr
 use Rattle.env_store.specs.declared.code.Level.{Level}
-use Rattle.env_store.specs.declared.code.Block.{Block}
 use Rattle.env_store.specs.declared.code.SiteCode.{SiteCode}
 use Rattle.env_store.specs.CodeParts.{CodeParts}
 use Rattle.env_store.specs.CodeFacts.{IsKnownTo, IsSlotAt, IsLevelAt, Fits, IsBodyAt, IsPlaceBody, IsLevel, IsCode}
-use Rattle.env_store.specs.Running.{ref_at, refs_at, Ran, nothing_ran, atom_ran, births_ran, then_ran, group_ran, NumberedLevel, with_level, numbered_levels, loc_at, channel_names, place_names, place_births, after_place, block_names, Making, body_ran, places_ran, block_laid, levels_entered, block_entered, run, run_body, made_below, code_made, without_last, site_levels_ran, site_block_ran, site_made}
+use Rattle.env_store.specs.Running.{ref_at, refs_at, Ran, nothing_ran, atom_ran, births_ran, then_ran, group_ran, NumberedLevel, numbered_levels, loc_at, channel_names, place_names, place_births, after_place, block_names, Making, body_ran, places_ran, block_laid, levels_entered, block_entered, run, run_body, made_below, code_made, without_last, site_levels_ran, site_block_ran, site_made}
 use Rattle.env_store.proofs.Environments.{block_entered_long}
-use Rattle.net_laws.specs.Net.{home_or, IsChannel}
 use Rattle.net_laws.specs.Posting.{posted_of}
 use Rattle.code_run.specs.declared.made.Post.{Post}
 use Rattle.code_run.specs.Posts.{posts_of}

@@ -1,6 +1,5 @@
 -- What a run makes, as its call answers it.
 use Rattle.std.specs.Prelude.{List, [], ◌∷◌}
-use Rattle.wire_packet.specs.declared.packet.Waiting.{Waiting}
 use Rattle.env_store.specs.Running.{Ran}
 use Rattle.net_laws.specs.Posting.{Posted, a_message, a_request, posted_of}
 use Rattle.code_run.specs.declared.made.Post.{Post}

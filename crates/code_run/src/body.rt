@@ -106,20 +106,11 @@ fn enter(
 {
     let block = block_at(code, block);
     let from = made.next;
-    let names = name_block(alloc, code, site, loc, from, &block.levels)?;
-    made.next = sum(from, names.len() as u64)?;
-    env.extend_from_slice(names.as_slice())?;
-    lay_block(
-        alloc,
-        code,
-        site,
-        below,
-        block.levels.as_slice(),
-        from,
-        env,
-        loc,
-        made,
-    )
+    let next = sum(from, block.names as u64)?;
+    let levels = block.levels.as_slice();
+    name_block(code, site, loc, from, levels, env)?;
+    made.next = next;
+    lay_block(alloc, code, site, below, levels, from, env, loc, made)
 }
 
 /// Lays a block at a location: its places are born, and then the group of its own list and all of

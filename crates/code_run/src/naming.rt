@@ -6,9 +6,8 @@ ghost use Rattle.env_store.specs.Running.{numbered_levels};
 ghost use Rattle.code_run.specs.Steps.{IsThere, levels_named};
 
 use crate::parts::level_at;
-use chem_model::{Items, Loc, Memory, Name, Names, Nums};
+use chem_model::{Loc, Memory, Name, Names, Nums};
 use env_store::{Code, Level, Locs};
-use std::alloc::Global;
 
 /// The sum. A count that would pass the last number is answered as want of memory.
 pub(crate) fn sum(one: u64, more: u64) -> Result<u64, Memory>
@@ -67,28 +66,25 @@ fn name_places(
     Ok(())
 }
 
-/// The names of the block with these levels at a location, from a number on.
+/// Appends the names of the block with these levels at a location, from a number on.
 pub(crate) fn name_block(
-    alloc: Global,
     code: &Code,
     site: u32,
     loc: Loc,
     from: u64,
-    levels: &Nums,
-) -> Result<Names, Memory>
+    levels: &[u32],
+    names: &mut Names,
+) -> Result<(), Memory>
     requires { Each (IsThere code.now) levels.now }
-    ensures { IfOk result (λ names. names
-        ≡ levels_named site loc from (numbered_levels code.now.levels levels.now)) }
+    ensures { OnOk result (names.new ≡ names.old
+        ++ levels_named site loc from (numbered_levels code.now.levels levels.now)) }
 {
-    let mut names = Items::new(alloc);
-    let members = levels.as_slice();
-    let [own, places @ ..] = members else {
-        return Ok(names);
+    let [own, places @ ..] = levels else {
+        return Ok(());
     };
     let level = level_at(code, *own);
-    let first = name_channels(&mut names, site, loc, from, &level.counts)?;
-    name_places(code, site, first, places, &mut names)?;
-    Ok(names)
+    let first = name_channels(names, site, loc, from, &level.counts)?;
+    name_places(code, site, first, places, names)
 }
 
 /// The locations of the places with these levels are born, from a number on.

@@ -1,13 +1,14 @@
-use Rattle.std.proofs.Common.{◌≡◌, ℕ, ◌+◌, ◌<◌, List, [], ◌∷◌, ◌++◌, length, get_or, drop, Some, None, refl, sym, ap, ◌∙◌, subst, arith}
+use Rattle.std.proofs.Common.{◌≡◌, ◌+◌, List, [], ◌∷◌, ◌++◌, length, get_or, drop, Some, refl, sym, ap, ◌∙◌, subst, arith}
 use Rattle.env_store.specs.declared.code.Instr.{Instr}
 use Rattle.chem_model.specs.declared.name.Name.{Name}
+use Rattle.chem_model.specs.Each.{Each}
 use Rattle.env_store.specs.declared.code.Instr.TheVariants.{Enter}
 use Rattle.env_store.specs.CodeFacts.{AreBelow, Falls}
 use Rattle.env_store.specs.Running.{code_made, loc_at, numbered_levels}
 use Rattle.code_run.specs.declared.made.Run.{Run}
-use Rattle.code_run.specs.Steps.{FitsFirst}
+use Rattle.code_run.specs.Steps.{IsThere, FitsFirst}
 use Rattle.code_run.proofs.Runs.{drop_at, drop_number, drop_past}
-use Rattle.code_run.proofs.Blocks.{block_levels, block_there, block_below, wide_levels, enter_made, enter_env, places_at, places_there, places_below}
+use Rattle.code_run.proofs.Blocks.{block_there, block_below, wide_levels, enter_made, enter_env, places_at, places_there, places_below}
 use Rattle.code_run.proofs.Loops.{few_names, run_begins, run_steps, fits_first, falls_now, run_made, run_leaves, laying_begins, laying_steps, laying_made, place_body, body_some, body_none}
 use Rattle.code_run.proofs.body.+run_body.Goals as goal
 use Rattle.code_run.proofs.body.+run_body.Goals.{lay_places-in-Some+in_ok-run_body, lay_places-in_default}
@@ -63,31 +64,29 @@ step-enter-requires t c =
     (omega arith, (subst (λ i. FitsFirst c.args.code.now (length c.args.env.now) i) is c.requires.fits, subst (λ i. Falls c.args.code.now c.args.below (i ∷ [])) is c.requires.falls))
 
 pub enter-name_block-requires : goal.enter-name_block-requires
-enter-name_block-requires t c = block_there c.args.code.now (length c.args.env.now) c.args.block c.block_at-block.result.now c.requires.fits c.block_at-block.ensures.there
+enter-name_block-requires t c =
+    subst (Each (IsThere c.args.code.now)) (sym c.as_slice-levels.ensures.members) (block_there c.args.code.now (length c.args.env.now) c.args.block c.block_at-block.result.now c.requires.fits c.block_at-block.ensures.there)
 
 pub enter-lay_block-requires : goal.enter-lay_block-requires
 enter-lay_block-requires t c =
-    let block = c.block_at-block.result.now in
-    let whole = c.in_ok-extend_from_slice.ensures.ok ∙ ap (λ xs. c.args.env.now ++ xs) c.as_slice.ensures.members in (
+    let block = c.block_at-block.result.now in (
       omega arith,
       (
-        wide_levels c.args.code.now (length c.args.env.now) c.args.block block c.requires.fits c.block_at-block.ensures.there c.block_at-block.ensures.kept c.args.site c.args.loc c.args.made.now.next c.args.env.now c.extend_from_slice.new.self c.in_ok-names.names c.as_slice-2.result.now
-            refl whole c.in_ok-names.ensures c.as_slice-2.ensures.members,
-        subst (λ ns. AreBelow c.args.below (numbered_levels c.args.code.now.levels ns)) (sym c.as_slice-2.ensures.members) (block_below c.args.code.now (length c.args.env.now) c.args.block block c.requires.fits c.block_at-block.ensures.there c.args.below c.requires.falls),
+        wide_levels c.args.code.now (length c.args.env.now) c.args.block block c.requires.fits c.block_at-block.ensures.there c.block_at-block.ensures.kept c.args.site c.args.loc c.args.made.now.next c.args.env.now c.name_block.new.names c.as_slice-levels.result.now
+            c.as_slice-levels.ensures.members c.in_ok-name_block.ensures refl,
+        subst (λ ns. AreBelow c.args.below (numbered_levels c.args.code.now.levels ns)) (sym c.as_slice-levels.ensures.members) (block_below c.args.code.now (length c.args.env.now) c.args.block block c.requires.fits c.block_at-block.ensures.there c.args.below c.requires.falls),
       ),
     )
 
 pub enter-returns-clause-made : goal.enter-returns-clause-made
 enter-returns-clause-made t c =
-    let whole = c.in_ok-extend_from_slice.ensures.ok ∙ ap (λ xs. c.args.env.now ++ xs) c.as_slice.ensures.members in
-    enter_made c.args.code.now (length c.args.env.now) c.args.block c.block_at-block.result.now c.requires.fits c.block_at-block.ensures.there c.block_at-block.ensures.kept c.args.site c.args.loc c.args.made.now.next (code_made c.args.code.now c.args.site) c.args.env.now c.in_ok-names.names c.extend_from_slice.new.self
-    c.in_ok-names.ensures whole c.lay_block.result c.as_slice-2.result.now c.in_ok-made.field-0 c.args.made.now c.lay_block.new.made c.as_slice-2.ensures.members (c.in_ok-made.ensures ∙ ap (λ n. c.args.made.now.next + n) c.len.ensures.count) c.lay_block.ensures.made
+    enter_made c.args.code.now (length c.args.env.now) c.args.block c.block_at-block.result.now c.requires.fits c.block_at-block.ensures.there c.block_at-block.ensures.kept c.args.site c.args.loc c.args.made.now.next c.args.env.now c.name_block.new.names c.as_slice-levels.result.now
+    c.as_slice-levels.ensures.members c.in_ok-name_block.ensures (code_made c.args.code.now c.args.site) c.lay_block.result c.in_ok-next.next c.args.made.now c.lay_block.new.made c.in_ok-next.ensures c.lay_block.ensures.made
 
 pub enter-returns-clause-env : goal.enter-returns-clause-env
 enter-returns-clause-env t c =
-    let whole = c.in_ok-extend_from_slice.ensures.ok ∙ ap (λ xs. c.args.env.now ++ xs) c.as_slice.ensures.members in
-    enter_env c.args.code.now (length c.args.env.now) c.args.block c.block_at-block.result.now c.requires.fits c.block_at-block.ensures.there c.block_at-block.ensures.kept c.args.site c.args.loc c.args.made.now.next (code_made c.args.code.now c.args.site) c.args.env.now c.in_ok-names.names c.extend_from_slice.new.self
-    c.in_ok-names.ensures whole c.lay_block.result c.lay_block.new.env c.lay_block.ensures.env
+    enter_env c.args.code.now (length c.args.env.now) c.args.block c.block_at-block.result.now c.requires.fits c.block_at-block.ensures.there c.block_at-block.ensures.kept c.args.site c.args.loc c.args.made.now.next c.args.env.now c.name_block.new.names c.as_slice-levels.result.now
+    c.as_slice-levels.ensures.members c.in_ok-name_block.ensures (code_made c.args.code.now c.args.site) c.lay_block.result c.lay_block.new.env c.lay_block.ensures.env
 
 -- ---- a block that is laid
 

@@ -1,4 +1,4 @@
-use Rattle.std.proofs.Common.{◌≡◌, ◌+◌, ◌*◌, ◌++◌, drop}
+use Rattle.std.proofs.Common.{◌+◌, ◌*◌, drop}
 use Rattle.code_run.proofs.Loops.{Running, Laying}
 use Rattle.code_run.proofs.body.+run_body.Given as goal
 

@@ -1,4 +1,4 @@
-use Rattle.std.proofs.Common.{◌≡◌, ◌+◌, ◌++◌, length, drop}
+use Rattle.std.proofs.Common.{◌≡◌, ◌+◌, ◌++◌, drop}
 use Rattle.env_store.specs.Running.{channel_names}
 use Rattle.code_run.proofs.naming.name_channels.Given as goal
 

@@ -1,6 +1,5 @@
-use Rattle.std.proofs.Common.{◌≡◌, ◌+◌, List, [], length, refl, ap, sym, ◌∙◌, subst}
+use Rattle.std.proofs.Common.{◌≡◌, ◌+◌, [], length, refl, ap, sym, ◌∙◌, subst}
 use Rattle.std.proofs.lemmas.Option.{slice_get_within}
-use Rattle.chem_model.specs.declared.name.Name.{Name}
 use Rattle.chem_model.specs.Each.{Each}
 use Rattle.env_store.specs.CodeParts.{CodeParts}
 use Rattle.env_store.specs.CodeFacts.{IsLevelAt, IsBodyAt, AreBelow}
