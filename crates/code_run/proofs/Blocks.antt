@@ -33,10 +33,6 @@ pub split : (ns : List ℕ) (d : ℕ) → 1 ≤ length ns → ns ≡ get_or ns 0
 split [] d h = absurd (omega arith)
 split (n ∷ ns) d h = ap (λ ms. n ∷ ms) (sym (take_all (length (n ∷ ns) - 1) ns (omega arith)))
 
-pub no_members : (ns : List ℕ) → length ns < 1 → ns ≡ []
-no_members [] h = refl
-no_members (n ∷ ns) h = absurd (omega arith)
-
 -- one channel more is named
 pub channels_more : (s : ℕ) (l : Loc) (from : ℕ) (counts : List ℕ) (i k next : ℕ) (start names new : List Name) → i < length counts
     → (names ++ channel_names s l k (drop i counts) ≡ start ++ channel_names s l from counts) × (k ≡ from + i)
@@ -160,9 +156,6 @@ module _ (c : CodeParts) (d below : ℕ) (levels : List ℕ) (some : 1 ≤ lengt
 
   parts_at : Each (IsLevelAt c d) (get_or levels 0 0 ∷ others)
   parts_at = subst (Each (IsLevelAt c d)) (split levels 0 some) at
-
-  pub own_there : IsThere c (get_or levels 0 0)
-  own_there = (levels_there c d (get_or levels 0 0 ∷ others) parts_at).0
 
   pub places_at : Each (IsLevelAt c d) others
   places_at = parts_at.1

@@ -21,7 +21,8 @@ use env_store::{Code, Env};
 use std::alloc::Global;
 
 /// What a body makes at a location of the site with this number, run under an environment as long
-/// as the body begins with, from a number on.
+/// as the body begins with, from a number on. It answers `Memory` where memory runs out, or where a
+/// number would pass 2^64 - 1; so do the other two.
 pub fn run(
     alloc: Global,
     code: &Code,

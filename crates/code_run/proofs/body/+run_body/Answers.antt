@@ -1,4 +1,4 @@
-use Rattle.std.proofs.Common.{◌≡◌, ◌+◌, List, [], ◌∷◌, ◌++◌, length, get_or, drop, Some, refl, sym, ap, ◌∙◌, subst, arith}
+use Rattle.std.proofs.Common.{◌≡◌, ◌+◌, List, [], ◌∷◌, length, get_or, drop, Some, refl, sym, ap, ◌∙◌, subst, arith}
 use Rattle.env_store.specs.declared.code.Instr.{Instr}
 use Rattle.chem_model.specs.declared.name.Name.{Name}
 use Rattle.chem_model.specs.Each.{Each}
