@@ -1,6 +1,7 @@
 -- Where the queue of a channel is, and the index that tells. No public contract cites it.
-use Rattle.std.specs.Prelude.{◌≡◌, ℕ, ◌+◌, ◌-◌, Bool, ◌&&◌, cond, List, [], ◌∷◌, length, nat_eq}
+use Rattle.std.specs.Prelude.{◌≡◌, ◌≤◌, ℕ, ◌+◌, ◌-◌, Bool, ◌&&◌, cond, List, [], ◌∷◌, length, nat_eq}
 use Rattle.std.specs.Prelude.{Option, Some, None, ◌==◌, slice_get, nat_lt, false}
+use Rattle.std.specs.HashMap.{HashMap, spare}
 use Rattle.chem_model.specs.declared.name.Loc.{Loc}
 use Rattle.chem_model.specs.declared.name.Name.{Name}
 use Rattle.chem_model.specs.declared.name.Name.TheVariants as name
@@ -12,6 +13,7 @@ use Rattle.queue_cells.specs.Grouped.{Queued}
 use Rattle.net_laws.specs.Site.{Told, Group, Site, told_in}
 use Rattle.net_laws.specs.Changes.{AreQueues}
 use Rattle.net_laws.specs.Kept.{AreApart}
+use Rattle.net_laws.specs.Holding.{new_group}
 use Rattle.site_solution.specs.declared.told.Spot.{Spot}
 
 -- ---- groups as queue_cells has them
@@ -25,6 +27,11 @@ groups_of (q ∷ qs) = record { told = q.told; queues = q.lists } ∷ groups_of 
 
 abbrev pub told_of : Rows → List Told
 told_of qs = told_in (groups_of qs)
+
+-- groups with empty queues
+abbrev pub new_groups : List Told → List Group
+new_groups [] = []
+new_groups (d ∷ ds) = new_group d ∷ new_groups ds
 
 -- a site with other groups and other stuck messages
 abbrev pub holding : Site → Rows → List Waiting → Site
@@ -102,3 +109,7 @@ pub record IsIndex (find : Key → Option Spot) (gs : List Group) : Type 0 where
       (site k : ℕ) (home : Loc) → find (key_of site k home) ≡ locate (told_in gs) site k home
   pub queues : Each (λ (g : Group). AreQueues g.told.inst 0 g.told.counts g.queues) gs
   pub apart : AreApart (told_in gs)
+
+-- so many groups with so many channels more fit with no allocation
+abbrev pub HasRoom : {S : Type 0} → HashMap Key Spot S → ℕ → ℕ → Type 0
+HasRoom spots groups channels = channels ≤ spare spots

@@ -1,18 +1,18 @@
 // The queue of a message's channel.
 ghost use Rattle.std.specs.Prelude.{◌≡◌, ◌≤◌, ◌+◌, ◌-◌, ◌^◌, ◌++◌};
-ghost use Rattle.std.specs.Prelude.{◌∷◌, [], ℕ, Some, cond, length, slice_get};
+ghost use Rattle.std.specs.Prelude.{◌∷◌, [], ℕ, List, Some, cond, length, slice_get};
 ghost use Rattle.std.specs.Prelude.{vec_capacity};
 ghost use Rattle.std.specs.Prelude.{◌<◌, OnOk, OnErr, IfErr};
 ghost use Rattle.std.specs.HashMap as hash;
 ghost use Rattle.queue_cells.specs.Grouped.{lists_at, with_last};
 ghost use Rattle.std.specs.HashMap.{spare};
 ghost use Rattle.chem_model.specs.declared.name.Loc.{Loc};
-ghost use Rattle.net_laws.specs.Site.{Site};
+ghost use Rattle.net_laws.specs.Site.{Site, Group};
 ghost use Rattle.net_laws.specs.Kept.{AreApart};
 ghost use Rattle.net_laws.specs.Holding.{put_all, new_group};
 ghost use Rattle.site_solution.specs.Index.{key_of, is_one_of, holding};
 ghost use Rattle.site_solution.specs.Index.{groups_of, told_of, same_key, spot_of};
-ghost use Rattle.site_solution.specs.Index.{on_count, IsIndex};
+ghost use Rattle.site_solution.specs.Index.{on_count, IsIndex, HasRoom};
 
 use crate::told::{Spot, Told};
 use chem_model::{AtomId, Loc, Memory, Name};
@@ -65,14 +65,29 @@ pub(crate) fn push_back(
     Ok(())
 }
 
+// Makes room for so many groups with so many channels more.
+pub(crate) fn reserve_spots(
+    spots: &mut Spots,
+    _groups: usize,
+    channels: usize,
+) -> Result<(), Memory>
+    ensures room { OnOk result (HasRoom spots.new _groups channels) }
+    ensures index { (gs : List Group) → IsIndex (hash.get same_key spots.old) gs
+        → IsIndex (hash.get same_key spots.new) gs }
+{
+    spots.reserve(channels)?;
+    Ok(())
+}
+
 // Notes the queues of a new group. It takes no memory.
 pub(crate) fn name_queues(spots: &mut Spots, first: AtomId, home: Loc, width: u32, group: usize)
     requires room { width ≤ spare spots.old }
     requires fits { first.k + width ≤ 2 ^ 64 }
-    ensures { (site k : ℕ) (at : Loc) → hash.get same_key spots.new (key_of site k at)
+    ensures named { (site k : ℕ) (at : Loc) → hash.get same_key spots.new (key_of site k at)
         ≡ cond (is_one_of first.site first.k width home site k at)
         (Some (record { group = group; chan = k - first.k }))
         (hash.get same_key spots.old (key_of site k at)) }
+    ensures spare { spare spots.old ≤ spare spots.new + width }
 {
     for chan in 0..width {
         let key = ((first.site, first.k + chan as u64), (home.site, home.k));
@@ -94,6 +109,10 @@ pub(crate) fn settle(
     ensures site { (s : Site) → put_all waiting.items (holding s groups.old.groups stuck.old.items)
         ≡ holding s groups.new.groups stuck.new.items }
     ensures index { IsIndex (hash.get same_key spots.now) (groups_of groups.new.groups) }
+    ensures many { length groups.new.groups ≡ length groups.old.groups }
+    ensures spare { groups.old.spare ≤ groups.new.spare + length waiting.items }
+    ensures capacity { vec_capacity stuck.new ≡ vec_capacity stuck.old }
+    ensures stuck { length stuck.new.items ≤ length stuck.old.items + length waiting.items }
 {
     for one in waiting {
         if let Some(spot) = find(groups, spots, &one.msg) {
@@ -120,11 +139,13 @@ pub(crate) fn add_group(
     requires width { (idle.width ≡ width) × (length idle.told.counts ≡ width) }
     requires fits { first.k + width ≤ 2 ^ 64 }
     requires apart { AreApart (told_of groups.old.groups ++ idle.told ∷ []) }
-    requires room { (1 ≤ groups.old.spare_groups) × (width ≤ spare spots.old) }
+    requires room { (1 ≤ groups.old.spare_groups) × HasRoom spots.old 1 width }
     ensures groups { groups_of groups.new.groups
         ≡ groups_of groups.old.groups ++ new_group idle.told ∷ [] }
     ensures many { length groups.new.groups ≡ length groups.old.groups + 1 }
     ensures spare { groups.new.spare ≡ groups.old.spare }
+    ensures spare_groups { groups.new.spare_groups + 1 ≡ groups.old.spare_groups }
+    ensures left { (g c : ℕ) → HasRoom spots.old (g + 1) (c + width) → HasRoom spots.new g c }
     ensures index { IsIndex (hash.get same_key spots.new) (groups_of groups.new.groups) }
 {
     let group = groups.len();

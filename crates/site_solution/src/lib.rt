@@ -5,7 +5,10 @@
 #![tactic(auto)]
 
 mod asked;
+mod effects;
 mod finding;
+mod more;
+mod places;
 mod site;
 mod testing;
 #[cfg(test)]
@@ -13,4 +16,5 @@ mod tests;
 mod told;
 mod walking;
 
+pub use effects::Effects;
 pub use site::Site;

@@ -17,4 +17,4 @@ returns-clause-index c =
     let width = c.requires.width.0 ∙ sym c.requires.width.1 in
     let more = c.add_reserved.ensures.groups ∙ ap (λ n. c.args.groups.now.groups ++ idle_group c.args.idle.told n ∷ []) width in
     let is = ap groups_of more ∙ group-laid c.args.groups.now.groups c.args.idle.told in
-    index-added (hash.get same_key c.args.spots.now) (hash.get same_key c.name_queues.new.spots) c.args.groups.now.groups (groups_of c.add_reserved.new.self.groups) c.args.idle.told c.args.first c.args.home c.args.width c.len-group.result c.requires.index c.requires.apart c.requires.first c.requires.home c.requires.width.1 c.len-group.ensures c.name_queues.ensures is
+    index-added (hash.get same_key c.args.spots.now) (hash.get same_key c.name_queues.new.spots) c.args.groups.now.groups (groups_of c.add_reserved.new.self.groups) c.args.idle.told c.args.first c.args.home c.args.width c.len-group.result c.requires.index c.requires.apart c.requires.first c.requires.home c.requires.width.1 c.len-group.ensures c.name_queues.ensures.named is

@@ -13,4 +13,5 @@ loop-chan-preserved c =
     record {
       named = λ site k at. named-more c.args.first.site c.args.first.k c.args.home c.loop-chan.chan c.args.group site k at (hash.get same_key c.args.spots.now (key_of site k at)) (hash.get same_key c.loop-chan.spots (key_of site k at)) (hash.get same_key c.insert.new.self (key_of site k at)) (put.0 (key_of site k at)) (c.loop-chan.invariant.named site k at);
       room = omega (arith, c.insert.ensures.spare);
+      spare = omega (arith, c.insert.ensures.spare, c.loop-chan.invariant.spare);
     }

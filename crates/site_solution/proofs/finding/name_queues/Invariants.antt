@@ -9,4 +9,5 @@ abbrev pub invariant-loop-chan : goal.invariant-loop-chan
 invariant-loop-chan l = record {
   named : (site k : ℕ) (at : Loc) → hash.get same_key l.spots (key_of site k at) ≡ cond (is_one_of l.first.site l.first.k l.chan l.home site k at) (Some (record { group = l.group; chan = k - l.first.k })) (hash.get same_key l.fn.spots (key_of site k at));
   room : l.width ≤ spare l.spots + l.chan;
+  spare : spare l.fn.spots ≤ spare l.spots + l.chan;
 }
