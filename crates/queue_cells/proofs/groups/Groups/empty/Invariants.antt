@@ -1,11 +1,10 @@
 use Rattle.std.proofs.Common.{◌≡◌, ◌+◌, ◌<◌, ℕ, [], length}
-use Rattle.std.specs.Prelude.{remove}
-use Rattle.queue_cells.specs.Grouped.{queue_in, lists_at, waiting}
-use Rattle.queue_cells.proofs.groups.Groups.remove.Given as goal
+use Rattle.queue_cells.specs.Grouped.{queue_in, lists_at, emptied, waiting}
+use Rattle.queue_cells.proofs.groups.Groups.empty.Given as goal
 
 abbrev pub invariant-loop-chan : goal.invariant-loop-chan
 invariant-loop-chan g l = record {
-  same : remove l.self.groups l.group ≡ remove l.fn.self.groups l.group;
+  same : emptied l.self.groups l.group ≡ emptied l.fn.self.groups l.group;
   count : length l.self.groups ≡ length l.fn.self.groups;
   wide : length (lists_at l.self.groups l.group) ≡ l.width;
   empty : (c : ℕ) → c < l.chan → queue_in l.self.groups l.group c ≡ [];
