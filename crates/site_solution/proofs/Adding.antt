@@ -1,6 +1,5 @@
 -- What comes to a site, all at once.
 use Rattle.std.proofs.Common.{◌≡◌, ℕ, ◌+◌, ◌≤◌, ◌<◌, ◌^◌, List, [], ◌∷◌, ◌++◌, length, Option, Some, None, Bool, true, false, refl, sym, ap, ◌∙◌, subst, arith}
-use Rattle.std.proofs.lemmas.List.{length-append}
 use Rattle.chem_model.specs.declared.name.Loc.{Loc}
 use Rattle.chem_model.specs.declared.event.AtomId.{AtomId}
 use Rattle.chem_model.specs.Each.{Each}
@@ -20,17 +19,17 @@ use Rattle.site_solution.specs.Held.{taken_at}
 use Rattle.site_solution.specs.declared.told.NewGroup.{NewGroup}
 use Rattle.site_solution.specs.Counted.{over_groups, over_stuck, over_waiting, one_each, id_of, over_requests, times, waiting_in}
 use Rattle.site_solution.specs.Rising.{with_requests, AreNewIn}
-use Rattle.site_solution.specs.Index.{Rows, groups_of, told_of, holding, new_groups, same_key, IsIndex}
+use Rattle.site_solution.specs.Index.{Rows, Key, groups_of, holding, new_groups, locate, same_key, IsIndex}
+use Rattle.site_solution.specs.declared.told.Spot.{Spot}
 use Rattle.std.specs.HashMap.{get}
 use Rattle.site_solution.specs.Split.{with_more}
 use Rattle.site_solution.specs.declared.more.More.{More}
 use Rattle.site_solution.specs.New.{told_of_new, gone_at, IsNewGroup}
-use Rattle.site_solution.specs.More.{IsRestacked, some_of, CanAdd, IsAt, added}
+use Rattle.site_solution.specs.More.{IsRestacked, some_of, lays, CanAdd, IsAt, added}
 use Rattle.site_solution.specs.Stored.{seen, IsStored}
 use Rattle.site_solution.proofs.Counting.{put_all-sum, lay_all-sum, request-more}
-use Rattle.site_solution.proofs.Fronts.{AreGone, are-gone, taken-nothing}
+use Rattle.site_solution.proofs.Fronts.{AreGone, are-gone, taken-is, taken-nothing}
 use Rattle.site_solution.proofs.LaidAll.{MayLay, laid-all}
-use Rattle.site_solution.proofs.Putting.{told-many}
 use Rattle.site_solution.proofs.Amounts.{stuck-many}
 
 append-nil : {X : Type 0} (xs : List X) → xs ++ [] ≡ xs
@@ -198,3 +197,55 @@ lay-added d m r s next groups told none empty =
     ∙ ap (λ ws. with_more s.made [] (d ∷ []) ws m.requests.items s) none
     ∙ ap (λ qs. with_more s.made [] (d ∷ []) [] qs s) empty
     ∙ ap (λ (ls : List Loc). lay d (record s { locs = ls })) (append-nil s.locs)
+
+-- ---- what comes, as it lies in the fields
+
+-- the index stays without fronts
+pub gone-index : (find : Key → Option Spot) (s : Site) (gs : List Group) → AreGone s gs → IsIndex find s.groups → IsIndex find gs
+gone-index find s gs gone index = record {
+  named = λ site k home. index.named site k home ∙ ap (λ ds. locate ds site k home) (sym gone.told);
+  queues = gone.kept.queues;
+  apart = gone.kept.apart;
+}
+
+some-told : (rs : List NewGroup) → some_of (told_of_new rs) ≡ some_of rs
+some-told [] = refl
+some-told (r ∷ rs) = refl
+
+-- what the steps did
+pub record AreDone (a b : Inside) (ls : List Loc) (m : More) (j : ℕ) (cs : List ℕ) (taken laid once : Rows) (again kept first : List Waiting) : Type 0 where
+  pub number : b.number ≡ a.number
+  pub made : b.made ≡ m.next
+  pub locs : b.locs.locs ≡ a.locs.locs ++ ls
+  pub requests : b.requests.items ≡ with_requests m.requests.items a.requests.items
+  pub fronts : groups_of taken ≡ gone_at j cs (groups_of a.groups.groups)
+  pub groups : groups_of laid ≡ groups_of taken ++ new_groups (told_of_new m.groups.items)
+  pub restacked : IsRestacked (lays m) a.stuck.items again kept
+  pub settled : (s : Site) → put_all again (holding s laid kept) ≡ holding s once first
+  pub put : (s : Site) → put_all m.waiting.items (holding s once first) ≡ holding s b.groups.groups b.stuck.items
+
+pub done-is : (a b : Inside) (ls : List Loc) (m : More) (j : ℕ) (cs : List ℕ) (taken laid once : Rows) (again kept first : List Waiting) → MayAdd ls m (record (seen a) { groups = gone_at j cs (groups_of a.groups.groups) }) → AreDone a b ls m j cs taken laid once again kept first → seen b ≡ added ls m (taken_at j cs (seen a))
+done-is a b ls m j cs taken laid once again kept first may d =
+    let gone : List Group = gone_at j cs (groups_of a.groups.groups) in
+    let s : Site = record (seen a) { groups = gone } in
+    let host : Site = hosting ls m.next s in
+    let ds = told_of_new m.groups.items in
+    let qs = m.requests.items in
+    let groups : groups_of laid ≡ gone ++ new_groups ds = d.groups ∙ ap (λ (gs : List Group). gs ++ new_groups ds) d.fronts in
+    let relay : put_all again (holding host laid kept) ≡ lay_all ds host = ap (λ (gs : List Group). put_all again (record host { groups = gs; stuck = kept })) groups ∙ relaid ds (lays m) host again kept (may-lay ls m s may) (some-told m.groups.items) d.restacked in
+    let whole : put_all m.waiting.items (lay_all ds host) ≡ holding host b.groups.groups b.stuck.items = ap (put_all m.waiting.items) (sym relay ∙ d.settled host) ∙ d.put host in
+    let all : added ls m s ≡ record (holding host b.groups.groups b.stuck.items) { requests = with_requests qs a.requests.items } = ap (ask_all qs) whole ∙ asked-with qs (holding host b.groups.groups b.stuck.items) in
+    sym (ap (added ls m) (taken-is j cs (seen a)) ∙ all ∙ same-fields a.number b.number m.next b.made (a.locs.locs ++ ls) b.locs.locs (groups_of b.groups.groups) b.stuck.items (with_requests qs a.requests.items) b.requests.items (sym d.number) (sym d.made) (sym d.locs) (sym d.requests))
+  where
+    same-fields : (n n' k k' : ℕ) (xs xs' : List Loc) (gs : List Group) (ws : List Waiting) (rs rs' : List Request) → n ≡ n' → k ≡ k' → xs ≡ xs' → rs ≡ rs' → (record { number = n; made = k; locs = xs; groups = gs; stuck = ws; requests = rs }) ≡ (record { number = n'; made = k'; locs = xs'; groups = gs; stuck = ws; requests = rs' })
+    same-fields n n' k k' xs xs' gs ws rs rs' e f g h = λ i. record { number = e i; made = f i; locs = g i; groups = gs; stuck = ws; requests = h i }
+
+pub done-stored : (a b : Inside) (ls : List Loc) (m : More) (j : ℕ) (cs : List ℕ) → IsStored a → CanAdd ls m (seen a) → waiting_in (seen a) + length m.waiting.items < 2 ^ 32 → seen b ≡ added ls m (taken_at j cs (seen a)) → IsIndex (get same_key b.spots) (groups_of b.groups.groups) → length b.groups.groups < 2 ^ 32 → IsStored b
+done-stored a b ls m j cs h can room is index few =
+    let gone = are-gone (seen a) j cs h.kept in
+    let may = gone-may ls m (seen a) (gone_at j cs (groups_of a.groups.groups)) (record { can = can; whole = as-whole a h; room = room }) gone in
+    let s : Site = record (seen a) { groups = gone_at j cs (groups_of a.groups.groups) } in
+    whole-stored b (added ls m s) (is ∙ ap (added ls m) (taken-is j cs (seen a))) (added-is ls m s may).whole index few
+
+pub may-done : (a : Inside) (ls : List Loc) (m : More) (j : ℕ) (cs : List ℕ) → IsStored a → CanAdd ls m (seen a) → waiting_in (seen a) + length m.waiting.items < 2 ^ 32 → MayAdd ls m (record (seen a) { groups = gone_at j cs (groups_of a.groups.groups) })
+may-done a ls m j cs h can room = gone-may ls m (seen a) (gone_at j cs (groups_of a.groups.groups)) (record { can = can; whole = as-whole a h; room = room }) (are-gone (seen a) j cs h.kept)

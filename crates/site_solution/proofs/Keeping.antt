@@ -1,10 +1,11 @@
 -- What each call keeps of a site.
-use Rattle.std.proofs.Common.{◌≡◌, ℕ, zero, suc, ◌+◌, ◌<◌, ◌^◌, Bool, true, false, cond, List, [], ◌∷◌, ◌++◌, length, Option, Some, None, Result, Ok, Err, refl, sym, ap, subst, ◌∙◌, arith}
+use Rattle.std.proofs.Common.{◌≡◌, ℕ, zero, suc, ◌+◌, ◌<◌, ◌≤◌, ◌^◌, Bool, true, false, cond, List, [], ◌∷◌, ◌++◌, length, Option, Some, None, Result, Ok, Err, refl, sym, ap, subst, ◌∙◌, arith}
 use Rattle.std.specs.Prelude.{slice_get, slice_set, slice_index_or, drop, OnOk, OnErr}
 use Rattle.std.specs.HashMap.{get}
 use Rattle.chem_model.specs.declared.name.Loc.{Loc}
 use Rattle.chem_model.specs.declared.event.AtomId.{AtomId}
 use Rattle.chem_model.specs.Apply.{same_atom}
+use Rattle.chem_laws.proofs.Taking.{same_atom_is}
 use Rattle.chem_model.specs.Each.{Each}
 use Rattle.wire_packet.specs.MessageFacts.{MessageParts}
 use Rattle.wire_packet.specs.declared.packet.Waiting.{Waiting}
@@ -15,13 +16,13 @@ use Rattle.net_laws.specs.Net.{among, home_or}
 use Rattle.net_laws.specs.Kept.{IsKept, AreApart}
 use Rattle.net_laws.specs.Changes.{Takes, AreQueues}
 use Rattle.net_laws.specs.Posting.{with_queues}
-use Rattle.net_laws.specs.Holding.{put, put_all, with_request, without_request, new_group, lay}
+use Rattle.net_laws.specs.Holding.{in_groups, put_in, put, with_request, without_request}
 use Rattle.net_laws.proofs.Holding.{put_is, lay_is}
 use Rattle.net_laws.proofs.Posting.{host_kept, each_with, fronts_go}
 use Rattle.site_solution.specs.declared.site.Site.TheInside.{Inside}
 use Rattle.site_solution.specs.Held.{queues_in, queue_of, without_front, has_atom}
 use Rattle.site_solution.specs.Rising.{Pending}
-use Rattle.site_solution.specs.Counted.{id_of, one_each, times, waiting_in}
+use Rattle.site_solution.specs.Counted.{is_id, id_of, one_each, over_waiting, over_requests, times, waiting_in}
 use Rattle.site_solution.proofs.Counting.{put-sum, front-sum, request-more, request-less, absent-times, id-below}
 use Rattle.site_solution.specs.Index.{Rows, Key, key_of, groups_of, told_of, holding, locate, same_key, IsIndex}
 use Rattle.site_solution.specs.declared.told.Spot.{Spot}

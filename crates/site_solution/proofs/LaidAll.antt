@@ -68,8 +68,8 @@ lay_all-put (d ∷ ds) l m s may = ap (lay_all ds) (lay_put d l m s may.kept) �
 lay_all-put_all : (ws : List Waiting) (ds : List Told) (s : Site) → MayLay ds s → Each (MayWait s.locs) ws → lay_all ds (put_all ws s) ≡ put_all ws (lay_all ds s)
 lay_all-put_all [] ds s may waits = refl
 lay_all-put_all (w ∷ ws) ds s may waits =
-    let put = put_is w.loc w.msg s may.kept waits.0.0 waits.0.1 in
-    lay_all-put_all ws ds (put w.loc w.msg s) (put-may ds w.loc w.msg s may waits.0) (subst (λ (ls : List Loc). Each (MayWait ls) ws) (sym put.locs) waits.1)
+    let is = put_is w.loc w.msg s may.kept waits.0.0 waits.0.1 in
+    lay_all-put_all ws ds (put w.loc w.msg s) (put-may ds w.loc w.msg s may waits.0) (subst (λ (ls : List Loc). Each (MayWait ls) ws) (sym is.locs) waits.1)
     ∙ ap (put_all ws) (lay_all-put ds w.loc w.msg s may)
 
 -- where nothing is stuck, the groups are added

@@ -12,5 +12,10 @@ pub mod LaidAll
 pub mod Laying
 pub mod Adding
 pub mod Splitting
+pub mod Leaving
 pub mod Hosting
 pub mod Walked
+pub mod Puts
+pub mod Together
+pub mod Possible
+pub mod Dropping

@@ -15,4 +15,6 @@ pub mod Index
 pub mod New
 pub mod Split
 pub mod More
+pub mod Leave
 pub mod Stored
+pub mod Possible

@@ -5,10 +5,12 @@
 #![tactic(auto)]
 
 mod asked;
+mod commit;
 mod effects;
 mod finding;
 mod more;
 mod places;
+mod pouring;
 mod site;
 mod testing;
 #[cfg(test)]
@@ -17,4 +19,5 @@ mod told;
 mod walking;
 
 pub use effects::Effects;
-pub use site::Site;
+pub use site::{Site, site_is_kept};
+pub use walking::message_is_there;

@@ -8,7 +8,9 @@ ghost use Rattle.net_laws.specs.Net.{among, home_or};
 ghost use Rattle.net_laws.specs.Opening.{empty_site};
 ghost use Rattle.net_laws.specs.Posting.{with_queues};
 ghost use Rattle.net_laws.specs.ByCode.{told_by};
-ghost use Rattle.site_solution.specs.CanLay.{CanLay};
+ghost use Rattle.net_laws.specs.Kept.{IsKept};
+ghost use Rattle.chem_model.specs.Each.{Each};
+ghost use Rattle.site_solution.specs.CanLay.{CanLay, HasNumbers};
 ghost use Rattle.net_laws.specs.Holding.{put, ask, lay, host_all, request_with, drop_request};
 ghost use Rattle.queue_cells.specs.Grouped.{AllHeld};
 ghost use Rattle.status_words.specs.Words.{number_of_words};
@@ -16,12 +18,13 @@ ghost use Rattle.std.specs.List.{list_all};
 ghost use Rattle.std.specs.Prelude.{is_some};
 ghost use Rattle.loc_tree.specs.Tree.{spot};
 ghost use Rattle.chem_model.specs.declared.name.Loc.{Loc};
+ghost use Rattle.chem_model.specs.declared.event.AtomId.{AtomId};
 ghost use Rattle.site_solution.specs.InCode.{is_in_code};
 ghost use Rattle.site_solution.specs.Draws.{all_drawn, CanDraw};
 ghost use Rattle.site_solution.specs.InTree.{has_number, is_in_tree};
 ghost use Rattle.site_solution.specs.Held.{queues_of, queue_of, without_front, inst_in, has_atom};
 ghost use Rattle.site_solution.specs.Held.{taken_at};
-ghost use Rattle.site_solution.specs.Counted.{waiting_in};
+ghost use Rattle.site_solution.specs.Counted.{times, waiting_in};
 ghost use Rattle.site_solution.specs.More.{CanAdd, added};
 
 use crate::asked::Asked;
@@ -90,6 +93,13 @@ impl Site {
         })
     }
 
+    /// The number of its root.
+    pub fn number(&self) -> u32
+        ensures { result ≡ self.now.number }
+    {
+        self.number
+    }
+
     /// Whether the location is hosted here.
     pub fn has(&self, loc: &Loc) -> bool
         ensures { result ≡ among self.now.locs loc.now }
@@ -116,6 +126,17 @@ impl Site {
         ensures { option_copied result ≡ request_with atom.now self.now.requests }
     {
         self.requests.find(*atom)
+    }
+
+    /// The request with this id, which is here.
+    pub fn asked(&self, atom: &AtomId) -> Request
+        requires { IsSome (request_with atom.now self.now.requests) }
+        ensures { request_with atom.now self.now.requests ≡ Some result }
+    {
+        match self.requests.find(*atom) {
+            Some(request) => *request,
+            None => unreachable!(),
+        }
     }
 
     /// The request at this place in the order of ids.
@@ -380,6 +401,19 @@ impl Site {
     {
         self.requests.remove(*atom);
     }
+}
+
+/// All that a site holds stands at locations that it hosts, a queue holds messages on its channel
+/// with its count, no group could take a stuck message, no two groups share a channel, channels and
+/// rules have numbers of 64 bits, the ids of waiting messages and requests are all different, and
+/// fewer than 2^32 messages wait. It does nothing.
+pub fn site_is_kept(site: &Site)
+    ensures kept { IsKept site.now }
+    ensures numbers { Each HasNumbers (told_in site.now.groups) }
+    ensures once { (i : AtomId) → times i site.now ≤ 1 }
+    ensures few_waiting { waiting_in site.now < 2 ^ 32 }
+{
+    let _number = site.number;
 }
 
 fn tops_are_there(tree: &LocTree, tops: &[Loc]) -> bool

@@ -87,7 +87,8 @@ fn names_are_there(tree: &LocTree, names: &[Name]) -> bool
     true
 }
 
-fn message_is_there(tree: &LocTree, msg: &Msg) -> bool
+/// Whether each location and each home of a channel that the message names is in the tree.
+pub fn message_is_there(tree: &LocTree, msg: &Msg) -> bool
     ensures { result ≡ message_stands tree.now msg.now }
 {
     name_is_there(tree, msg.on) && names_are_there(tree, msg.args.as_slice())

@@ -1,5 +1,5 @@
-use Rattle.std.proofs.Common.{◌≡◌, ◌+◌, [], ◌∷◌, ◌++◌, Some, drop, sym, subst, ap, ◌∙◌, rules}
-use Rattle.std.specs.Prelude.{slice_get}
+use Rattle.std.proofs.Common.{◌≡◌, ◌+◌, [], ◌∷◌, ◌++◌, get_or, drop, sym, subst, ap, ◌∙◌, rules}
+use Rattle.site_solution.proofs.Ranks.{slice_get-read}
 use Rattle.chem_model.specs.Each.{Each}
 use Rattle.chem_laws.proofs.Lists.{Each-append}
 use Rattle.net_laws.specs.ByCode.{told_by}
@@ -13,7 +13,9 @@ use Rattle.site_solution.proofs.more.new_groups.Goals as goal
 
 pub loop-inst-preserved : goal.loop-inst-preserved
 loop-inst-preserved c =
-    let at : slice_get c.args.insts.now c.loop-inst.inst-index ≡ Some c.inst-item.result = search rules in
+    let read = c.inst-item.is in
+    let is : c.inst-item.result ≡ get_or c.args.insts.now c.loop-inst.inst-index c.inst-item.result = cc in
+    let at = slice_get-read c.args.insts.now c.loop-inst.inst-index c.inst-item.result c.loop-inst-test.true is in
     let here = drop-get c.args.insts.now c.loop-inst.inst-index c.inst-item.result at in
     let rest = all_told (told_by c.args.code.now) (drop (c.loop-inst.inst-index + 1) c.args.insts.now) in
     let items : c.push.new.self.items ≡ c.loop-inst.groups.items ++ c.in_ok-new_group.field-0 ∷ [] = search rules in
