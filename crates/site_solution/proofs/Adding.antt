@@ -110,42 +110,64 @@ hosting ls next s = host_all ls (record s { made = next })
 pub may-lay : (ls : List Loc) (m : More) (s : Site) → MayAdd ls m s → MayLay (told_of_new m.groups.items) (hosting ls m.next s)
 may-lay ls m s may = record { kept = host_kept ls m.next s may.whole.kept; here = may.can.laid_here; apart = may.can.apart }
 
-pub record IsAdded (ls : List Loc) (m : More) (s new : Site) : Type 0 where
-  pub whole : IsWhole new
-  pub told : told_in new.groups ≡ told_in s.groups ++ told_of_new m.groups.items
+-- what may come to a site, as lists
+pub record MayCome (ls : List Loc) (ds : List Told) (ws : List Waiting) (qs : List Request) (s : Site) : Type 0 where
+  pub kept : IsKept s
+  pub laid_here : Each (λ (d : Told). among (s.locs ++ ls) d.inst.loc ≡ true) ds
+  pub apart : AreApart (told_in s.groups ++ ds)
+  pub waiting : Each (IsAt (s.locs ++ ls)) ws
+  pub requests : Each (λ (q : Request). among (s.locs ++ ls) q.loc ≡ true) qs
 
-pub added-is : (ls : List Loc) (m : More) (s : Site) → MayAdd ls m s → IsAdded ls m s (added ls m s)
+-- and what the site then is
+pub record HasCome (next : ℕ) (ls : List Loc) (ds : List Told) (ws : List Waiting) (qs : List Request) (s new : Site) : Type 0 where
+  pub kept : IsKept new
+  pub number : new.number ≡ s.number
+  pub made : new.made ≡ next
+  pub locs : new.locs ≡ s.locs ++ ls
+  pub told : told_in new.groups ≡ told_in s.groups ++ ds
+  pub requests : new.requests ≡ with_requests qs s.requests
+  pub sums : (f : MessageParts → ℕ) → over_waiting f new ≡ over_waiting f s + over_stuck f ws
+
+pub come-is : (next : ℕ) (ls : List Loc) (ds : List Told) (ws : List Waiting) (qs : List Request) (s : Site) → MayCome ls ds ws qs s → HasCome next ls ds ws qs s (with_more next ls ds ws qs s)
+come-is next ls ds ws qs s may =
+    let host : Site = hosting ls next s in
+    let laid = lay_all_are ds host (host_kept ls next s may.kept) may.laid_here may.apart in
+    let done = put_all_are ws (lay_all ds host) laid.kept (subst (λ (xs : List Loc). Each (MayWait xs) ws) (sym laid.locs) may.waiting) in
+    let t : Site = put_all ws (lay_all ds host) in
+    let locs : t.locs ≡ s.locs ++ ls = done.locs ∙ laid.locs in
+    let here : Each (λ (q : Request). among t.locs q.loc ≡ true) qs = subst (λ (xs : List Loc). Each (λ (q : Request). among xs q.loc ≡ true) qs) (sym locs) may.requests in
+    let requests : t.requests ≡ s.requests = done.requests ∙ lay_all-requests ds host in
+    subst (HasCome next ls ds ws qs s) (sym (asked-with qs t)) (record {
+      kept = record {
+        queues = done.kept.queues;
+        stuck = done.kept.stuck;
+        apart = done.kept.apart;
+        groups_here = done.kept.groups_here;
+        stuck_here = done.kept.stuck_here;
+        stuck_home = done.kept.stuck_home;
+        requests_here = each-requests (λ (q : Request). among t.locs q.loc ≡ true) qs t.requests done.kept.requests_here here;
+      };
+      number = done.number ∙ laid.number;
+      made = done.made ∙ laid.made;
+      locs = locs;
+      told = done.told ∙ laid.told;
+      requests = ap (with_requests qs) requests;
+      sums = λ f. put_all-sum f ws (lay_all ds host) ∙ ap (λ (n : ℕ). n + over_stuck f ws) (lay_all-sum f ds host);
+    })
+
+pub may-come : (ls : List Loc) (m : More) (s : Site) → CanAdd ls m s → IsKept s → MayCome ls (told_of_new m.groups.items) m.waiting.items m.requests.items s
+may-come ls m s can kept = record { kept = kept; laid_here = can.laid_here; apart = can.apart; waiting = can.waiting; requests = can.requests }
+
+pub added-is : (ls : List Loc) (m : More) (s : Site) → MayAdd ls m s → IsWhole (added ls m s)
 added-is ls m s may =
     let ds = told_of_new m.groups.items in
-    let ws = m.waiting.items in
-    let qs = m.requests.items in
-    let host : Site = hosting ls m.next s in
-    let lay = may-lay ls m s may in
-    let laid = lay_all_are ds host lay.kept lay.here lay.apart in
-    let put = put_all_are ws (lay_all ds host) laid.kept (subst (λ (xs : List Loc). Each (MayWait xs) ws) (sym laid.locs) may.can.waiting) in
-    let t : Site = put_all ws (lay_all ds host) in
-    let told : told_in t.groups ≡ told_in s.groups ++ ds = put.told ∙ laid.told in
-    let locs : t.locs ≡ s.locs ++ ls = put.locs ∙ laid.locs in
-    let here : Each (λ (q : Request). among t.locs q.loc ≡ true) qs = subst (λ (xs : List Loc). Each (λ (q : Request). among xs q.loc ≡ true) qs) (sym locs) may.can.requests in
-    let sums : (f : MessageParts → ℕ) → over_waiting f t ≡ over_waiting f s + over_stuck f ws = λ f. put_all-sum f ws (lay_all ds host) ∙ ap (λ (n : ℕ). n + over_stuck f ws) (lay_all-sum f ds host) in
-    let requests : t.requests ≡ s.requests = put.requests ∙ (lay_all-requests ds host) in
-    subst (IsAdded ls m s) (sym (asked-with qs t)) (record {
-      whole = record {
-        kept = record {
-          queues = put.kept.queues;
-          stuck = put.kept.stuck;
-          apart = put.kept.apart;
-          groups_here = put.kept.groups_here;
-          stuck_here = put.kept.stuck_here;
-          stuck_home = put.kept.stuck_home;
-          requests_here = each-requests (λ (q : Request). among t.locs q.loc ≡ true) qs t.requests put.kept.requests_here here;
-        };
-        once = λ i. omega (arith, sums (id_of i), requests-sum i qs t.requests, ap (over_requests i) requests, may.can.once i);
-        few_waiting = omega (arith, sums one_each, stuck-many ws, may.room);
-        numbers = subst (Each HasNumbers) (sym told) (Each-append HasNumbers (told_in s.groups) ds may.whole.numbers may.can.numbers);
-      };
-      told = told;
-    })
+    let is = come-is m.next ls ds m.waiting.items m.requests.items s (may-come ls m s may.can may.whole.kept) in
+    record {
+      kept = is.kept;
+      once = λ i. omega (arith, is.sums (id_of i), requests-sum i m.requests.items s.requests, ap (over_requests i) is.requests, may.can.once i);
+      few_waiting = omega (arith, is.sums one_each, stuck-many m.waiting.items, may.room);
+      numbers = subst (Each HasNumbers) (sym is.told) (Each-append HasNumbers (told_in s.groups) ds may.whole.numbers may.can.numbers);
+    }
 
 -- ---- the site without fronts
 
@@ -245,7 +267,7 @@ done-stored a b ls m j cs h can room is index few =
     let gone = are-gone (seen a) j cs h.kept in
     let may = gone-may ls m (seen a) (gone_at j cs (groups_of a.groups.groups)) (record { can = can; whole = as-whole a h; room = room }) gone in
     let s : Site = record (seen a) { groups = gone_at j cs (groups_of a.groups.groups) } in
-    whole-stored b (added ls m s) (is ∙ ap (added ls m) (taken-is j cs (seen a))) (added-is ls m s may).whole index few
+    whole-stored b (added ls m s) (is ∙ ap (added ls m) (taken-is j cs (seen a))) (added-is ls m s may) index few
 
 pub may-done : (a : Inside) (ls : List Loc) (m : More) (j : ℕ) (cs : List ℕ) → IsStored a → CanAdd ls m (seen a) → waiting_in (seen a) + length m.waiting.items < 2 ^ 32 → MayAdd ls m (record (seen a) { groups = gone_at j cs (groups_of a.groups.groups) })
 may-done a ls m j cs h can room = gone-may ls m (seen a) (gone_at j cs (groups_of a.groups.groups)) (record { can = can; whole = as-whole a h; room = room }) (are-gone (seen a) j cs h.kept)

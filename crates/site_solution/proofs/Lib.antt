@@ -12,7 +12,11 @@ pub mod LaidAll
 pub mod Laying
 pub mod Adding
 pub mod Splitting
+pub mod Sorting
 pub mod Leaving
+pub mod Leaves
+pub mod AllHold
+pub mod Poured
 pub mod Hosting
 pub mod Walked
 pub mod Puts

@@ -10,7 +10,6 @@ mod effects;
 mod finding;
 mod more;
 mod places;
-mod pouring;
 mod site;
 mod testing;
 #[cfg(test)]

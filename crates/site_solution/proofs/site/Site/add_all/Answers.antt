@@ -8,6 +8,7 @@ use Rattle.site_solution.specs.New.{told_of_new, gone_at}
 use Rattle.site_solution.specs.More.{added, CanAdd}
 use Rattle.site_solution.specs.Held.{taken_at}
 use Rattle.site_solution.specs.Rising.{with_requests}
+use Rattle.site_solution.specs.declared.site.Site.TheInside.{Inside}
 use Rattle.site_solution.specs.Stored.{seen}
 use Rattle.site_solution.proofs.Amounts.{stuck-many}
 use Rattle.site_solution.proofs.Fronts.{are-gone}
@@ -42,7 +43,8 @@ invariant_of-self-2 c =
     let held : c.waiting-held.result ≡ waiting_in (seen c.self.inside) = c.waiting-held.ensures.count ∙ ap waiting_in (sym c.self.view_is) in
     let room : waiting_in (seen c.self.inside) + length c.args.more.waiting.items < 2 ^ 32 = omega (arith, held, c.waiting-held.ensures.few, c.if-len-held.false, c.len.ensures) in
     let may = may-done c.self.inside c.args.locs.now c.args.more c.args.group c.args.chans.now c.self.invariant can room in
-    let is = done-is c.self.inside _ c.args.locs.now c.args.more c.args.group c.args.chans.now c.take_fronts.new.groups.groups c.add_groups.new.groups.groups c.settle.new.groups.groups c.in_ok-again.again.items c.make_room.new.stuck.items c.settle.new.stuck.items may (record {
+    let b : Inside = record { number = c.self.inside.number; made = c.args.more.next; locs = c.add_all.new.self; groups = c.settle-2.new.groups; spots = c.add_groups.new.spots; stuck = c.settle-2.new.stuck; requests = c.add_all-2.new.self } in
+    let is = done-is c.self.inside b c.args.locs.now c.args.more c.args.group c.args.chans.now c.take_fronts.new.groups.groups c.add_groups.new.groups.groups c.settle.new.groups.groups c.in_ok-again.again.items c.make_room.new.stuck.items c.settle.new.stuck.items may (record {
       number = refl;
       made = refl;
       locs = c.add_all.ensures ∙ ap (λ ls. ls ++ c.args.locs.now) c.reserve.ensures.same;
@@ -54,7 +56,7 @@ invariant_of-self-2 c =
       put = c.settle-2.ensures.site;
     }) in
     let few : length c.settle-2.new.groups.groups < 2 ^ 32 = omega (arith, c.settle-2.ensures.many, c.settle.ensures.many, c.add_groups.ensures.many, c.take_fronts.ensures.many, ap length c.make_room.ensures.groups, c.if-len.false, c.len-else-len-held.ensures, c.len-else-len-held-2.ensures) in
-    done-stored c.self.inside _ c.args.locs.now c.args.more c.args.group c.args.chans.now c.self.invariant can room is c.settle-2.ensures.index few
+    done-stored c.self.inside b c.args.locs.now c.args.more c.args.group c.args.chans.now c.self.invariant can room is c.settle-2.ensures.index few
 
 pub returns-clause-ok : goal.returns-clause-ok
 returns-clause-ok c =
@@ -62,7 +64,8 @@ returns-clause-ok c =
     let held : c.waiting-held.result ≡ waiting_in (seen c.self.inside) = c.waiting-held.ensures.count ∙ ap waiting_in (sym c.self.view_is) in
     let room : waiting_in (seen c.self.inside) + length c.args.more.waiting.items < 2 ^ 32 = omega (arith, held, c.waiting-held.ensures.few, c.if-len-held.false, c.len.ensures) in
     let may = may-done c.self.inside c.args.locs.now c.args.more c.args.group c.args.chans.now c.self.invariant can room in
-    done-is c.self.inside _ c.args.locs.now c.args.more c.args.group c.args.chans.now c.take_fronts.new.groups.groups c.add_groups.new.groups.groups c.settle.new.groups.groups c.in_ok-again.again.items c.make_room.new.stuck.items c.settle.new.stuck.items may (record {
+    let b : Inside = record { number = c.self.inside.number; made = c.args.more.next; locs = c.add_all.new.self; groups = c.settle-2.new.groups; spots = c.add_groups.new.spots; stuck = c.settle-2.new.stuck; requests = c.add_all-2.new.self } in
+    done-is c.self.inside b c.args.locs.now c.args.more c.args.group c.args.chans.now c.take_fronts.new.groups.groups c.add_groups.new.groups.groups c.settle.new.groups.groups c.in_ok-again.again.items c.make_room.new.stuck.items c.settle.new.stuck.items may (record {
       number = refl;
       made = refl;
       locs = c.add_all.ensures ∙ ap (λ ls. ls ++ c.args.locs.now) c.reserve.ensures.same;
