@@ -50,7 +50,7 @@ new-alone ls bs h = fewer-new ls [] bs (subst (λ (xs : List Loc). AreNew xs bs)
 
 -- ---- sorted posts
 
-waits-at : (ls : List Loc) (ps : List Posted) → Each (MayStand ls) ps → Each (IsAt ls) (waits_in ls ps)
+pub waits-at : (ls : List Loc) (ps : List Posted) → Each (MayStand ls) ps → Each (IsAt ls) (waits_in ls ps)
 waits-at ls [] h = tt
 waits-at ls (a_message l m ∷ ps) h = go (among ls l) refl (waits-at ls ps h.1)
   where
@@ -59,7 +59,7 @@ waits-at ls (a_message l m ∷ ps) h = go (among ls l) refl (waits-at ls ps h.1)
     go false here rest = rest
 waits-at ls (a_request q ∷ ps) h = waits-at ls ps h.1
 
-asked-at : (ls : List Loc) (ps : List Posted) → Each (MayStand ls) ps → Each (λ (q : Request). among ls q.loc ≡ true) (asked_in ps)
+pub asked-at : (ls : List Loc) (ps : List Posted) → Each (MayStand ls) ps → Each (λ (q : Request). among ls q.loc ≡ true) (asked_in ps)
 asked-at ls [] h = tt
 asked-at ls (a_message l m ∷ ps) h = asked-at ls ps h.1
 asked-at ls (a_request q ∷ ps) h = (h.0, asked-at ls ps h.1)

@@ -17,6 +17,7 @@ pub mod Leaving
 pub mod Leaves
 pub mod AllHold
 pub mod Poured
+pub mod Answering
 pub mod Hosting
 pub mod Walked
 pub mod Puts

@@ -1,5 +1,5 @@
 -- What a site needs in order to pour holds of it again afterwards.
-use Rattle.std.proofs.Common.{◌≡◌, ℕ, zero, suc, ◌+◌, ◌≤◌, ◌<◌, List, [], ◌∷◌, ◌++◌, length, Option, Some, None, Bool, true, false, cond, refl, sym, ap, ◌∙◌, subst, arith, inl, inr, ◌⊎◌, eq-eqb}
+use Rattle.std.proofs.Common.{◌≡◌, ℕ, zero, suc, ◌+◌, ◌≤◌, ◌<◌, ◌^◌, List, [], ◌∷◌, ◌++◌, length, Option, Some, None, Bool, true, false, cond, refl, sym, ap, ◌∙◌, subst, arith, inl, inr, ◌⊎◌, eq-eqb}
 use Rattle.std.specs.Prelude.{◌&&◌, ◌||◌, ◌==◌, is_some, slice_get, zip}
 use Rattle.std.specs.List.{list_all, Contains}
 use Rattle.std.proofs.lemmas.Bool.{and_parts, or_left, or_right}
@@ -37,11 +37,27 @@ use Rattle.site_solution.specs.InCode.{same_pairs, same_counts, is_level_of, is_
 use Rattle.site_solution.specs.Named.{name_in, names_in, message_in, group_in, ask_in, request_in, all_in, in_tree, in_reach}
 use Rattle.site_solution.specs.Draws.{is_drawn, are_drawn, message_drawn, told_drawn, queues_drawn, group_drawn, all_drawn, CanDraw}
 use Rattle.site_solution.specs.Split.{waits_in, asked_in}
-use Rattle.site_solution.specs.Pours.{CanPour, HasPoured}
-use Rattle.site_solution.proofs.Fronts.{AreGone}
-use Rattle.site_solution.proofs.Adding.{HasCome}
-use Rattle.site_solution.proofs.Leaves.{drawn-later, drawn-new, AreAllDrawn, drawn-parts, here-or_born}
+use Rattle.site_solution.specs.Pours.{CanPour, HasPoured, CanEmit, HasEmitted}
+use Rattle.site_solution.specs.InTree.{is_number, has_number, is_in_tree}
+use Rattle.site_solution.specs.Counted.{times}
+use Rattle.site_solution.specs.Held.{taken_at}
+use Rattle.site_solution.specs.New.{gone_at}
+use Rattle.site_solution.specs.Split.{with_more}
+use Rattle.site_solution.proofs.Splitting.{poured-split}
+use Rattle.site_solution.proofs.Leaving.{waits-at, asked-at}
+use Rattle.chem_model.specs.Opening.{root_of}
+use Rattle.loc_tree.specs.declared.tree.Spot.{Spot}
+use Rattle.loc_tree.specs.Tree.{number_in}
+use Rattle.net_laws.specs.Kept.{AreApart, IsKept}
+use Rattle.net_laws.specs.Posting.{Outcome, pour_here}
+use Rattle.site_solution.proofs.Fronts.{AreGone, are-gone, taken-is}
+use Rattle.site_solution.proofs.Adding.{MayCome, HasCome, come-is}
+use Rattle.site_solution.proofs.Leaves.{drawn-later, drawn-new, AreAllDrawn, drawn-parts, here-or_born, run-leaves}
 use Rattle.site_solution.proofs.AllHold.{all-both, all-weaker, holds-at, AllHold, gone-holds, come-holds, holds-weaker}
+
+append-nil : {X : Type 0} (xs : List X) → xs ++ [] ≡ xs
+append-nil [] = refl
+append-nil (x ∷ xs) = ap (λ ys. x ∷ ys) (append-nil xs)
 
 -- ---- what is posted
 
@@ -247,3 +263,113 @@ run-holds c t s l env r gs ls new run here drawn fresh env_named named tops gone
       subst (λ (j : ℕ). IsFresh t' j new.made) (sym come.number) (subst (IsFresh t' s.number) (sym come.made) (fresh-later t s.number s.made r.next r.births fresh run.births)),
       subst (λ (xs : List Loc). all_in (in_reach t' xs) new ≡ true) (sym come.locs) (true_both _ _ all'.groups (true_both _ _ all'.stuck all'.requests)),
     )
+
+-- ---- the clauses of the calls
+
+-- the site that results, where a run was left at it
+pub run-comes : (c : CodeParts) (t : Tree) (s new : Site) (l : Loc) (env : List Name) (r : Run) (j : ℕ) (cs : List ℕ) → IsRun c s.number l env s.made r → among s.locs l ≡ true → IsKept s → ((i : AtomId) → times i s ≤ 1) → all_drawn s ≡ true → r.next ≤ 2 ^ 64 → new ≡ (pour_here t r.next r.births (all_told (told_by c) r.groups) (all_posted r.posts) (taken_at j cs s)).site
+    → HasCome r.next r.births (all_told (told_by c) r.groups) (waits_in (s.locs ++ r.births) (all_posted r.posts)) (asked_in (all_posted r.posts)) (record s { groups = gone_at j cs s.groups }) new
+run-comes c t s new l env r j cs run here kept once drawn few is =
+    let can = run-leaves c s l env r run here kept once drawn few in
+    let gs = gone_at j cs s.groups in
+    let gone = are-gone s j cs kept in
+    let ls = s.locs ++ r.births in
+    let ps = all_posted r.posts in
+    let ds = all_told (told_by c) r.groups in
+    let may : MayCome r.births ds (waits_in ls ps) (asked_in ps) (record s { groups = gs }) = record {
+      kept = gone.kept;
+      laid_here = can.laid_here;
+      apart = subst (λ (es : List Told). AreApart (es ++ ds)) (sym gone.told) can.apart;
+      waiting = waits-at ls ps can.posted;
+      requests = asked-at ls ps can.posted;
+    } in
+    let site : new ≡ with_more r.next r.births ds (waits_in ls ps) (asked_in ps) (record s { groups = gs }) = is ∙ ap (λ (x : Site). (pour_here t r.next r.births ds ps x).site) (taken-is j cs s) ∙ ap (λ (o : Outcome). o.site) (poured-split t r.next r.births ds ps (record s { groups = gs })) in
+    subst (HasCome r.next r.births ds (waits_in ls ps) (asked_in ps) (record s { groups = gs })) (sym site) (come-is r.next r.births ds (waits_in ls ps) (asked_in ps) (record s { groups = gs }) may)
+
+tops-in : (c : CodeParts) (t : Tree) (s : Site) → is_in_code c t s ≡ true → list_all (in_tree t) c.tops ≡ true
+tops-in c t s in_code = (and_parts (list_all (is_told_by c) (told_in s.groups)) (list_all (in_tree t) c.tops) in_code).1
+
+pub poured-keeps : (c : CodeParts) (t : Tree) (s new : Site) (l : Loc) (env : List Name) (r : Run) (j : ℕ) (cs : List ℕ) → IsRun c s.number l env s.made r → among s.locs l ≡ true → IsKept s → ((i : AtomId) → times i s ≤ 1) → CanPour c t env s → new ≡ (pour_here t r.next r.births (all_told (told_by c) r.groups) (all_posted r.posts) (taken_at j cs s)).site → HasPoured c (with_births t s.number r.births) new
+poured-keeps c t s new l env r j cs run here kept once can is =
+    let few : r.next ≤ 2 ^ 64 = omega (arith, run.below, can.can_draw.few) in
+    let come = run-comes c t s new l env r j cs run here kept once can.can_draw.drawn few is in
+    let gone = are-gone s j cs kept in
+    let tops = tops-in c t s can.in_code in
+    let holds = run-holds c t s l env r (gone_at j cs s.groups) (s.locs ++ r.births) new run here can.can_draw.drawn can.can_draw.fresh can.env_named can.all_named tops gone come in
+    let told_old = (and_parts (list_all (is_told_by c) (told_in s.groups)) (list_all (in_tree t) c.tops) can.in_code).0 in
+    let told : list_all (is_told_by c) (told_in new.groups) ≡ true = ap (list_all (is_told_by c)) (come.told ∙ ap (λ ds. ds ++ all_told (told_by c) r.groups) gone.told) ∙ all-both (is_told_by c) (told_in s.groups) (all_told (told_by c) r.groups) told_old (all-told_again c s.number s.made r.next r.groups run.groups) in
+    record {
+      in_code = true_both (list_all (is_told_by c) (told_in new.groups)) _ told (all-weaker (in_tree t) (in_tree (with_births t s.number r.births)) c.tops (tree-later t s.number s.made r.next r.births can.can_draw.fresh run.births) tops);
+      drawn = holds.0;
+      fresh = holds.1;
+      all_named = holds.2;
+    }
+
+-- where each location here is in the tree with the number of the site, what is in reach is in the tree
+some-numbered : (i : ℕ) (o : Option Spot) → is_number (number_in o) i ≡ true → is_some o ≡ true
+some-numbered i None n = absurd (cc)
+some-numbered i (Some u) n = refl
+
+hosted-in : (t : Tree) (i : ℕ) (a : Loc) (ls : List Loc) → list_all (has_number t i) ls ≡ true → among ls a ≡ true → in_tree t a ≡ true
+hosted-in t i a [] h m = absurd (cc)
+hosted-in t i a (x ∷ xs) h m =
+    let both = and_parts (has_number t i x) (list_all (has_number t i) xs) h in
+    at (same_loc x a) refl m both.0 (hosted-in t i a xs both.1)
+  where
+    at : (u : Bool) → same_loc x a ≡ u → u || among xs a ≡ true → has_number t i x ≡ true → (among xs a ≡ true → in_tree t a ≡ true) → in_tree t a ≡ true
+    at true same n one rest = ap (in_tree t) (sym (same_loc_is x a same)) ∙ some-numbered i (spot t x) one
+    at false other n one rest = rest n
+
+reached-in : (t : Tree) (i : ℕ) (ls : List Loc) (a : Loc) → list_all (has_number t i) ls ≡ true → in_reach t ls a ≡ true → in_tree t a ≡ true
+reached-in t i ls a all e = go (in_tree t a) refl e
+  where
+    go : (u : Bool) → in_tree t a ≡ u → u || among ls a ≡ true → in_tree t a ≡ true
+    go true c h = c
+    go false c h = hosted-in t i a ls all h
+
+-- so all that is named in reach is in the tree
+pub named-in_tree : (t : Tree) (s : Site) → list_all (has_number t s.number) s.locs ≡ true → all_in (in_reach t s.locs) s ≡ true → all_in (in_tree t) s ≡ true
+named-in_tree t s numbered named =
+    let weaker : (a : Loc) → in_reach t s.locs a ≡ true → in_tree t a ≡ true = λ a e. reached-in t s.number s.locs a numbered e in
+    let there = in_reach t s.locs in
+    let parts = and_parts (list_all (group_in there) s.groups) _ named in
+    let parts' = and_parts (list_all (λ (w : Waiting). message_in there w.msg) s.stuck) _ parts.1 in
+    let all = holds-weaker (message_in there) (message_in (in_tree t)) (λ (d : Told). names_in there d.inst.env) (λ (d : Told). names_in (in_tree t) d.inst.env) (request_in there) (request_in (in_tree t)) s (message-weaker there (in_tree t) weaker) (λ d e. names-weaker there (in_tree t) weaker d.inst.env e) (λ q e. ask-weaker there (in_tree t) weaker q.ask e) (record { groups = parts.0; stuck = parts'.0; requests = parts'.1 }) in
+    true_both _ _ all.groups (true_both _ _ all.stuck all.requests)
+
+-- what is in the tree is in reach
+pub in_tree-named : (t : Tree) (s : Site) → all_in (in_tree t) s ≡ true → all_in (in_reach t s.locs) s ≡ true
+in_tree-named t s named =
+    let there = in_reach t s.locs in
+    let weaker : (a : Loc) → in_tree t a ≡ true → there a ≡ true = λ a e. or_left (in_tree t a) (among s.locs a) e in
+    let parts = and_parts (list_all (group_in (in_tree t)) s.groups) _ named in
+    let parts' = and_parts (list_all (λ (w : Waiting). message_in (in_tree t) w.msg) s.stuck) _ parts.1 in
+    let all = holds-weaker (message_in (in_tree t)) (message_in there) (λ (d : Told). names_in (in_tree t) d.inst.env) (λ (d : Told). names_in there d.inst.env) (request_in (in_tree t)) (request_in there) s (message-weaker (in_tree t) there weaker) (λ d e. names-weaker (in_tree t) there weaker d.inst.env e) (λ q e. ask-weaker (in_tree t) there weaker q.ask e) (record { groups = parts.0; stuck = parts'.0; requests = parts'.1 }) in
+    true_both _ _ all.groups (true_both _ _ all.stuck all.requests)
+
+-- ---- one message
+
+abbrev no_code : CodeParts
+no_code = record { guards = []; levels = []; blocks = []; bodies = []; seen = []; tops = []; sites = [] }
+
+pub emitted-keeps : (t : Tree) (s new : Site) (l : Loc) (on : Name) (args : List Name) (r : Run) → ((c : CodeParts) → IsRun c s.number l (on ∷ args) s.made r) → r.births ≡ [] → r.groups ≡ [] → among s.locs l ≡ true → IsKept s → ((i : AtomId) → times i s ≤ 1) → CanEmit t on args s → new ≡ (pour_here t r.next r.births [] (all_posted r.posts) (taken_at 0 [] s)).site → HasEmitted t new
+emitted-keeps t s new l on args r runs none empty here kept once can is =
+    let run = runs no_code in
+    let few : r.next ≤ 2 ^ 64 = omega (arith, run.below, can.can_draw.few) in
+    let site : new ≡ (pour_here t r.next r.births (all_told (told_by no_code) r.groups) (all_posted r.posts) (taken_at 0 [] s)).site = is ∙ ap (λ gs. (pour_here t r.next r.births (all_told (told_by no_code) gs) (all_posted r.posts) (taken_at 0 [] s)).site) (sym empty) in
+    let come = run-comes no_code t s new l (on ∷ args) r 0 [] run here kept once can.can_draw.drawn few site in
+    let gone = are-gone s 0 [] kept in
+    let all = and_parts (list_all (has_number t s.number) s.locs && among s.locs (root_of s.number)) (all_in (in_tree t) s) can.all_there in
+    let own = and_parts (list_all (has_number t s.number) s.locs) (among s.locs (root_of s.number)) all.0 in
+    let env_named : names_in (in_reach t s.locs) (on ∷ args) ≡ true = true_both (name_in (in_reach t s.locs) on) (names_in (in_reach t s.locs) args) can.on_named can.args_named in
+    let holds = run-holds no_code t s l (on ∷ args) r (gone_at 0 [] s.groups) (s.locs ++ r.births) new run here can.can_draw.drawn can.can_draw.fresh env_named (in_tree-named t s all.1) refl gone come in
+    let tree : with_births t s.number r.births ≡ t = ap (with_births t s.number) none in
+    let locs : new.locs ≡ s.locs = come.locs ∙ ap (λ bs. s.locs ++ bs) none ∙ append-nil s.locs in
+    let numbered : list_all (has_number t new.number) new.locs ≡ true = ap (λ (i : ℕ). list_all (has_number t i) new.locs) come.number ∙ ap (list_all (has_number t s.number)) locs ∙ own.0 in
+    let root : among new.locs (root_of new.number) ≡ true = ap (λ (i : ℕ). among new.locs (root_of i)) come.number ∙ ap (λ xs. among xs (root_of s.number)) locs ∙ own.1 in
+    let named : all_in (in_reach t new.locs) new ≡ true = ap (λ (u : Tree). all_in (in_reach u new.locs) new) (sym tree) ∙ holds.2 in
+    record {
+      all_there = true_both (list_all (has_number t new.number) new.locs && among new.locs (root_of new.number)) (all_in (in_tree t) new) (true_both (list_all (has_number t new.number) new.locs) (among new.locs (root_of new.number)) numbered root) (named-in_tree t new numbered named);
+      drawn = holds.0;
+      fresh = subst (λ (u : Tree). IsFresh u new.number new.made) tree holds.1;
+    }

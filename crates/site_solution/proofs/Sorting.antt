@@ -10,6 +10,7 @@ use Rattle.net_laws.specs.Net.{Addressed, among, address}
 use Rattle.net_laws.specs.Posting.{Posted, a_message, a_request}
 use Rattle.site_solution.specs.Answers.{IsFlightOf, AreFlights}
 use Rattle.site_solution.specs.Split.{waits_in, asked_in, away_from}
+use Rattle.site_solution.specs.Leave.{Sorting}
 
 append-one : {X : Type 0} (xs : List X) (y : X) (ys : List X) → (xs ++ y ∷ []) ++ ys ≡ xs ++ y ∷ ys
 append-one [] y ys = refl
@@ -18,12 +19,6 @@ append-one (x ∷ xs) y ys = ap (λ zs. x ∷ zs) (append-one xs y ys)
 append-nil : {X : Type 0} (xs : List X) → xs ++ [] ≡ xs
 append-nil [] = refl
 append-nil (x ∷ xs) = ap (λ ys. x ∷ ys) (append-nil xs)
-
--- what is sorted, with what is left, is the whole
-pub record Sorting (t : Tree) (ls : List Loc) (left whole : List Posted) (ws : List Waiting) (qs : List Request) (fs : List Flight) : Type 0 where
-  pub waiting_are : ws ++ waits_in ls left ≡ waits_in ls whole
-  pub requests_are : qs ++ asked_in left ≡ asked_in whole
-  pub flights_are : (gs : List Flight) → AreFlights (away_from t ls left) gs → AreFlights (away_from t ls whole) (fs ++ gs)
 
 module _ (t : Tree) (ls : List Loc) (whole : List Posted) where
   pub sort-begin : Sorting t ls whole whole [] [] []

@@ -1,16 +1,16 @@
 // What a run leaves at a site, and what it sends.
-ghost use Rattle.std.specs.Prelude.{◌≡◌, ◌++◌, [], IfOk, OnErr};
+ghost use Rattle.std.specs.Prelude.{◌≡◌, ◌++◌, [], IfOk, OnOk, OnErr};
 ghost use Rattle.chem_model.specs.Each.{Each};
 ghost use Rattle.net_laws.specs.Net.{address};
 ghost use Rattle.net_laws.specs.ByCode.{told_by};
 ghost use Rattle.net_laws.specs.Parcels.{all_told};
 ghost use Rattle.net_laws.specs.Posting.{pour_here};
-ghost use Rattle.code_run.specs.Posts.{all_posted};
+ghost use Rattle.code_run.specs.Posts.{posted, all_posted};
 ghost use Rattle.site_solution.specs.Answers.{IsFlightOf, Answers};
 ghost use Rattle.site_solution.specs.Commit.{AreNew, CanLeave};
 ghost use Rattle.site_solution.specs.Held.{taken_at};
 ghost use Rattle.site_solution.specs.New.{told_of_new, IsNewGroup};
-ghost use Rattle.site_solution.specs.Leave.{IsSorted, IsLeft};
+ghost use Rattle.site_solution.specs.Leave.{IsSorted, Sorts, IsLeft};
 
 use crate::effects::Effects;
 use crate::more::{More, new_groups};
@@ -53,6 +53,36 @@ fn flight(alloc: Global, tree: &LocTree, loc: &Loc, msg: Msg) -> Result<Flight, 
     Ok(Flight { target, bytes })
 }
 
+// Sorts one post more.
+fn sort_post(
+    alloc: Global,
+    tree: &LocTree,
+    here: &Places,
+    born: &Places,
+    post: &Post,
+    sorted: &mut Sorted,
+) -> Result<(), Memory>
+    ensures { OnOk result (Sorts tree.now (here.now.locs ++ born.now.locs) (posted post.now)
+        sorted.old sorted.new) }
+{
+    match post {
+        Post::Message(one) => {
+            if here.has(&one.loc) || born.has(&one.loc) {
+                sorted.waiting.push(one.copy(alloc)?)?;
+                Ok(())
+            } else {
+                let flight = flight(alloc, tree, &one.loc, one.msg.copy(alloc)?)?;
+                sorted.flights.push(flight)?;
+                Ok(())
+            }
+        }
+        Post::Request(one) => {
+            sorted.requests.push(*one)?;
+            Ok(())
+        }
+    }
+}
+
 // Sorts what is posted, where the locations here and those that are born are hosted.
 fn sort_posts(
     alloc: Global,
@@ -64,26 +94,15 @@ fn sort_posts(
     ensures { IfOk result
         (IsSorted tree.now (here.now.locs ++ born.now.locs) (all_posted posts.now)) }
 {
-    let mut waiting = Vec::new(alloc);
-    let mut requests = Vec::new(alloc);
-    let mut flights = Items::new(alloc);
+    let mut sorted = Sorted {
+        waiting: Vec::new(alloc),
+        requests: Vec::new(alloc),
+        flights: Items::new(alloc),
+    };
     for post in posts {
-        match post {
-            Post::Message(one) => {
-                if here.has(&one.loc) || born.has(&one.loc) {
-                    waiting.push(one.copy(alloc)?)?;
-                } else {
-                    flights.push(flight(alloc, tree, &one.loc, one.msg.copy(alloc)?)?)?;
-                }
-            }
-            Post::Request(one) => requests.push(*one)?,
-        }
+        sort_post(alloc, tree, here, born, post, &mut sorted)?;
     }
-    Ok(Sorted {
-        waiting,
-        requests,
-        flights,
-    })
+    Ok(sorted)
 }
 
 // Locations as a set.
