@@ -3,6 +3,7 @@ ghost use Rattle.std.specs.Prelude.{slice_get, remove, option_copied, IsOk, IsTr
 ghost use Rattle.queue_cells.specs.Grouped.{lists_at, queue_in, with_queue, with_last, waiting};
 ghost use Rattle.queue_cells.specs.Grouped.{idle_group, emptied, but_where, waiting_where, AllHeld};
 ghost use Rattle.queue_cells.specs.Busy.{any_waits};
+ghost use Rattle.queue_cells.specs.Messages.{messages_in};
 ghost use Rattle.status_words.specs.Words.{number_of_words};
 
 use crate::cells::{Cell, chain, unchain};
@@ -60,6 +61,13 @@ impl<G: Drop, T: Drop> Groups<G, T> {
         ensures { result ≡ length self.now.groups }
     {
         self.rows.len()
+    }
+
+    /// How many messages stand in all queues.
+    pub fn messages(&self) -> usize
+        ensures { result ≡ messages_in self.now.groups }
+    {
+        self.cells.len()
     }
 
     /// What is told of a group.

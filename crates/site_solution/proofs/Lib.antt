@@ -4,6 +4,16 @@ pub mod Queueing
 pub mod Naming
 pub mod Left
 pub mod Putting
+pub mod Counting
+pub mod Asking
+pub mod Fronts
 pub mod Keeping
+pub mod Taken
+pub mod Amounts
+pub mod LaidAll
+pub mod Laying
+pub mod Adding
+pub mod Splitting
+pub mod Hosting
 pub mod Walked
 pub mod Copied

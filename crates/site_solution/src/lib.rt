@@ -5,9 +5,12 @@
 #![tactic(auto)]
 
 mod asked;
+mod effects;
 mod finding;
 mod forgetting;
+mod more;
 mod packing;
+mod places;
 mod site;
 mod testing;
 #[cfg(test)]
@@ -15,4 +18,5 @@ mod tests;
 mod told;
 mod walking;
 
+pub use effects::Effects;
 pub use site::Site;
