@@ -19,9 +19,9 @@ use Rattle.site_solution.specs.Held.{taken_at}
 use Rattle.site_solution.specs.declared.told.NewGroup.{NewGroup}
 use Rattle.site_solution.specs.Counted.{over_groups, over_stuck, over_waiting, one_each, id_of, over_requests, times, waiting_in}
 use Rattle.site_solution.specs.Rising.{with_requests, AreNewIn}
-use Rattle.site_solution.specs.Index.{Rows, Key, groups_of, holding, new_groups, locate, same_key, IsIndex}
-use Rattle.site_solution.specs.declared.told.Spot.{Spot}
-use Rattle.std.specs.HashMap.{get}
+use Rattle.site_solution.specs.Index.{Rows, groups_of, holding, new_groups, IsIndex}
+use Rattle.site_solution.specs.declared.told.Spots.{Spots}
+use Rattle.site_solution.proofs.Queueing.{index-same}
 use Rattle.site_solution.specs.Split.{with_more}
 use Rattle.site_solution.specs.declared.more.More.{More}
 use Rattle.site_solution.specs.New.{told_of_new, gone_at, IsNewGroup}
@@ -92,7 +92,7 @@ pub as-whole : (a : Inside) → IsStored a → IsWhole (seen a)
 as-whole a h = record { kept = h.kept; once = h.once; few_waiting = h.few_waiting; numbers = h.numbers }
 
 -- a site that is seen as one that keeps these facts
-pub whole-stored : (a : Inside) (s : Site) → seen a ≡ s → IsWhole s → IsIndex (get same_key a.spots) (groups_of a.groups.groups) → length a.groups.groups < 2 ^ 32 → IsStored a
+pub whole-stored : (a : Inside) (s : Site) → seen a ≡ s → IsWhole s → IsIndex a.spots (groups_of a.groups.groups) → length a.groups.groups < 2 ^ 32 → IsStored a
 whole-stored a s is whole index few =
     let it = subst IsWhole (sym is) whole in
     record { kept = it.kept; once = it.once; few_waiting = it.few_waiting; index = index; numbers = it.numbers; few = few }
@@ -223,12 +223,8 @@ lay-added d m r s next groups told none empty =
 -- ---- what comes, as it lies in the fields
 
 -- the index stays without fronts
-pub gone-index : (find : Key → Option Spot) (s : Site) (gs : List Group) → AreGone s gs → IsIndex find s.groups → IsIndex find gs
-gone-index find s gs gone index = record {
-  named = λ site k home. index.named site k home ∙ ap (λ ds. locate ds site k home) (sym gone.told);
-  queues = gone.kept.queues;
-  apart = gone.kept.apart;
-}
+pub gone-index : (spots : Spots) (s : Site) (gs : List Group) → AreGone s gs → IsIndex spots s.groups → IsIndex spots gs
+gone-index spots s gs gone index = index-same spots s.groups gs index gone.told gone.kept.queues
 
 some-told : (rs : List NewGroup) → some_of (told_of_new rs) ≡ some_of rs
 some-told [] = refl
@@ -259,10 +255,10 @@ done-is a b ls m j cs taken laid once again kept first may d =
     let all : added ls m s ≡ record (holding host b.groups.groups b.stuck.items) { requests = with_requests qs a.requests.items } = ap (ask_all qs) whole ∙ asked-with qs (holding host b.groups.groups b.stuck.items) in
     sym (ap (added ls m) (taken-is j cs (seen a)) ∙ all ∙ same-fields a.number b.number m.next b.made (a.locs.locs ++ ls) b.locs.locs (groups_of b.groups.groups) b.stuck.items (with_requests qs a.requests.items) b.requests.items (sym d.number) (sym d.made) (sym d.locs) (sym d.requests))
   where
-    same-fields : (n n' k k' : ℕ) (xs xs' : List Loc) (gs : List Group) (ws : List Waiting) (rs rs' : List Request) → n ≡ n' → k ≡ k' → xs ≡ xs' → rs ≡ rs' → (record { number = n; made = k; locs = xs; groups = gs; stuck = ws; requests = rs }) ≡ (record { number = n'; made = k'; locs = xs'; groups = gs; stuck = ws; requests = rs' })
+    same-fields : (n n' k k' : ℕ) (xs xs' : List Loc) (gs : List Group) (ws : List Waiting) (rs rs' : List Request) → n ≡ n' → k ≡ k' → xs ≡ xs' → rs ≡ rs' → ◌≡◌ {A = Site} (record { number = n; made = k; locs = xs; groups = gs; stuck = ws; requests = rs }) (record { number = n'; made = k'; locs = xs'; groups = gs; stuck = ws; requests = rs' })
     same-fields n n' k k' xs xs' gs ws rs rs' e f g h = λ i. record { number = e i; made = f i; locs = g i; groups = gs; stuck = ws; requests = h i }
 
-pub done-stored : (a b : Inside) (ls : List Loc) (m : More) (j : ℕ) (cs : List ℕ) → IsStored a → CanAdd ls m (seen a) → waiting_in (seen a) + length m.waiting.items < 2 ^ 32 → seen b ≡ added ls m (taken_at j cs (seen a)) → IsIndex (get same_key b.spots) (groups_of b.groups.groups) → length b.groups.groups < 2 ^ 32 → IsStored b
+pub done-stored : (a b : Inside) (ls : List Loc) (m : More) (j : ℕ) (cs : List ℕ) → IsStored a → CanAdd ls m (seen a) → waiting_in (seen a) + length m.waiting.items < 2 ^ 32 → seen b ≡ added ls m (taken_at j cs (seen a)) → IsIndex b.spots (groups_of b.groups.groups) → length b.groups.groups < 2 ^ 32 → IsStored b
 done-stored a b ls m j cs h can room is index few =
     let gone = are-gone (seen a) j cs h.kept in
     let may = gone-may ls m (seen a) (gone_at j cs (groups_of a.groups.groups)) (record { can = can; whole = as-whole a h; room = room }) gone in

@@ -1,7 +1,6 @@
 -- What each call keeps of a site.
 use Rattle.std.proofs.Common.{◌≡◌, ℕ, zero, suc, ◌+◌, ◌<◌, ◌≤◌, ◌^◌, Bool, true, false, cond, List, [], ◌∷◌, ◌++◌, length, Option, Some, None, Result, Ok, Err, refl, sym, ap, subst, ◌∙◌, arith}
 use Rattle.std.specs.Prelude.{slice_get, slice_set, slice_index_or, drop, OnOk, OnErr}
-use Rattle.std.specs.HashMap.{get}
 use Rattle.chem_model.specs.declared.name.Loc.{Loc}
 use Rattle.chem_model.specs.declared.event.AtomId.{AtomId}
 use Rattle.chem_model.specs.Apply.{same_atom}
@@ -24,13 +23,12 @@ use Rattle.site_solution.specs.Held.{queues_in, queue_of, without_front, has_ato
 use Rattle.site_solution.specs.Rising.{Pending}
 use Rattle.site_solution.specs.Counted.{is_id, id_of, one_each, over_waiting, over_requests, times, waiting_in}
 use Rattle.site_solution.proofs.Counting.{put-sum, front-sum, request-more, request-less, absent-times, id-below}
-use Rattle.site_solution.specs.Index.{Rows, Key, key_of, groups_of, told_of, holding, locate, same_key, IsIndex}
-use Rattle.site_solution.specs.declared.told.Spot.{Spot}
+use Rattle.site_solution.specs.Index.{Rows, groups_of, told_of, holding, IsIndex}
 use Rattle.std.proofs.lemmas.List.{length-append}
 use Rattle.chem_laws.proofs.Lists.{Each-append}
 use Rattle.site_solution.specs.Stored.{seen, IsStored}
 use Rattle.site_solution.specs.CanLay.{HasNumbers, CanLay}
-use Rattle.site_solution.proofs.Queueing.{queues-are}
+use Rattle.site_solution.proofs.Queueing.{queues-are, index-same}
 use Rattle.site_solution.proofs.Putting.{told-many, queue-set}
 
 -- what holds before and after holds of what comes out
@@ -119,14 +117,14 @@ pub record AreStored (a : Inside) (qs : Rows) (ws : List Waiting) : Type 0 where
   pub kept : IsKept (holding (seen a) qs ws)
   pub once : (i : AtomId) → times i (holding (seen a) qs ws) ≤ 1
   pub few_waiting : waiting_in (holding (seen a) qs ws) < 2 ^ 32
-  pub index : IsIndex (get same_key a.spots) (groups_of qs)
+  pub index : IsIndex a.spots (groups_of qs)
   pub numbers : Each HasNumbers (told_of qs)
   pub few : length qs < 2 ^ 32
 
 pub as-stored : (a : Inside) → IsStored a → AreStored a a.groups.groups a.stuck.items
 as-stored a h = record { kept = h.kept; once = h.once; few_waiting = h.few_waiting; index = h.index; numbers = h.numbers; few = h.few }
 
-pub put-stored : (a : Inside) (l : Loc) (m : MessageParts) (qs : Rows) (ws : List Waiting) → IsStored a → among a.locs.locs l ≡ true → home_or l m.on ≡ l → has_atom m.id (seen a) ≡ false → waiting_in (seen a) + 1 < 2 ^ 32 → IsIndex (get same_key a.spots) (groups_of qs) → told_of qs ≡ told_of a.groups.groups → put l m (seen a) ≡ holding (seen a) qs ws → AreStored a qs ws
+pub put-stored : (a : Inside) (l : Loc) (m : MessageParts) (qs : Rows) (ws : List Waiting) → IsStored a → among a.locs.locs l ≡ true → home_or l m.on ≡ l → has_atom m.id (seen a) ≡ false → waiting_in (seen a) + 1 < 2 ^ 32 → IsIndex a.spots (groups_of qs) → told_of qs ≡ told_of a.groups.groups → put l m (seen a) ≡ holding (seen a) qs ws → AreStored a qs ws
 put-stored a l m qs ws h here home new room index told is = record {
   kept = subst IsKept is (put_is l m (seen a) h.kept here home).kept;
   once = λ i. subst (λ (s : Site). times i s ≤ 1) is (one-more i (same_atom m.id i) refl (h.once i) (put-sum (id_of i) l m (seen a)) (put-requests l m (seen a)));
@@ -208,11 +206,7 @@ front-stored a new j c m h some front is =
       kept = kept;
       once = λ i. omega (arith, h.once i, ap (λ (s : Site). over_waiting (id_of i) s) site, front-sum (id_of i) (seen a) j c g there.1);
       few_waiting = omega (arith, h.few_waiting, ap (λ (s : Site). waiting_in s) site, front-sum one_each (seen a) j c g there.1);
-      index = record {
-        named = λ site k home. h.index.named site k home ∙ ap (λ ds. locate ds site k home) (sym told);
-        queues = kept.queues;
-        apart = kept.apart;
-      };
+      index = index-same a.spots (groups_of qs) (groups_of new) h.index told kept.queues;
       numbers = subst (Each HasNumbers) (sym told) h.numbers;
       few = let many = sym (told-many new) ∙ ap length told ∙ told-many qs in omega (arith, h.few);
     }

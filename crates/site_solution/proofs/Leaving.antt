@@ -19,7 +19,10 @@ use Rattle.site_solution.specs.Split.{waits_in, asked_in, away_from, with_more}
 use Rattle.site_solution.specs.declared.more.More.{More}
 use Rattle.site_solution.specs.New.{told_of_new, IsNewGroup}
 use Rattle.site_solution.specs.More.{IsAt, CanAdd, added}
-use Rattle.site_solution.specs.Leave.{IsLeft}
+use Rattle.site_solution.specs.Leave.{IsSorted, IsLeft}
+use Rattle.site_solution.specs.declared.commit.Sorted.{Sorted}
+use Rattle.code_run.specs.declared.made.Post.{Post}
+use Rattle.code_run.specs.Posts.{all_posted}
 use Rattle.site_solution.specs.Held.{taken_in, taken_at}
 use Rattle.site_solution.specs.New.{gone_at}
 use Rattle.site_solution.proofs.Fronts.{taken-is}
@@ -96,3 +99,6 @@ left-is t births ps m j cs s new fs waits asks flights is =
     let all : pour_here t m.next births ds ps (taken_at j cs s) ≡ record { site = with_more m.next births ds (waits_in (s.locs ++ births) ps) (asked_in ps) taken; sends = away_from t (s.locs ++ births) ps } = ap (pour_here t m.next births ds ps) (taken-is j cs s) ∙ poured-split t m.next births ds ps taken in
     let site : new ≡ with_more m.next births ds (waits_in (s.locs ++ births) ps) (asked_in ps) taken = is ∙ ap (added births m) (taken-is j cs s) ∙ ap (λ ws. with_more m.next births ds ws m.requests.items taken) waits ∙ ap (λ qs. with_more m.next births ds (waits_in (s.locs ++ births) ps) qs taken) asks in
     subst (λ (o : Outcome). IsLeft o new fs) (sym all) (record { site = site; sends = flights })
+
+pub resort : (t : Tree) (xs xs' ys ys' : List Loc) (ps ps' : List Post) (r : Sorted) → xs ≡ xs' → ys ≡ ys' → ps ≡ ps' → IsSorted t (xs ++ ys) (all_posted ps) r → IsSorted t (xs' ++ ys') (all_posted ps') r
+resort t xs xs' ys ys' ps ps' r e f g h = subst (λ (qs : List Post). IsSorted t (xs' ++ ys') (all_posted qs) r) g (subst (λ (zs : List Loc). IsSorted t (xs' ++ zs) (all_posted ps) r) f (subst (λ (zs : List Loc). IsSorted t (zs ++ ys) (all_posted ps) r) e h))

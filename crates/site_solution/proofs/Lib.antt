@@ -1,6 +1,8 @@
 pub mod Ranks
+pub mod Marks
 pub mod Queueing
 pub mod Naming
+pub mod Left
 pub mod Putting
 pub mod Counting
 pub mod Asking
@@ -24,3 +26,4 @@ pub mod Puts
 pub mod Together
 pub mod Possible
 pub mod Dropping
+pub mod Copied

@@ -12,6 +12,8 @@ pub mod Commit
 pub mod Rising
 pub mod Hosted
 pub mod Index
+pub mod Forgotten
+pub mod Packed
 pub mod New
 pub mod Split
 pub mod More

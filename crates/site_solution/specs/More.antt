@@ -1,12 +1,11 @@
 -- What comes to a site, and the room that it takes. No public contract cites it.
 use Rattle.std.specs.Prelude.{◌≡◌, ℕ, ◌+◌, ◌<◌, ◌≤◌, ◌^◌, Bool, true, false, not, List, [], ◌∷◌, ◌++◌}
 use Rattle.std.specs.Prelude.{length, Vec, vec_capacity}
-use Rattle.std.specs.HashMap.{HashMap}
 use Rattle.std.specs.declared.alloc.Global.{Global}
 use Rattle.wire_packet.specs.MessageFacts.{MessageParts}
 use Rattle.queue_cells.specs.Grouped.{Grouped}
-use Rattle.site_solution.specs.declared.told.Spot.{Spot}
-use Rattle.site_solution.specs.Index.{Key, HasRoom}
+use Rattle.site_solution.specs.declared.told.Spots.{Spots}
+use Rattle.site_solution.specs.Index.{HasRoom}
 use Rattle.chem_model.specs.declared.name.Loc.{Loc}
 use Rattle.chem_model.specs.declared.event.AtomId.{AtomId}
 use Rattle.chem_model.specs.Each.{Each}
@@ -36,8 +35,8 @@ abbrev pub lays : More → Bool
 lays m = some_of m.groups.items
 
 -- all of it fits with no allocation, and what is to be put again
-pub record HasRoomFor {S : Type 0} (m : More) (again : List Waiting)
-    (groups : Grouped Told MessageParts) (spots : HashMap Key Spot S)
+pub record HasRoomFor (m : More) (again : List Waiting)
+    (groups : Grouped Told MessageParts) (spots : Spots)
     (stuck : Vec Waiting Global) : Type 0 where
   pub messages : length again + length m.waiting.items ≤ groups.spare
   pub groups_fit : length m.groups.items ≤ groups.spare_groups

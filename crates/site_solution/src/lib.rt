@@ -8,8 +8,11 @@ mod asked;
 mod commit;
 mod effects;
 mod finding;
+mod forgetting;
 mod more;
+mod packing;
 mod places;
+mod pouring;
 mod site;
 mod testing;
 #[cfg(test)]

@@ -2,20 +2,19 @@
 // takes none.
 ghost use Rattle.std.specs.Prelude.{◌≡◌, ◌≤◌, ◌<◌, ◌+◌, ◌^◌, ◌++◌, ◌∷◌, [], ℕ, List, length};
 ghost use Rattle.std.specs.Prelude.{vec_capacity, IfOk, OnOk, OnErr, IfSome};
-ghost use Rattle.std.specs.HashMap as hash;
 ghost use Rattle.chem_model.specs.Each.{Each};
 ghost use Rattle.net_laws.specs.Site.{Group};
 ghost use Rattle.net_laws.specs.Kept.{AreApart};
 ghost use Rattle.net_laws.specs.ByCode.{told_by};
 ghost use Rattle.net_laws.specs.Parcels.{all_told};
 ghost use Rattle.site_solution.specs.CanLay.{HasNumbers};
-ghost use Rattle.site_solution.specs.Index.{groups_of, told_of, new_groups, same_key};
+ghost use Rattle.site_solution.specs.Index.{groups_of, told_of, new_groups};
 ghost use Rattle.site_solution.specs.Index.{IsIndex, HasRoom};
 ghost use Rattle.site_solution.specs.New.{told_of_new, widths, IsNewGroup, gone_at};
 ghost use Rattle.site_solution.specs.More.{IsRestacked, lays, HasRoomFor};
 
-use crate::finding::{Spots, add_group, reserve_spots};
-use crate::told::{NewGroup, Told};
+use crate::finding::{add_group, reserve_spots};
+use crate::told::{NewGroup, Spots, Told};
 use chem_model::{Items, Memory, Nums};
 use env_store::Code;
 use queue_cells::{Groups, Idle};
@@ -107,7 +106,7 @@ pub(crate) fn add_groups(
     spots: &mut Spots,
     more: Vec<NewGroup>,
 )
-    requires index { IsIndex (hash.get same_key spots.old) (groups_of groups.old.groups) }
+    requires index { IsIndex spots.old (groups_of groups.old.groups) }
     requires new { Each IsNewGroup more.items }
     requires numbers { Each HasNumbers (told_of_new more.items) }
     requires apart { AreApart (told_of groups.old.groups ++ told_of_new more.items) }
@@ -117,7 +116,7 @@ pub(crate) fn add_groups(
         ≡ groups_of groups.old.groups ++ new_groups (told_of_new more.items) }
     ensures many { length groups.new.groups ≡ length groups.old.groups + length more.items }
     ensures spare { groups.new.spare ≡ groups.old.spare }
-    ensures index { IsIndex (hash.get same_key spots.new) (groups_of groups.new.groups) }
+    ensures index { IsIndex spots.new (groups_of groups.new.groups) }
 {
     for group in more {
         let NewGroup {
@@ -193,8 +192,8 @@ pub(crate) fn make_room(
 ) -> Result<Vec<Waiting>, Memory>
     requires { length stuck.old.items + length more.now.waiting.items < 2 ^ 33 }
     ensures groups { groups.new.groups ≡ groups.old.groups }
-    ensures index { (gs : List Group) → IsIndex (hash.get same_key spots.old) gs
-        → IsIndex (hash.get same_key spots.new) gs }
+    ensures index { (gs : List Group) → IsIndex spots.old gs
+        → IsIndex spots.new gs }
     ensures again { IfOk result (λ again. IsRestacked (lays more.now) stuck.old.items again.items
         stuck.new.items) }
     ensures room { IfOk result (λ again.

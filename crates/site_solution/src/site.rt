@@ -28,20 +28,19 @@ ghost use Rattle.site_solution.specs.Counted.{times, waiting_in};
 ghost use Rattle.site_solution.specs.More.{CanAdd, added};
 
 use crate::asked::Asked;
-use crate::finding::{Spots, find, push_back, settle};
+use crate::finding::{find, no_spots, push_back, settle};
 use crate::more::{More, add_groups, make_room, new_group, take_fronts, told_by};
 use crate::places::Places;
 use crate::testing::{
     Count, are_told_by, groups_are_drawn, locs_are_drawn, requests_are_drawn, stuck_are_drawn,
 };
-use crate::told::Told;
+use crate::told::{Spots, Told};
 use crate::walking::{groups_are_there, in_groups, in_stuck, requests_are_there, stuck_are_there};
 use chem_model::{AtomId, Loc, Memory};
 use env_store::Code;
 use loc_tree::LocTree;
 use queue_cells::Groups;
 use std::alloc::Global;
-use std::collections::HashMap;
 use std::marker::Model;
 use wire_packet::{GroupInst, Msg, Request, Waiting};
 
@@ -87,7 +86,7 @@ impl Site {
             made: 1,
             locs,
             groups: Groups::new(alloc),
-            spots: HashMap::new(alloc),
+            spots: no_spots(alloc),
             stuck: Vec::new(alloc),
             requests: Asked::new(alloc),
         })

@@ -1,10 +1,6 @@
-use Rattle.std.proofs.Common.{◌∙◌}
-use Rattle.site_solution.specs.Index.{key_of}
+use Rattle.std.proofs.Common.{refl}
+use Rattle.site_solution.proofs.Naming.{index-reserved}
 use Rattle.site_solution.proofs.finding.reserve_spots.Goals as goal
 
 pub returns-clause-index : goal.returns-clause-index
-returns-clause-index c = λ gs index. record {
-  named = λ site k home. c.reserve.ensures.entries.2 (key_of site k home) ∙ index.named site k home;
-  queues = index.queues;
-  apart = index.apart;
-}
+returns-clause-index c = λ gs index. index-reserved c.args.spots.now (record { marks = c.reserve-2.new.self; serials = c.reserve.new.self; next = c.args.spots.now.next }) gs c.reserve.ensures.items refl c.reserve-2.ensures.entries.2 index

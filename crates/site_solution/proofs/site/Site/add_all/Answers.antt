@@ -1,9 +1,8 @@
 use Rattle.std.proofs.Common.{◌≡◌, ◌+◌, ◌<◌, ◌^◌, ◌++◌, List, length, subst, sym, ap, ◌∙◌, refl, arith}
-use Rattle.std.specs.HashMap as hash
 use Rattle.net_laws.specs.Site.{Told, Group, Site, told_in}
 use Rattle.net_laws.specs.Kept.{AreApart}
 use Rattle.site_solution.specs.Counted.{waiting_in}
-use Rattle.site_solution.specs.Index.{Rows, groups_of, told_of, same_key, IsIndex}
+use Rattle.site_solution.specs.Index.{Rows, groups_of, told_of, IsIndex}
 use Rattle.site_solution.specs.New.{told_of_new, gone_at}
 use Rattle.site_solution.specs.More.{added, CanAdd}
 use Rattle.site_solution.specs.Held.{taken_at}
@@ -26,7 +25,7 @@ add_groups-requires-clause-index c =
     let gone = are-gone (seen c.self.inside) c.args.group c.args.chans.now c.self.invariant.kept in
     let fronts : groups_of c.take_fronts.new.groups.groups ≡ gone_at c.args.group c.args.chans.now (groups_of qs) = c.take_fronts.ensures.groups ∙ ap (λ (rs : Rows). gone_at c.args.group c.args.chans.now (groups_of rs)) c.make_room.ensures.groups in
     let index = c.make_room.ensures.index (groups_of qs) c.self.invariant.index in
-    subst (λ (gs : List Group). IsIndex (hash.get same_key c.make_room.new.spots) gs) (sym fronts) (gone-index (hash.get same_key c.make_room.new.spots) (seen c.self.inside) (gone_at c.args.group c.args.chans.now (groups_of qs)) gone index)
+    subst (λ (gs : List Group). IsIndex c.make_room.new.spots gs) (sym fronts) (gone-index c.make_room.new.spots (seen c.self.inside) (gone_at c.args.group c.args.chans.now (groups_of qs)) gone index)
 
 pub add_groups-requires-clause-apart : goal.add_groups-requires-clause-apart
 add_groups-requires-clause-apart c =
