@@ -224,7 +224,7 @@ module _ (p : ProgramTerms) (c : CodeParts) (ok : IsProgram p) (kept : IsCode c)
       subst (λ (xs : List NumberedAtom). Runs rules_by t.roots t i s made a.next a.births (all_told (told_by c) a.groups) (posted_of xs) a.outs) (sym (ap (λ u. u.atoms) pours))
       (runs_of rules_by (counts_of p.seen) t n n.atoms i s m l s.made q a.next a.births (all_told (told_by c) a.groups) a.outs tree sound here (given_by i made a s.made pours lays guarded) apart)
 
-  -- the guard of a rule, and the run of its body as what is poured, with the groups that it lays
+  -- the guard of a rule, and the run of its body as what is poured, with the groups that it lays; the solution with it is sound
   pub run_at : (t : Tree) (i j : ℕ) (s : Site) (g : Group) (k : ℕ) (r : NumberedRule) (level : Level) (guard : Guard) (ms : List MessageParts) (left : List (List MessageParts)) (rules : Bag NumberedRule) (atoms : Bag NumberedAtom) (n : Numbered)
       → IsPart rules_by (counts_of p.seen) t i s rules atoms n → IsKept s → Each (IsOfCode p c) (told_in s.groups) → Each (IsDrawn i s.made) (told_in s.groups)
       → slice_get s.groups j ≡ Some g → slice_get (rules_by g.told.inst) k ≡ Some r → slice_get c.levels g.told.inst.level ≡ Some level → slice_get c.guards (level.first + k) ≡ Some guard
@@ -233,6 +233,7 @@ module _ (p : ProgramTerms) (c : CodeParts) (ok : IsProgram p) (kept : IsCode c)
       IsGuard rules_by g.told r guard.chans
       × Runs rules_by t.roots t i (with_queues s j g left) (pour (counts_of p.seen) i (root_of i) (given_all r.pats ms) r.loc s.made r.body) a.next a.births (all_told (told_by c) a.groups) (posted_of a.atoms) a.outs
       × LaysGroups p i s.made a
+      × IsSound (add_made (record n { atoms = without_all (ids ms) n.atoms }) i (pour (counts_of p.seen) i (root_of i) (given_all r.pats ms) r.loc s.made r.body))
   run_at t i j s g k r level guard ms left rules atoms n part kept_s of_code drawn held rule_is level_is guard_is hosted lives takes =
       let d = g.told in
       let seen = counts_of p.seen in
@@ -259,7 +260,7 @@ module _ (p : ProgramTerms) (c : CodeParts) (ok : IsProgram p) (kept : IsCode c)
       let here : among s.locs r.loc ≡ true = ap (among s.locs) is_guard.loc ∙ each_get (λ (e : Told). among s.locs e.inst.loc ≡ true) (told_in s.groups) j d (laid_at s.groups j g held) kept_s.groups_here in
       let drawn_left = subst (Each (IsDrawn i s.made)) (sym taken.told) drawn in
       let runs = run_fits t (record n { atoms = without_all (ids ms) n.atoms }) i (with_queues s j g left) m r.loc r.body a part.tree sound here taken.kept drawn_left pours lays (runs_are_guarded c i guard.body (d.inst.env ++ args_of ms) r.loc s.made) in
-      (is_guard, runs, lays)
+      (is_guard, runs, lays, sound)
 
   pub reaction_is_one_event : (t : Tree) (i j : ℕ) (s : Site) (g : Group) (k : ℕ) (r : NumberedRule) (level : Level) (guard : Guard) (ms : List MessageParts) (left : List (List MessageParts)) (rules : Bag NumberedRule) (atoms : Bag NumberedAtom) (n : Numbered)
       → IsPart rules_by (counts_of p.seen) t i s rules atoms n → IsKept s → Each (IsOfCode p c) (told_in s.groups) → Each (IsDrawn i s.made) (told_in s.groups)

@@ -135,7 +135,7 @@ still_fresh t b i h (x ∷ xs) f g =
     let s : Spot = record { number = i; marked = false } in
     (lookup-birth b x s t.entries h ∙ ap (λ u. cond u (Some s) (spot t x)) g.0 ∙ f.0, still_fresh t b i h xs f.1 g.1)
 
-new_births : (t : Tree) (i : ℕ) (r : Loc) (bs : List Loc) → Each (IsFresh t) bs → ((q : Pair) → bag coded_pair (place_pairs (births_at r bs)) q ≤ 1) → AreNew t i bs
+pub new_births : (t : Tree) (i : ℕ) (r : Loc) (bs : List Loc) → Each (IsFresh t) bs → ((q : Pair) → bag coded_pair (place_pairs (births_at r bs)) q ≤ 1) → AreNew t i bs
 new_births t i r [] h once = tt
 new_births t i r (b ∷ bs) h once =
     let none : bag coded_pair (place_pairs (births_at r bs)) (b.site, b.k) ≡ 0 = omega (arith, once (b.site, b.k), one_self coded_pair (b.site, b.k)) in
