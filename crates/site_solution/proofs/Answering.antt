@@ -46,3 +46,6 @@ sent-answers t s new a r fs is h =
       outs = ap (λ (x : Run). x.outs) is;
       births = ap (λ (x : Run). x.births) is;
     }
+
+pub nothing-taken : (c : CodeParts) (t : Tree) (s new : Site) (a : Ran) (e : Effects) → Answers (run_here c t a (taken_at 0 [] s)) a.outs a.births new e → Answers (run_here c t a s) a.outs a.births new e
+nothing-taken c t s new a e h = subst (λ (x : Site). Answers (run_here c t a x) a.outs a.births new e) (taken-nothing 0 s) h

@@ -62,7 +62,7 @@ append-nil (x ∷ xs) = ap (λ ys. x ∷ ys) (append-nil xs)
 -- ---- what is posted
 
 -- it holds of each message, and of each request
-abbrev PostHolds : (MessageParts → Bool) → (Request → Bool) → Post → Type 0
+abbrev pub PostHolds : (MessageParts → Bool) → (Request → Bool) → Post → Type 0
 PostHolds P Q (post.Message w) = P w.msg ≡ true
 PostHolds P Q (post.Request q) = Q q ≡ true
 
@@ -257,8 +257,7 @@ run-holds c t s l env r gs ls new run here drawn fresh env_named named tops gone
     let all' = come-holds (message_in there') (λ (d : Told). names_in there' d.inst.env) (request_in there') r.next r.births ds (waits_in ls (all_posted r.posts)) (asked_in (all_posted r.posts)) (record s { groups = gs }) new come names'
     (groups-named N there' of_run c r.groups run.group_names) (waits-hold (message_in there') (request_in there') ls r.posts posts') (asks-hold (message_in there') (request_in there') r.posts posts') in
     let drawn_at : (i n : ℕ) (xs : List Loc) → s.number ≡ i → r.next ≡ n → s.locs ++ r.births ≡ xs → list_all (λ (x : Loc). is_drawn i n x.site x.k) xs ≡ true = λ i n xs e f g. subst (λ (ys : List Loc). list_all (λ (x : Loc). is_drawn i n x.site x.k) ys ≡ true) g (subst (λ (j : ℕ). list_all (λ (x : Loc). is_drawn j n x.site x.k) (s.locs ++ r.births) ≡ true) e (subst (λ (j : ℕ). list_all (λ (x : Loc). is_drawn s.number j x.site x.k) (s.locs ++ r.births) ≡ true) f locs)) in
-    let all_at : AllHold (message_drawn new.number new.made) (told_drawn new.number new.made) (λ (q : Request). is_drawn new.number new.made q.id.site q.id.k) new = subst (λ (j : ℕ). AllHold (message_drawn new.number j) (told_drawn new.number j) (λ (q : Request). is_drawn new.number j q.id.site q.id.k) new) (sym come.made) (subst (λ (j : ℕ). AllHold (message_drawn j r.next) (told_drawn j r.next) (λ (q : Request). is_drawn j r.next q.id.site q.id.k) new) (sym come.number) all) in
-    (
+    let all_at : AllHold (message_drawn new.number new.made) (told_drawn new.number new.made) (λ (q : Request). is_drawn new.number new.made q.id.site q.id.k) new = subst (λ (j : ℕ). AllHold (message_drawn new.number j) (told_drawn new.number j) (λ (q : Request). is_drawn new.number j q.id.site q.id.k) new) (sym come.made) (subst (λ (j : ℕ). AllHold (message_drawn j r.next) (told_drawn j r.next) (λ (q : Request). is_drawn j r.next q.id.site q.id.k) new) (sym come.number) all) in (
       all-drawn-of new (drawn_at new.number new.made new.locs (sym come.number) (sym come.made) (sym come.locs)) all_at,
       subst (λ (j : ℕ). IsFresh t' j new.made) (sym come.number) (subst (IsFresh t' s.number) (sym come.made) (fresh-later t s.number s.made r.next r.births fresh run.births)),
       subst (λ (xs : List Loc). all_in (in_reach t' xs) new ≡ true) (sym come.locs) (true_both _ _ all'.groups (true_both _ _ all'.stuck all'.requests)),
@@ -349,7 +348,7 @@ in_tree-named t s named =
 
 -- ---- one message
 
-abbrev no_code : CodeParts
+abbrev pub no_code : CodeParts
 no_code = record { guards = []; levels = []; blocks = []; bodies = []; seen = []; tops = []; sites = [] }
 
 pub emitted-keeps : (t : Tree) (s new : Site) (l : Loc) (on : Name) (args : List Name) (r : Run) → ((c : CodeParts) → IsRun c s.number l (on ∷ args) s.made r) → r.births ≡ [] → r.groups ≡ [] → among s.locs l ≡ true → IsKept s → ((i : AtomId) → times i s ≤ 1) → CanEmit t on args s → new ≡ (pour_here t r.next r.births [] (all_posted r.posts) (taken_at 0 [] s)).site → HasEmitted t new

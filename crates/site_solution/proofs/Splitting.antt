@@ -51,10 +51,10 @@ posted-split t (a_message l m ∷ ps) ls s here =
         → post_all t ps (put l m s) ≡ record { site = ask_all (asked_in ps) (put_all (waits_in ls ps) (put l m s)); sends = away_from t ls ps }
         → post_all t ps s ≡ record { site = ask_all (asked_in ps) (put_all (waits_in ls ps) s); sends = away_from t ls ps }
         → post_all t (a_message l m ∷ ps) s ≡ record { site = ask_all (asked_in ps) (put_all (cond b (record { loc = l; msg = m } ∷ waits_in ls ps) (waits_in ls ps)) s); sends = cond b (away_from t ls ps) (record { target = address t l; msg = m } ∷ away_from t ls ps) }
-    go true c put same =
+    go true c done same =
         let first : post t (a_message l m) s ≡ record { site = put l m s; sends = [] } = ap (λ b. cond b (record { site = put l m s; sends = [] }) (record { site = s; sends = record { target = address t l; msg = m } ∷ [] })) c in
-        ap (λ (o : Outcome). record { site = (post_all t ps o.site).site; sends = o.sends ++ (post_all t ps o.site).sends }) first ∙ put
-    go false c put same =
+        ap (λ (o : Outcome). record { site = (post_all t ps o.site).site; sends = o.sends ++ (post_all t ps o.site).sends }) first ∙ done
+    go false c done same =
         let first : post t (a_message l m) s ≡ record { site = s; sends = record { target = address t l; msg = m } ∷ [] } = ap (λ b. cond b (record { site = put l m s; sends = [] }) (record { site = s; sends = record { target = address t l; msg = m } ∷ [] })) c in
         ap (λ (o : Outcome). record { site = (post_all t ps o.site).site; sends = o.sends ++ (post_all t ps o.site).sends }) first
         ∙ ap (λ (o : Outcome). record { site = o.site; sends = record { target = address t l; msg = m } ∷ o.sends }) same

@@ -36,11 +36,7 @@ struct Sorted {
 fn address(tree: &LocTree, loc: &Loc) -> u32
     ensures { result ≡ address tree.now loc.now }
 {
-    if tree.holds(loc) {
-        tree.root(loc)
-    } else {
-        0
-    }
+    if tree.holds(loc) { tree.root(loc) } else { 0 }
 }
 
 // A message under way to the site that hosts this location.

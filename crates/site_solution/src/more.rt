@@ -101,11 +101,7 @@ pub(crate) fn channels(groups: &[NewGroup]) -> Option<usize>
 }
 
 // Adds groups to come, and their queues to the index. It takes no memory.
-pub(crate) fn add_groups(
-    groups: &mut Groups<Told, Msg>,
-    spots: &mut Spots,
-    more: Vec<NewGroup>,
-)
+pub(crate) fn add_groups(groups: &mut Groups<Told, Msg>, spots: &mut Spots, more: Vec<NewGroup>)
     requires index { IsIndex spots.old (groups_of groups.old.groups) }
     requires new { Each IsNewGroup more.items }
     requires numbers { Each HasNumbers (told_of_new more.items) }

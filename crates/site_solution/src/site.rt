@@ -266,7 +266,13 @@ impl Site {
         }
         self.locs.reserve(locs.len())?;
         self.requests.reserve(more.requests.len())?;
-        let again = make_room(alloc, &mut self.groups, &mut self.spots, &mut self.stuck, &more)?;
+        let again = make_room(
+            alloc,
+            &mut self.groups,
+            &mut self.spots,
+            &mut self.stuck,
+            &more,
+        )?;
         let More {
             next,
             groups,
