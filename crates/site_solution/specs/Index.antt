@@ -14,6 +14,7 @@ use Rattle.queue_cells.specs.Grouped.{Queued}
 use Rattle.net_laws.specs.Site.{Told, Group, Site, told_in}
 use Rattle.net_laws.specs.Changes.{AreQueues}
 use Rattle.net_laws.specs.Kept.{AreApart}
+use Rattle.net_laws.specs.Holding.{new_group}
 use Rattle.site_solution.specs.declared.told.Spot.{Spot}
 use Rattle.site_solution.specs.declared.told.Mark.{Mark}
 use Rattle.site_solution.specs.declared.told.Spots.{Spots}
@@ -29,6 +30,11 @@ groups_of (q ∷ qs) = record { told = q.told; queues = q.lists } ∷ groups_of 
 
 abbrev pub told_of : Rows → List Told
 told_of qs = told_in (groups_of qs)
+
+-- groups with empty queues
+abbrev pub new_groups : List Told → List Group
+new_groups [] = []
+new_groups (d ∷ ds) = new_group d ∷ new_groups ds
 
 -- a site with other groups and other stuck messages
 abbrev pub holding : Site → Rows → List Waiting → Site

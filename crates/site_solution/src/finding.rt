@@ -139,6 +139,10 @@ pub(crate) fn settle(
     ensures site { (s : Site) → put_all waiting.items (holding s groups.old.groups stuck.old.items)
         ≡ holding s groups.new.groups stuck.new.items }
     ensures index { IsIndex spots.now (groups_of groups.new.groups) }
+    ensures many { length groups.new.groups ≡ length groups.old.groups }
+    ensures spare { groups.old.spare ≤ groups.new.spare + length waiting.items }
+    ensures capacity { vec_capacity stuck.new ≡ vec_capacity stuck.old }
+    ensures stuck { length stuck.new.items ≤ length stuck.old.items + length waiting.items }
 {
     for one in waiting {
         if let Some(spot) = find(groups, spots, &one.msg) {

@@ -1,5 +1,6 @@
 // What is told of a group, and where a queue is.
-use chem_model::Nums;
+use chem_model::{AtomId, Loc, Nums};
+use queue_cells::Idle;
 use std::collections::HashMap;
 use std::marker::Model;
 use wire_packet::GroupInst;
@@ -22,6 +23,16 @@ impl Model for Told {
     ghost coded = { told_code };
 
     ghost view = { λ d. record { inst = d.inst; counts = d.counts; guards = d.guards } };
+}
+
+// A group to come, with the memory that it takes; its first channel, its location and how many
+// channels it has.
+#[derive(Drop)]
+pub(crate) struct NewGroup {
+    pub(crate) idle: Idle<Told>,
+    pub(crate) first: AtomId,
+    pub(crate) home: Loc,
+    pub(crate) width: u32,
 }
 
 // A queue: the index of its group, and its channel in that group.
