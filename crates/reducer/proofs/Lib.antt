@@ -5,3 +5,7 @@ pub mod Best
 pub mod Counting
 pub mod Events
 pub mod Quiet
+pub mod Fitting
+pub mod Reactions
+pub mod Openings
+pub mod OpeningFit

@@ -4,3 +4,5 @@ pub mod Ready
 pub mod Searching
 pub mod Sending
 pub mod Reacting
+pub mod Reacted
+pub mod Opens

@@ -5,11 +5,15 @@ mod choosing;
 mod counts;
 mod laws;
 mod naming;
+mod opened;
 mod parts;
 mod pick;
+mod reacting;
 
 pub use choosing::ready;
 pub use counts::{births, sends};
 pub use laws::reaction_is_one_event;
 pub use naming::event_of;
+pub use opened::opening;
 pub use pick::Pick;
+pub use reacting::react;

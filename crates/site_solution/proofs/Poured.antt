@@ -66,7 +66,7 @@ abbrev pub PostHolds : (MessageParts → Bool) → (Request → Bool) → Post �
 PostHolds P Q (post.Message w) = P w.msg ≡ true
 PostHolds P Q (post.Request q) = Q q ≡ true
 
-waits-hold : (P : MessageParts → Bool) (Q : Request → Bool) (ls : List Loc) (ps : List Post) → Each (PostHolds P Q) ps → list_all (λ (w : Waiting). P w.msg) (waits_in ls (all_posted ps)) ≡ true
+pub waits-hold : (P : MessageParts → Bool) (Q : Request → Bool) (ls : List Loc) (ps : List Post) → Each (PostHolds P Q) ps → list_all (λ (w : Waiting). P w.msg) (waits_in ls (all_posted ps)) ≡ true
 waits-hold P Q ls [] h = refl
 waits-hold P Q ls (post.Message w ∷ ps) h = go (among ls w.loc) (waits-hold P Q ls ps h.1)
   where
@@ -75,7 +75,7 @@ waits-hold P Q ls (post.Message w ∷ ps) h = go (among ls w.loc) (waits-hold P 
     go false rest = rest
 waits-hold P Q ls (post.Request q ∷ ps) h = waits-hold P Q ls ps h.1
 
-asks-hold : (P : MessageParts → Bool) (Q : Request → Bool) (ps : List Post) → Each (PostHolds P Q) ps → list_all Q (asked_in (all_posted ps)) ≡ true
+pub asks-hold : (P : MessageParts → Bool) (Q : Request → Bool) (ps : List Post) → Each (PostHolds P Q) ps → list_all Q (asked_in (all_posted ps)) ≡ true
 asks-hold P Q [] h = refl
 asks-hold P Q (post.Message w ∷ ps) h = asks-hold P Q ps h.1
 asks-hold P Q (post.Request q ∷ ps) h = true_both (Q q) (list_all Q (asked_in (all_posted ps))) h.0 (asks-hold P Q ps h.1)
@@ -92,7 +92,7 @@ told-again c s k n g laid =
     let here : (o : Option Level) → o ≡ Some v → is_level_of o (record { inst = g; counts = counts_at o; guards = guards_at o }) ≡ true = λ o is. subst (λ (u : Option Level). is_level_of u (record { inst = g; counts = counts_at u; guards = guards_at u }) ≡ true) (sym is) (true_both (same_counts v.counts v.counts) _ (true_both (length v.counts == length v.counts) _ (eq-eqb (length v.counts) (length v.counts) refl) (pairs-same v.counts)) (true_both (v.guards == v.guards) (v.depth == length g.env) (eq-eqb v.guards v.guards refl) (eq-eqb v.depth (length g.env) (sym laid.depth)))) in
     here (slice_get c.levels g.level) laid.level_is
 
-all-told_again : (c : CodeParts) (s k n : ℕ) (gs : List GroupInst) → Each (IsLaid c s k n) gs → list_all (is_told_by c) (all_told (told_by c) gs) ≡ true
+pub all-told_again : (c : CodeParts) (s k n : ℕ) (gs : List GroupInst) → Each (IsLaid c s k n) gs → list_all (is_told_by c) (all_told (told_by c) gs) ≡ true
 all-told_again c s k n [] laid = refl
 all-told_again c s k n (g ∷ gs) laid = true_both (is_told_by c (told_by c g)) _ (told-again c s k n g laid.0) (all-told_again c s k n gs laid.1)
 
@@ -109,7 +109,7 @@ told-drawn_later i k n d later drawn =
     let both = and_parts (are_drawn i k d.inst.chans.site d.inst.chans.k (length d.counts)) (are_drawn i k d.inst.rules.site d.inst.rules.k d.guards) drawn in
     true_both (are_drawn i n d.inst.chans.site d.inst.chans.k (length d.counts)) (are_drawn i n d.inst.rules.site d.inst.rules.k d.guards) (range-later i k n d.inst.chans.site d.inst.chans.k (length d.counts) later both.0) (range-later i k n d.inst.rules.site d.inst.rules.k d.guards later both.1)
 
-laid-drawn : (c : CodeParts) (s k n : ℕ) (gs : List GroupInst) → Each (IsLaid c s k n) gs → list_all (told_drawn s n) (all_told (told_by c) gs) ≡ true
+pub laid-drawn : (c : CodeParts) (s k n : ℕ) (gs : List GroupInst) → Each (IsLaid c s k n) gs → list_all (told_drawn s n) (all_told (told_by c) gs) ≡ true
 laid-drawn c s k n [] laid = refl
 laid-drawn c s k n (g ∷ gs) laid =
     let h = laid.0 in
@@ -122,7 +122,7 @@ numbers-end s k n [] h = h
 numbers-end s k n (post.Message w ∷ ps) h = omega (arith, h.0.1, numbers-end s (w.msg.id.k + 1) n ps h.1)
 numbers-end s k n (post.Request q ∷ ps) h = omega (arith, h.0.1, numbers-end s (q.id.k + 1) n ps h.1)
 
-posts-drawn : (s k n : ℕ) (ps : List Post) → AreNumbered s k n ps → Each (PostHolds (message_drawn s n) (λ (q : Request). is_drawn s n q.id.site q.id.k)) ps
+pub posts-drawn : (s k n : ℕ) (ps : List Post) → AreNumbered s k n ps → Each (PostHolds (message_drawn s n) (λ (q : Request). is_drawn s n q.id.site q.id.k)) ps
 posts-drawn s k n [] h = tt
 posts-drawn s k n (post.Message w ∷ ps) h = (drawn-new s n w.msg.id.site w.msg.id.k (omega (arith, numbers-end s (w.msg.id.k + 1) n ps h.1)), posts-drawn s (w.msg.id.k + 1) n ps h.1)
 posts-drawn s k n (post.Request q ∷ ps) h = (drawn-new s n q.id.site q.id.k (omega (arith, numbers-end s (q.id.k + 1) n ps h.1)), posts-drawn s (q.id.k + 1) n ps h.1)
@@ -131,12 +131,12 @@ born-end : (s k n : ℕ) (bs : List Loc) → AreBorn s k n bs → k ≤ n
 born-end s k n [] h = h
 born-end s k n (b ∷ bs) h = omega (arith, h.0.1, born-end s (b.k + 1) n bs h.1)
 
-born-drawn : (s k n : ℕ) (bs : List Loc) → AreBorn s k n bs → list_all (λ (l : Loc). is_drawn s n l.site l.k) bs ≡ true
+pub born-drawn : (s k n : ℕ) (bs : List Loc) → AreBorn s k n bs → list_all (λ (l : Loc). is_drawn s n l.site l.k) bs ≡ true
 born-drawn s k n [] h = refl
 born-drawn s k n (b ∷ bs) h = true_both (is_drawn s n b.site b.k) _ (drawn-new s n b.site b.k (omega (arith, born-end s (b.k + 1) n bs h.1))) (born-drawn s (b.k + 1) n bs h.1)
 
 -- the parts of what was drawn, put together
-all-drawn-of : (s : Site) → list_all (λ (l : Loc). is_drawn s.number s.made l.site l.k) s.locs ≡ true → AllHold (message_drawn s.number s.made) (told_drawn s.number s.made) (λ (q : Request). is_drawn s.number s.made q.id.site q.id.k) s → all_drawn s ≡ true
+pub all-drawn-of : (s : Site) → list_all (λ (l : Loc). is_drawn s.number s.made l.site l.k) s.locs ≡ true → AllHold (message_drawn s.number s.made) (told_drawn s.number s.made) (λ (q : Request). is_drawn s.number s.made q.id.site q.id.k) s → all_drawn s ≡ true
 all-drawn-of s locs h = true_both _ _ locs (true_both _ _ h.groups (true_both _ _ h.stuck h.requests))
 
 -- ---- the tree with the births
@@ -204,7 +204,7 @@ module _ (N : Name → Type 0) (there : Loc → Bool) (is : (x : Name) → N x �
   each-named [] h = refl
   each-named (x ∷ xs) h = true_both (name_in there x) (names_in there xs) (is x h.0) (each-named xs h.1)
 
-  posts-named : (ps : List Post) → Each (PostNames N) ps → Each (PostHolds (message_in there) (request_in there)) ps
+  pub posts-named : (ps : List Post) → Each (PostNames N) ps → Each (PostHolds (message_in there) (request_in there)) ps
   posts-named [] h = tt
   posts-named (post.Message w ∷ ps) h = (true_both (name_in there w.msg.on) (names_in there w.msg.args) (is w.msg.on h.0.0) (each-named w.msg.args h.0.1), posts-named ps h.1)
   posts-named (post.Request q ∷ ps) h = (ask-named q.ask h.0, posts-named ps h.1)
@@ -214,12 +214,12 @@ module _ (N : Name → Type 0) (there : Loc → Bool) (is : (x : Name) → N x �
       ask-named (request.Fail b k) e = true_both (name_in there b) (name_in there k) (is b e.0) (is k e.1)
       ask-named request.Halt e = refl
 
-  groups-named : (c : CodeParts) (gs : List GroupInst) → Each (GroupNames N) gs → list_all (λ (d : Told). names_in there d.inst.env) (all_told (told_by c) gs) ≡ true
+  pub groups-named : (c : CodeParts) (gs : List GroupInst) → Each (GroupNames N) gs → list_all (λ (d : Told). names_in there d.inst.env) (all_told (told_by c) gs) ≡ true
   groups-named c [] h = refl
   groups-named c (g ∷ gs) h = true_both (names_in there g.env) _ (each-named g.env h.0) (groups-named c gs h.1)
 
 -- a name of a run
-named-in_run : (c : CodeParts) (t : Tree) (l : Loc) (births : List Loc) (env : List Name) (there later : Loc → Bool) → names_in there env ≡ true → list_all (in_tree t) c.tops ≡ true → ((a : Loc) → there a ≡ true → later a ≡ true) → ((a : Loc) → IsHere l births a → later a ≡ true) → ((a : Loc) → in_tree t a ≡ true → later a ≡ true) → (x : Name) → IsOfRun c env (IsHere l births) x → name_in later x ≡ true
+pub named-in_run : (c : CodeParts) (t : Tree) (l : Loc) (births : List Loc) (env : List Name) (there later : Loc → Bool) → names_in there env ≡ true → list_all (in_tree t) c.tops ≡ true → ((a : Loc) → there a ≡ true → later a ≡ true) → ((a : Loc) → IsHere l births a → later a ≡ true) → ((a : Loc) → in_tree t a ≡ true → later a ≡ true) → (x : Name) → IsOfRun c env (IsHere l births) x → name_in later x ≡ true
 named-in_run c t l births env there later env_named tops weaker own top x (inl e) = name-weaker there later weaker x (holds-at (name_in there) env x env_named e)
 named-in_run c t l births env there later env_named tops weaker own top (name.Seen i) (inr (inl e)) = refl
 named-in_run c t l births env there later env_named tops weaker own top (name.Place a) (inr (inl e)) = top a (holds-at (in_tree t) c.tops a tops e)

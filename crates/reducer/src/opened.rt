@@ -1,0 +1,55 @@
+// The opening of a site.
+ghost use Rattle.std.specs.Prelude.{◌≡◌, ◌<◌, length, slice_get, Some, IfOk};
+ghost use Rattle.env_store.specs.declared.code.SiteCode.{SiteCode as site_code};
+ghost use Rattle.net_laws.specs.Net.{with_births};
+ghost use Rattle.net_laws.specs.Opened.{not_in};
+ghost use Rattle.reducer.specs.Opens.{IsOfProgram, HasTops, Opens, IsOpenedFit};
+
+use crate::parts::code_is_kept;
+use chem_model::{Items, Loc, Memory};
+use code_run::open;
+use env_store::{Code, Locs};
+use loc_tree::LocTree;
+use site_solution::{Effects, Site};
+use std::alloc::Global;
+
+// The locations that the tree doesn't have.
+fn not_in(alloc: Global, tree: &LocTree, locs: &[Loc]) -> Result<Locs, Memory>
+    ensures { IfOk result (λ new. new ≡ not_in tree.now locs.now) }
+{
+    let mut new = Items::new(alloc);
+    for loc in locs {
+        if !tree.holds(loc) {
+            new.push(*loc)?;
+        }
+    }
+    Ok(new)
+}
+
+/// The site with this number after its opening, and the effects of that. The births are the
+/// locations that the tree doesn't have; where it has the site-level ones, these are the others.
+pub fn opening(
+    alloc: Global,
+    code: &Code,
+    tree: &LocTree,
+    number: u32,
+) -> Result<(Site, Effects), Memory>
+    requires { number < length code.now.sites }
+    ensures ok { IfOk result (λ opened. (site : site_code)
+        → slice_get code.now.sites number ≡ Some site
+        → Opens code.now tree.now number site opened.0 opened.1) }
+    ensures fit { IfOk result (λ opened. IsOfProgram code.now → HasTops code.now tree.now number
+        → IsOpenedFit code.now (with_births tree.now number opened.1.births) opened.0) }
+{
+    code_is_kept(code);
+    let mut site = Site::empty(alloc, number)?;
+    let run = open(alloc, code, number)?;
+    let made = site.commit(alloc, code, tree, run, 0, &[])?;
+    let births = not_in(alloc, tree, made.births.as_slice())?;
+    let effects = Effects {
+        sends: made.sends,
+        outs: made.outs,
+        births,
+    };
+    Ok((site, effects))
+}
