@@ -66,7 +66,7 @@ asked-at ls [] h = tt
 asked-at ls (a_message l m ∷ ps) h = asked-at ls ps h.1
 asked-at ls (a_request q ∷ ps) h = (h.0, asked-at ls ps h.1)
 
-fewer-times : (i : AtomId) (ls : List Loc) (ps : List Posted) → over_stuck (id_of i) (waits_in ls ps) + over_requests i (asked_in ps) ≤ times_posted i ps
+pub fewer-times : (i : AtomId) (ls : List Loc) (ps : List Posted) → over_stuck (id_of i) (waits_in ls ps) + over_requests i (asked_in ps) ≤ times_posted i ps
 fewer-times i ls [] = omega arith
 fewer-times i ls (a_message l m ∷ ps) = go (among ls l) (fewer-times i ls ps)
   where

@@ -18,7 +18,7 @@ put-locs l m s = go (in_groups s.groups m)
     go None = refl
     go (Some gs) = refl
 
-put_all-locs : (ws : List Waiting) (s : Site) → (put_all ws s).locs ≡ s.locs
+pub put_all-locs : (ws : List Waiting) (s : Site) → (put_all ws s).locs ≡ s.locs
 put_all-locs [] s = refl
 put_all-locs (w ∷ ws) s = put_all-locs ws (put w.loc w.msg s) ∙ put-locs w.loc w.msg s
 
