@@ -1,0 +1,11 @@
+//! Locations that fail: a request to halt marks its location, and a request to detect a failure
+//! goes on where its target is dead.
+#![tactic(auto)]
+
+mod deaths;
+mod halting;
+#[cfg(test)]
+mod tests;
+
+pub use deaths::dead_for;
+pub use halting::{halt, halt_ready};
