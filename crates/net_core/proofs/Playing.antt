@@ -1,33 +1,28 @@
--- One choice more.
-use Rattle.std.proofs.Common.{◌≡◌, List, [], ◌∷◌, ◌++◌, Option, Some, None, refl, ap, ◌∙◌}
+-- For every list of choices the events replay.
+use Rattle.std.proofs.Common.{Option, Some, None, refl, ap, ◌∙◌}
 use Rattle.chem_model.specs.declared.event.Event.{Event}
-use Rattle.chem_model.specs.declared.numbered.Numbered.{Numbered}
-use Rattle.chem_model.specs.Apply.{apply_if, replay_from}
+use Rattle.chem_model.specs.Apply.{replay_from}
 use Rattle.env_store.specs.CodeParts.{CodeParts}
+use Rattle.env_store.specs.CodeFacts.{IsCode}
 use Rattle.net_laws.specs.Net.{Net}
 use Rattle.net_core.specs.Laws.{IsLedFrom}
-use Rattle.net_core.specs.Playing.{IsPlayedFrom}
+use Rattle.net_core.specs.Playing.{Does, react, deliver, halt, detect, move, stops, makes, carries, ListsReplay}
+use Rattle.net_core.proofs.Leading.{acts_lead}
 
-replay_append : (o : Option Numbered) (es : List Event) (e : Event) → replay_from o (es ++ e ∷ []) ≡ apply_if (replay_from o es) e
-replay_append o [] e = refl
-replay_append o (x ∷ es) e = replay_append (apply_if o x) es e
+-- each choice is one event or none
+one_leads : (c : CodeParts) (net new : Net) (o : Option Event) → IsCode c → Does c net o new → IsLedFrom net o new c
+one_leads c net new o kept (react i j k e _ does) = (acts_lead c net new kept).0 i j k e does
+one_leads c net new o kept (deliver f _ does) = (acts_lead c net new kept).1 f does
+one_leads c net new o kept (halt a _ does) = (acts_lead c net new kept).2 a does
+one_leads c net new o kept (detect a _ does) = (acts_lead c net new kept).3 a does
+one_leads c net new o kept (move a _ does) = (acts_lead c net new kept).4 a does
 
-pub nothing_played : (c : CodeParts) (net : Net) → IsPlayedFrom net [] net c
-nothing_played c net p n ok is stands runs = record { after = n; replays = refl; stands = stands; runs = runs }
-
-pub event_played : (c : CodeParts) (net mid new : Net) (es : List Event) (e : Event) → IsPlayedFrom net es mid c → IsLedFrom mid (Some e) new c → IsPlayedFrom net (es ++ e ∷ []) new c
-event_played c net mid new es e played led p n ok is stands runs =
-    let before = played p n ok is stands runs in
-    let step = led p before.after ok is before.stands before.runs in
-    record {
-      after = step.leads.after;
-      replays = replay_append (Some n) es e ∙ ap (λ o. apply_if o e) before.replays ∙ step.leads.applies;
-      stands = step.leads.stands;
-      runs = step.runs;
-    }
-
-pub delivery_played : (c : CodeParts) (net mid new : Net) (es : List Event) → IsPlayedFrom net es mid c → IsLedFrom mid None new c → IsPlayedFrom net es new c
-delivery_played c net mid new es played led p n ok is stands runs =
-    let before = played p n ok is stands runs in
-    let step = led p before.after ok is before.stands before.runs in
-    record { after = before.after; replays = before.replays; stands = step.leads; runs = step.runs }
+pub lists_replay : ListsReplay
+lists_replay c net end es kept (stops _) p n ok is stands runs = record { after = n; replays = refl; stands = stands; runs = runs }
+lists_replay c net end es kept (makes _ mid _ e rest does more) p n ok is stands runs =
+    let step = one_leads c net mid (Some e) kept does p n ok is stands runs in
+    let later = lists_replay c mid end rest kept more p step.leads.after ok is step.leads.stands step.runs in
+    record { after = later.after; replays = ap (λ o. replay_from o rest) step.leads.applies ∙ later.replays; stands = later.stands; runs = later.runs }
+lists_replay c net end es kept (carries _ mid _ _ does more) p n ok is stands runs =
+    let step = one_leads c net mid None kept does p n ok is stands runs in
+    lists_replay c mid end es kept more p n ok is step.leads step.runs
