@@ -51,7 +51,9 @@ IsAt ls w = (among ls w.loc ≡ true) × (home_or w.loc w.msg.on ≡ w.loc)
 pub record CanAdd (ls : List Loc) (m : More) (s : Site) : Type 0 where
   pub locs : AreNew s.locs ls
   pub groups : Each IsNewGroup m.groups.items
-  pub laid_here : Each (λ (d : Told). among (s.locs ++ ls) d.inst.loc ≡ true) (told_of_new m.groups.items)
+  pub laid_here :
+      Each (λ (d : Told). among (s.locs ++ ls) d.inst.loc ≡ true)
+      (told_of_new m.groups.items)
   pub apart : AreApart (told_in s.groups ++ told_of_new m.groups.items)
   pub numbers : Each HasNumbers (told_of_new m.groups.items)
   pub waiting : Each (IsAt (s.locs ++ ls)) m.waiting.items

@@ -78,7 +78,8 @@ pub(crate) fn new_groups(
     code: &Code,
     insts: &[GroupInst],
 ) -> Result<Vec<NewGroup>, Memory>
-    ensures told { IfOk result (λ rs. told_of_new rs.items ≡ all_told (told_by code.now) insts.now) }
+    ensures told { IfOk result (λ rs. told_of_new rs.items
+        ≡ all_told (told_by code.now) insts.now) }
     ensures are { IfOk result (λ rs. Each IsNewGroup rs.items) }
 {
     let mut groups = Vec::with_capacity(alloc, insts.len())?;
@@ -163,7 +164,8 @@ pub(crate) fn restack(
     lays: bool,
     more: usize,
 ) -> Result<Vec<Waiting>, Memory>
-    ensures ok { IfOk result (λ again. IsRestacked lays stuck.old.items again.items stuck.new.items) }
+    ensures ok { IfOk result (λ again. IsRestacked lays stuck.old.items again.items
+        stuck.new.items) }
     ensures room { IfOk result (λ again.
         length again.items + length stuck.new.items + more ≤ vec_capacity stuck.new) }
     ensures err { OnErr result (stuck.new.items ≡ stuck.old.items) }

@@ -264,7 +264,8 @@ impl Site {
         chans: &[u32],
     ) -> Result<(), Memory>
         requires { CanAdd locs.now more self.old }
-        ensures ok { OnOk result (self.new ≡ added locs.now more (taken_at group chans.now self.old)) }
+        ensures ok { OnOk result (self.new
+            ≡ added locs.now more (taken_at group chans.now self.old)) }
         ensures err { OnErr result (self.new ≡ self.old) }
     {
         let held = self.waiting();
