@@ -25,7 +25,8 @@ IsOfProgram c = (p : ProgramTerms) × IsProgram p × IsCodeOf p c
 pub record HasTops (c : CodeParts) (t : Tree) (i : ℕ) : Type 0 where
   pub there :
       (l : Loc) → Contains c.tops l → spot t l ≡ Some (record { number = l.site; marked = false })
-  pub no_others : (l : Loc) → l.site ≡ i → is_some (spot t l) ≡ true → Contains c.tops l
+  pub no_others :
+      (l : Loc) → l.site ≡ i → is_some (spot t l) ≡ true → Contains c.tops l
 
 -- all that the site holds and names is in the tree, its groups are of the code's levels, all that it
 -- made and holds has a number below its count, and that is below 2^63
