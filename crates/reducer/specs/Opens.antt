@@ -28,8 +28,8 @@ pub record HasTops (c : CodeParts) (t : Tree) (i : ℕ) : Type 0 where
   pub no_others :
       (l : Loc) → l.site ≡ i → is_some (spot t l) ≡ true → Contains c.tops l
 
--- all that the site holds and names is in the tree, its groups are of the code's levels, all that it
--- made and holds has a number below its count, and that is below 2^63
+-- all that the site holds and names is in the tree, its groups are of the code's levels, all that
+-- it made and holds has a number below its count, and that is below 2^63
 pub record IsOpenedFit (c : CodeParts) (t : Tree) (s : Site) : Type 0 where
   pub there : is_in_tree t s ≡ true
   pub coded : is_in_code c t s ≡ true

@@ -19,7 +19,8 @@ pub record IsCarried (c : CodeParts) (p : ParcelParts) (next : ℕ) (m : More) :
   pub requests_are : m.requests.items ≡ p.requests
 
 -- the same with these messages and requests more
-pub record IsBeside (before : More) (ws : List Waiting) (qs : List Request) (m : More) : Type 0 where
+pub record IsBeside (before : More) (ws : List Waiting) (qs : List Request) (m : More)
+    : Type 0 where
   pub next_same : m.next ≡ before.next
   pub groups_are : m.groups.items ≡ before.groups.items
   pub waiting_are : m.waiting.items ≡ before.waiting.items ++ ws
