@@ -45,13 +45,17 @@ module _ (rules_of : GroupInst → List NumberedRule) (net : Net) (n : Numbered)
       go None c e = cc
       go (Some p) c e = number_below l p.number (ap number_in c)
 
-  pub home_address : (f : ℕ) (p : Addressed) (site k : ℕ) (home : Loc) → slice_get net.packets f ≡ Some p → p.msg.on ≡ name.Chan site k home → address net.tree home < length net.sites
-  home_address f p site k home flies on =
+  -- a message under way stands where there is a location
+  pub packet_there : (f : ℕ) (p : Addressed) → slice_get net.packets f ≡ Some p → is_there (standing n.places (home_or (root_of p.target) p.msg.on)) ≡ true
+  packet_there f p flies =
       let a = message_atom (home_or (root_of p.target) p.msg.on) p.msg in
-      let loc : a.loc ≡ home = ap (home_or (root_of p.target)) on in
       let here : 0 < bag coded_atom n.atoms a = go a (stands.agrees.atoms a) (packet_taken net.packets f p a flies) (one_self coded_atom a) in
-      let atom = atom_found (IsAtom n) n.atoms a.id a (atom_in n.atoms a (atoms_differ n stands.sound) here) stands.sound.atoms in
-      address_below home (ap (λ l. is_there (standing n.places l)) (sym loc) ∙ atom.0)
+      (atom_found (IsAtom n) n.atoms a.id a (atom_in n.atoms a (atoms_differ n stands.sound) here) stands.sound.atoms).0
     where
       go : (a : NumberedAtom) → bag coded_atom n.atoms a ≡ all_atoms net.sites a + under_way net.packets a → under_way net.packets a ≡ one coded_atom a a + under_way (without_packet f net.packets) a → one coded_atom a a ≡ 1 → 0 < bag coded_atom n.atoms a
       go a u v w = omega arith
+
+  pub home_address : (f : ℕ) (p : Addressed) (site k : ℕ) (home : Loc) → slice_get net.packets f ≡ Some p → p.msg.on ≡ name.Chan site k home → address net.tree home < length net.sites
+  home_address f p site k home flies on =
+      let loc : home_or (root_of p.target) p.msg.on ≡ home = ap (home_or (root_of p.target)) on in
+      address_below home (ap (λ l. is_there (standing n.places l)) (sym loc) ∙ packet_there f p flies)

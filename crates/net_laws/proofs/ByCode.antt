@@ -132,7 +132,7 @@ module _ (p : ProgramTerms) (c : CodeParts) (ok : IsProgram p) (kept : IsCode c)
       let guards_are : rule.guard ≡ guard = cc in
       subst (λ (q : Guard). IsGuard rules_by (told_by c g) r q.chans) guards_are (guard_at g group i r e)
 
-  has_guards : (g : GroupInst) → IsGroupIn p g → HasGuards rules_by (told_by c g)
+  pub has_guards : (g : GroupInst) → IsGroupIn p g → HasGuards rules_by (told_by c g)
   has_guards g group r h =
       let f = found (rules_by g) r h in
       (((reacts_at g group).rules f.0 r f.1).guard.chans, guard_at g group f.0 r f.1)
@@ -145,19 +145,19 @@ module _ (p : ProgramTerms) (c : CodeParts) (ok : IsProgram p) (kept : IsCode c)
 
   -- ---- a run gives what is poured
 
-  hosted_is : (r : Loc) (ls : List Loc) → hosted r ls ≡ births_at r ls
+  pub hosted_is : (r : Loc) (ls : List Loc) → hosted r ls ≡ births_at r ls
   hosted_is r [] = refl
   hosted_is r (l ∷ ls) = ap (λ (bs : List Placed). record { loc = l; host = Some r; marked = false } ∷ bs) (hosted_is r ls)
 
-  groups_are : (gs : List GroupInst) → groups_rules (levels_of_program p) (site_names p.sites) gs ≡ rules_in rules_by (all_told (told_by c) gs)
+  pub groups_are : (gs : List GroupInst) → groups_rules (levels_of_program p) (site_names p.sites) gs ≡ rules_in rules_by (all_told (told_by c) gs)
   groups_are [] = refl
   groups_are (g ∷ gs) = ap (λ rs. rules_by g ++ rs) (groups_are gs)
 
-  each_told : (P : GroupInst → Type 0) (Q : Told → Type 0) → ((g : GroupInst) → P g → Q (told_by c g)) → (gs : List GroupInst) → Each P gs → Each Q (all_told (told_by c) gs)
+  pub each_told : (P : GroupInst → Type 0) (Q : Told → Type 0) → ((g : GroupInst) → P g → Q (told_by c g)) → (gs : List GroupInst) → Each P gs → Each Q (all_told (told_by c) gs)
   each_told P Q f [] h = tt
   each_told P Q f (g ∷ gs) h = (f g h.0, each_told P Q f gs h.1)
 
-  each_both : (gs : List GroupInst) → Each (IsGroupIn p) gs → Each (IsGuarded c) gs → Each (HasRule rules_by) (all_told (told_by c) gs)
+  pub each_both : (gs : List GroupInst) → Each (IsGroupIn p) gs → Each (IsGuarded c) gs → Each (HasRule rules_by) (all_told (told_by c) gs)
   each_both [] h g = tt
   each_both (x ∷ gs) h g = (has_rule x h.0 g.0, each_both gs h.1 g.1)
 
@@ -174,7 +174,7 @@ module _ (p : ProgramTerms) (c : CodeParts) (ok : IsProgram p) (kept : IsCode c)
   -- ---- no two groups have a channel in common
 
   -- a group of the program has as many counts as its level has channels
-  counted : (g : GroupInst) → IsGroupIn p g → length (counts_at (slice_get c.levels g.level)) ≡ channel_count (slice_get (levels_of_program p) g.level)
+  pub counted : (g : GroupInst) → IsGroupIn p g → length (counts_at (slice_get c.levels g.level)) ≡ channel_count (slice_get (levels_of_program p) g.level)
   counted g group =
       let t = group.0 in
       let reads = is.levels g.level t group.1 in
@@ -191,7 +191,7 @@ module _ (p : ProgramTerms) (c : CodeParts) (ok : IsProgram p) (kept : IsCode c)
   all_disjoint g x [] y h = tt
   all_disjoint g x (q ∷ hs) y h = (disjoint g q x y.0 h.0, all_disjoint g x hs y.1 h.1)
 
-  new_apart : (gs : List GroupInst) → Each (IsGroupIn p) gs → AllApart (levels_of_program p) gs → AreApart (all_told (told_by c) gs)
+  pub new_apart : (gs : List GroupInst) → Each (IsGroupIn p) gs → AllApart (levels_of_program p) gs → AreApart (all_told (told_by c) gs)
   new_apart [] x h = tt
   new_apart (g ∷ gs) x h = (all_disjoint g x.0 gs x.1 h.0, new_apart gs x.1 h.1)
 
@@ -200,7 +200,7 @@ module _ (p : ProgramTerms) (c : CodeParts) (ok : IsProgram p) (kept : IsCode c)
   old_new i k n d g drawn numbered b m below_b below_m same =
       let sites : d.inst.chans.site ≡ g.chans.site = cc in
       let numbers : d.inst.chans.k + b ≡ g.chans.k + m = cc in
-      let low = drawn (sites ∙ numbered.chans.same_site) in
+      let low = drawn (sites ∙ numbered.chans.same_site) (omega arith) in
       let from = numbered.chans.from in
       absurd (omega arith)
 
@@ -224,14 +224,16 @@ module _ (p : ProgramTerms) (c : CodeParts) (ok : IsProgram p) (kept : IsCode c)
       subst (λ (xs : List NumberedAtom). Runs rules_by t.roots t i s made a.next a.births (all_told (told_by c) a.groups) (posted_of xs) a.outs) (sym (ap (λ u. u.atoms) pours))
       (runs_of rules_by (counts_of p.seen) t n n.atoms i s m l s.made q a.next a.births (all_told (told_by c) a.groups) a.outs tree sound here (given_by i made a s.made pours lays guarded) apart)
 
-  -- the guard of a rule, and the run of its body as what is poured
-  run_at : (t : Tree) (i j : ℕ) (s : Site) (g : Group) (k : ℕ) (r : NumberedRule) (level : Level) (guard : Guard) (ms : List MessageParts) (left : List (List MessageParts)) (rules : Bag NumberedRule) (atoms : Bag NumberedAtom) (n : Numbered)
+  -- the guard of a rule, and the run of its body as what is poured, with the groups that it lays; the solution with it is sound
+  pub run_at : (t : Tree) (i j : ℕ) (s : Site) (g : Group) (k : ℕ) (r : NumberedRule) (level : Level) (guard : Guard) (ms : List MessageParts) (left : List (List MessageParts)) (rules : Bag NumberedRule) (atoms : Bag NumberedAtom) (n : Numbered)
       → IsPart rules_by (counts_of p.seen) t i s rules atoms n → IsKept s → Each (IsOfCode p c) (told_in s.groups) → Each (IsDrawn i s.made) (told_in s.groups)
       → slice_get s.groups j ≡ Some g → slice_get (rules_by g.told.inst) k ≡ Some r → slice_get c.levels g.told.inst.level ≡ Some level → slice_get c.guards (level.first + k) ≡ Some guard
       → number_in (spot t r.loc) ≡ Some i → is_alive t r.loc ≡ true → Takes g.queues guard.chans ms left
       → let a = code_made c i guard.body (g.told.inst.env ++ args_of ms) r.loc s.made in
       IsGuard rules_by g.told r guard.chans
       × Runs rules_by t.roots t i (with_queues s j g left) (pour (counts_of p.seen) i (root_of i) (given_all r.pats ms) r.loc s.made r.body) a.next a.births (all_told (told_by c) a.groups) (posted_of a.atoms) a.outs
+      × LaysGroups p i s.made a
+      × IsSound (add_made (record n { atoms = without_all (ids ms) n.atoms }) i (pour (counts_of p.seen) i (root_of i) (given_all r.pats ms) r.loc s.made r.body))
   run_at t i j s g k r level guard ms left rules atoms n part kept_s of_code drawn held rule_is level_is guard_is hosted lives takes =
       let d = g.told in
       let seen = counts_of p.seen in
@@ -258,7 +260,7 @@ module _ (p : ProgramTerms) (c : CodeParts) (ok : IsProgram p) (kept : IsCode c)
       let here : among s.locs r.loc ≡ true = ap (among s.locs) is_guard.loc ∙ each_get (λ (e : Told). among s.locs e.inst.loc ≡ true) (told_in s.groups) j d (laid_at s.groups j g held) kept_s.groups_here in
       let drawn_left = subst (Each (IsDrawn i s.made)) (sym taken.told) drawn in
       let runs = run_fits t (record n { atoms = without_all (ids ms) n.atoms }) i (with_queues s j g left) m r.loc r.body a part.tree sound here taken.kept drawn_left pours lays (runs_are_guarded c i guard.body (d.inst.env ++ args_of ms) r.loc s.made) in
-      (is_guard, runs)
+      (is_guard, runs, lays, sound)
 
   pub reaction_is_one_event : (t : Tree) (i j : ℕ) (s : Site) (g : Group) (k : ℕ) (r : NumberedRule) (level : Level) (guard : Guard) (ms : List MessageParts) (left : List (List MessageParts)) (rules : Bag NumberedRule) (atoms : Bag NumberedAtom) (n : Numbered)
       → IsPart rules_by (counts_of p.seen) t i s rules atoms n → IsKept s → Each (IsOfCode p c) (told_in s.groups) → Each (IsDrawn i s.made) (told_in s.groups)
@@ -277,7 +279,7 @@ module _ (p : ProgramTerms) (c : CodeParts) (ok : IsProgram p) (kept : IsCode c)
   -- ---- in a network
 
   -- a site of a network is a part of the solution, beside all others
-  site_is_part : (net : Net) (n : Numbered) (i : ℕ) (s : Site) → Stands rules_by net n → net.seen ≡ counts_of p.seen → slice_get net.sites i ≡ Some s
+  pub site_is_part : (net : Net) (n : Numbered) (i : ℕ) (s : Site) → Stands rules_by net n → net.seen ≡ counts_of p.seen → slice_get net.sites i ≡ Some s
       → IsPart rules_by (counts_of p.seen) net.tree i s (λ r. all_rules rules_by net.sites r - rules_held rules_by s r) (λ x. (all_atoms net.sites x + under_way net.packets x) - atoms_of s x) n
   site_is_part net n i s stands seen here = record {
     sound = stands.sound;

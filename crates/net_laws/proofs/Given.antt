@@ -30,7 +30,7 @@ use Rattle.chem_model.specs.Each.{Each}
 use Rattle.chem_model.specs.Fill.{Naming, fill_ref, fill_refs, fill, fill_pats}
 use Rattle.chem_model.specs.Solution.{is_there, same_loc}
 use Rattle.chem_model.specs.Numbered.{standing}
-use Rattle.chem_model.specs.Pour.{known, is_count, out_made, atom_made, message_made, naming, loc_or, births_of, lay_rules, rules_made, then_made, pour, pour_all, lay_places, add_made}
+use Rattle.chem_model.specs.Pour.{known, is_count, out_made, atom_made, message_made, naming, loc_or, births_of, lay_rules, rules_made, then_made, pour, pour_all, lay_places, lay, add_made}
 use Rattle.chem_model.specs.Sound.{IsSettled, IsAtom, IsNameOf, IsSound}
 use Rattle.chem_laws.proofs.Lists.{Each-append, Each-left, Each-right, Each-weaker, above}
 use Rattle.chem_laws.proofs.Terms.{known_again}
@@ -123,6 +123,17 @@ module _ (ls : List Loc) (seen : List ℕ) (s : ℕ) (r : Loc) where
         let first = both_in a body at_rules (pour_in p m q a.next here (Each-left (λ (y : Placed). among ls y.loc ≡ true) body.births more.births b)) in
         both_in (then_made a body) more first (places_in ds m l body.next h o.1 (Each-right (λ (y : Placed). among ls y.loc ≡ true) body.births more.births b))
 
+  -- what the opening of a site lays and pours, where its places are there already
+  pub opened_in : (ds : Definitions) (p : Process) (m : Naming) (l : Loc) (k : ℕ) → among ls l ≡ true → AreIn (births_of r m ds) → let a = lay seen s r m l k ds in let b = pour seen s r m l a.next p in
+      AreIn (then_made a b).births → StandIn (then_made a b)
+  opened_in ds p m l k h own b =
+      let rules = rules_made (lay_rules s m l k ds) in
+      let places = lay_places seen s r m l rules.next ds in
+      let body = pour seen s r m l places.next p in
+      let at_rules : StandIn rules = record { atoms = tt; rules = laid_rules_in m l k ds h } in
+      let at_places = places_in ds m l rules.next h own (Each-left (λ (x : Placed). among ls x.loc ≡ true) places.births body.births b) in
+      both_in (then_made rules places) body (both_in rules places at_rules at_places) (pour_in p m l places.next h (Each-right (λ (x : Placed). among ls x.loc ≡ true) places.births body.births b))
+
 -- ---- atoms with known names are what is posted
 
 module _ (seen : List ℕ) (Q : Name → Type 0) where
@@ -175,7 +186,7 @@ module _ (count : ℕ) (t : Tree) (locs : List Loc) (seen : List ℕ) (Q : Name 
 
 module _ (rules_of : GroupInst → List NumberedRule) where
   -- groups stand where their rules do
-  laid_in : (ls : List Loc) (ds : List Told) → Each (HasGuards rules_of) ds → Each (HasRule rules_of) ds → Each (λ (q : NumberedRule). among ls q.loc ≡ true) (rules_in rules_of ds) → Each (λ (d : Told). among ls d.inst.loc ≡ true) ds
+  pub laid_in : (ls : List Loc) (ds : List Told) → Each (HasGuards rules_of) ds → Each (HasRule rules_of) ds → Each (λ (q : NumberedRule). among ls q.loc ≡ true) (rules_in rules_of ds) → Each (λ (d : Told). among ls d.inst.loc ≡ true) ds
   laid_in ls [] g h a = tt
   laid_in ls (d ∷ ds) g h a =
       let here = Each-left (λ (q : NumberedRule). among ls q.loc ≡ true) (rules_of d.inst) (rules_in rules_of ds) a in
@@ -190,11 +201,11 @@ module _ (rules_of : GroupInst → List NumberedRule) where
         | inr u ↦ rule_at_is rs r e.1 u
       ]
 
-  own_births : (bs : List Loc) (r : Loc) → Each (λ (b : Placed). among bs b.loc ≡ true) (births_at r bs)
+  pub own_births : (bs : List Loc) (r : Loc) → Each (λ (b : Placed). among bs b.loc ≡ true) (births_at r bs)
   own_births [] r = tt
   own_births (b ∷ bs) r = (ap (λ u. u || among bs b) (same_loc_refl b), Each-weaker (λ (c : Placed). among bs c.loc ≡ true) (λ (c : Placed). among (b ∷ bs) c.loc ≡ true) (λ c h. or_right (same_loc b c.loc) (among bs c.loc) h) (births_at r bs) (own_births bs r))
 
-  births_in : (bs more : List Loc) (r : Loc) → Each (λ (b : Placed). among (more ++ bs) b.loc ≡ true) (births_at r bs)
+  pub births_in : (bs more : List Loc) (r : Loc) → Each (λ (b : Placed). among (more ++ bs) b.loc ≡ true) (births_at r bs)
   births_in bs more r = Each-weaker (λ (c : Placed). among bs c.loc ≡ true) (λ (c : Placed). among (more ++ bs) c.loc ≡ true) (λ c h. among_append more bs c.loc ∙ or_right (among more c.loc) (among bs c.loc) h) (births_at r bs) (own_births bs r)
 
   -- where a site s pours a process at a location that it hosts, and the solution with what is poured is sound

@@ -15,9 +15,10 @@ use Rattle.env_store.specs.declared.code.Instr.{Instr}
 use Rattle.env_store.specs.declared.code.Instr.TheVariants as instr
 use Rattle.env_store.specs.declared.code.Level.{Level}
 use Rattle.env_store.specs.declared.code.Block.{Block}
+use Rattle.env_store.specs.declared.code.SiteCode.{SiteCode}
 use Rattle.env_store.specs.CodeParts.{CodeParts}
 use Rattle.env_store.specs.Layout.{new_channels, order, place_order, LevelTerm, levels_of, levels_of_all, levels_of_defs, levels_of_def, levels_of_site, levels_of_sites, levels_of_program}
-use Rattle.env_store.specs.Running.{Ran, then_ran, group_ran, NumberedLevel, with_level, numbered_levels, loc_at, after_place, block_names, Making, body_ran, places_ran, block_laid, levels_entered, block_entered, run, run_body, made_below, without_last}
+use Rattle.env_store.specs.Running.{Ran, then_ran, group_ran, NumberedLevel, with_level, numbered_levels, loc_at, after_place, block_names, Making, body_ran, places_ran, block_laid, levels_entered, block_entered, run, run_body, made_below, code_made, without_last, site_levels_ran, site_block_ran, site_made}
 use Rattle.env_store.proofs.Pouring.{level_counts}
 use Rattle.net_laws.specs.ByCode.{guards_at, IsGuarded, RunsAreGuarded}
 
@@ -115,6 +116,21 @@ module _ (c : CodeParts) where
 
 pub runs_are_guarded : RunsAreGuarded
 runs_are_guarded c i j env l k = below_guarded c i (length c.bodies) j env l k
+
+-- and each that the opening of a site lays
+pub site_guarded : (c : CodeParts) (i : ℕ) (site : SiteCode) → Each (IsGuarded c) (site_made c i site).groups
+site_guarded c i site = go (slice_get c.blocks site.block)
+  where
+    levels : (vs : List NumberedLevel) → Each (IsNumbered c) vs → Each (IsGuarded c) (site_levels_ran (code_made c i) i site.body vs).groups
+    levels [] h = tt
+    levels (v ∷ vs) h =
+        let l = loc_at i 0 in
+        let a = block_laid (code_made c i) i [] l 1 (1 + length (block_names i l 1 v vs)) v vs in
+        then_guarded c a (code_made c i site.body [] l a.next) (block_guarded c i (code_made c i) (below_guarded c i (length c.bodies)) [] l 1 (1 + length (block_names i l 1 v vs)) v vs h.0 h.1) (below_guarded c i (length c.bodies) site.body [] l a.next)
+
+    go : (o : Option Block) → Each (IsGuarded c) (site_block_ran c (code_made c i) i site.body o).groups
+    go None = tt
+    go (Some b) = levels (numbered_levels c.levels b.levels) (numbered_are c b.levels)
 
 -- ---- as many counts as channels
 

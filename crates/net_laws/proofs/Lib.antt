@@ -31,3 +31,5 @@ pub mod CallLaws
 pub mod Guarded
 pub mod ByCode
 pub mod Meeting
+pub mod FirstTree
+pub mod Opened

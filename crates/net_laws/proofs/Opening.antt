@@ -53,7 +53,7 @@ no_atoms (s ∷ ss) h x = omega (arith, no_atoms ss h.1 x, ap (λ (u : Site). at
 
 module _ (rules_of : GroupInst → List NumberedRule) where
   -- it stands for the solution that has its locations
-  bare_stands : (net : Net) (n : Numbered) → n.rules ≡ [] → n.atoms ≡ [] → n.trace ≡ [] → IsBare net n → Agrees rules_of net n
+  pub bare_stands : (net : Net) (n : Numbered) → n.rules ≡ [] → n.atoms ≡ [] → n.trace ≡ [] → IsBare net n → Agrees rules_of net n
   bare_stands net n rules atoms trace is = record {
     seen = is.seen;
     counts = is.counts;
@@ -82,7 +82,7 @@ lay_is n m l ds seen i k at_root same count =
     ∙ ap (λ (c : ℕ). add_made n i (lay n.seen i (root_of i) m l c ds)) count
     ∙ ap (λ (s : List ℕ). add_made n i (lay s i (root_of i) m l k ds)) same
 
-opened_is : (n : Numbered) (m : Naming) (ds : Definitions) (p : Process) (seen : List ℕ) (i k : ℕ) → is_there (standing n.places (root_of i)) ≡ true → root (standing n.places) (root_of i) ≡ root_of i → n.seen ≡ seen → slice_index n.counts i ≡ k → i < length n.counts
+pub opened_is : (n : Numbered) (m : Naming) (ds : Definitions) (p : Process) (seen : List ℕ) (i k : ℕ) → is_there (standing n.places (root_of i)) ≡ true → root (standing n.places) (root_of i) ≡ root_of i → n.seen ≡ seen → slice_index n.counts i ≡ k → i < length n.counts
     → pour_at (lay_at n m (root_of i) ds) m (root_of i) p ≡ add_made n i (site_opened seen i m k ds p)
 opened_is n m ds p seen i k there at_root same count below =
     let a = lay seen i (root_of i) m (root_of i) k ds in
@@ -94,7 +94,7 @@ opened_is n m ds p seen i k there at_root same count below =
 
 -- ---- what the opening of the later sites adds
 
-opens_places : (m : Naming) (i : ℕ) (ts : List SiteTerm) (n : Numbered) (p : Pair) → bag coded_pair (place_pairs n.places) p ≤ bag coded_pair (place_pairs (open_sites m i ts n).places) p
+pub opens_places : (m : Naming) (i : ℕ) (ts : List SiteTerm) (n : Numbered) (p : Pair) → bag coded_pair (place_pairs n.places) p ≤ bag coded_pair (place_pairs (open_sites m i ts n).places) p
 opens_places m i [] n p = omega arith
 opens_places m i (t ∷ ts) n p =
     let laid = lay_at n m (root_of i) (definitions t.defs) in

@@ -118,7 +118,7 @@ among_but l (x ∷ xs) y = go (same_loc l x) refl (among_but l xs y)
 -- ---- facts of the rest
 
 module _ (l : Loc) (P : Group → Type 0) where
-  each_group_but : (gs : List Group) → Each P gs → Each P (groups_but l gs)
+  pub each_group_but : (gs : List Group) → Each P gs → Each P (groups_but l gs)
   each_group_but [] h = tt
   each_group_but (g ∷ gs) h = go (same_loc l g.told.inst.loc) (each_group_but gs h.1)
     where
@@ -135,7 +135,7 @@ module _ (l : Loc) (P : Told → Type 0) where
       go true ih = ih
       go false ih = (h.0, ih)
 
-apart_but : (l : Loc) (gs : List Group) → AreApart (told_in gs) → AreApart (told_in (groups_but l gs))
+pub apart_but : (l : Loc) (gs : List Group) → AreApart (told_in gs) → AreApart (told_in (groups_but l gs))
 apart_but l [] h = tt
 apart_but l (g ∷ gs) h = go (same_loc l g.told.inst.loc) (apart_but l gs h.1)
   where

@@ -25,19 +25,19 @@ use Rattle.net_laws.proofs.Choices.{one_site, works_lead}
 
 module _ (rules_of : GroupInst → List NumberedRule) where
   -- sites that hold nothing keep everything
-  empty_kept : (number made : ℕ) (locs : List Loc) → IsKept (empty_site number made locs)
+  pub empty_kept : (number made : ℕ) (locs : List Loc) → IsKept (empty_site number made locs)
   empty_kept number made locs = record { queues = tt; stuck = tt; apart = tt; groups_here = tt; stuck_here = tt; stuck_home = tt; requests_here = tt }
 
-  bare_kept : (ss : List Site) → Each IsEmpty ss → Each IsKept ss
+  pub bare_kept : (ss : List Site) → Each IsEmpty ss → Each IsKept ss
   bare_kept [] h = tt
   bare_kept (s ∷ ss) h = (subst IsKept (sym h.0) (empty_kept s.number s.made s.locs), bare_kept ss h.1)
 
-  bare_coded : (ss : List Site) → Each IsEmpty ss → Each (IsCoded rules_of) ss
+  pub bare_coded : (ss : List Site) → Each IsEmpty ss → Each (IsCoded rules_of) ss
   bare_coded [] h = tt
   bare_coded (s ∷ ss) h = (subst (IsCoded rules_of) (sym h.0) tt, bare_coded ss h.1)
 
   -- what the sites run is what they make, and they keep what they keep
-  opened_here : (m : Naming) (i : ℕ) (ts : List SiteTerm) (net end : Net) → IsNet rules_of net → OpensHere rules_of m i ts net end → Opens rules_of m i ts net end × IsNet rules_of end
+  pub opened_here : (m : Naming) (i : ℕ) (ts : List SiteTerm) (net end : Net) → IsNet rules_of net → OpensHere rules_of m i ts net end → Opens rules_of m i ts net end × IsNet rules_of end
   opened_here m i ts net end keeps (opened _ _) = (refl, keeps)
   opened_here m i ts net end keeps (opens _ t us _ _ s next births ds ps outs here runs more) =
       let kept = each_get IsKept net.sites i s here keeps.kept in

@@ -131,7 +131,7 @@ pub record AreLaid (ds : List Told) (old new : Site) : Type 0 where
   pub told : told_in new.groups ≡ told_in old.groups ++ ds
   pub atoms : (x : NumberedAtom) → atoms_of new x ≡ atoms_of old x
 
-append_one : {X : Type 0} (xs : List X) (y : X) (ys : List X) → (xs ++ y ∷ []) ++ ys ≡ xs ++ y ∷ ys
+pub append_one : {X : Type 0} (xs : List X) (y : X) (ys : List X) → (xs ++ y ∷ []) ++ ys ≡ xs ++ y ∷ ys
 append_one [] y ys = refl
 append_one (x ∷ xs) y ys = ap (λ zs. x ∷ zs) (append_one xs y ys)
 

@@ -43,14 +43,14 @@ abbrev pub IsFresh : Tree → Loc → Type 0
 IsFresh t l = spot t l ≡ None
 
 -- the spot of a location that was born under this number
-abbrev born : ℕ → Spot
+abbrev pub born : ℕ → Spot
 born i = record { number = i; marked = false }
 
-abbrev or_else : Option Spot → Option Spot → Option Spot
+abbrev pub or_else : Option Spot → Option Spot → Option Spot
 or_else None o = o
 or_else (Some s) o = Some s
 
-lookup_behind : (q : Loc) (es fs : Entries) → lookup (is_pair_of q) (es ++ fs) ≡ or_else (lookup (is_pair_of q) es) (lookup (is_pair_of q) fs)
+pub lookup_behind : (q : Loc) (es fs : Entries) → lookup (is_pair_of q) (es ++ fs) ≡ or_else (lookup (is_pair_of q) es) (lookup (is_pair_of q) fs)
 lookup_behind q [] fs = refl
 lookup_behind q (e ∷ es) fs = go (is_pair_of q e.0) (lookup_behind q es fs)
   where
@@ -59,7 +59,7 @@ lookup_behind q (e ∷ es) fs = go (is_pair_of q e.0) (lookup_behind q es fs)
     go true ih = refl
     go false ih = ih
 
-none_behind : (o : Option Spot) → or_else o None ≡ o
+pub none_behind : (o : Option Spot) → or_else o None ≡ o
 none_behind None = refl
 none_behind (Some s) = refl
 

@@ -60,7 +60,8 @@ IsOfCode p c d = IsGroupIn p d.inst × (told_by c d.inst ≡ d)
 
 -- the group's channels, where they are the site's own, have numbers below its count
 abbrev pub IsDrawn : ℕ → ℕ → Told → Type 0
-IsDrawn i made d = d.inst.chans.site ≡ i → d.inst.chans.k + length d.counts ≤ made
+IsDrawn i made d =
+    d.inst.chans.site ≡ i → 0 < length d.counts → d.inst.chans.k + length d.counts ≤ made
 
 -- the arguments of messages, in order
 abbrev pub args_of : List MessageParts → List Name

@@ -14,3 +14,4 @@ pub mod Rounds
 pub mod Calls
 pub mod ByCode
 pub mod Meeting
+pub mod Opened

@@ -17,6 +17,7 @@ ghost use Rattle.net_laws.specs.ByCode.{ReactionIsOneEvent, ReactionWorks};
 ghost use Rattle.net_laws.specs.Choices.{ChoiceIsOneEvent};
 ghost use Rattle.net_laws.specs.Enabled.{NoChoiceIsQuiet, ChoicesCanBeMade};
 ghost use Rattle.net_laws.specs.Opening.{StartStands};
+ghost use Rattle.net_laws.specs.Opened.{OpenedStands, OpeningsBearNew, TopsAreOfSites};
 ghost use Rattle.net_laws.specs.Play.{NetworkRuns, ChoicesReplay};
 ghost use Rattle.net_laws.specs.Rounds.{LentSiteIsBack, RoundIsChoices};
 
@@ -186,6 +187,22 @@ pub fn choices_replay()
 /// the program's opening. It does nothing.
 pub fn start_stands()
     ensures { (rules_of : GroupInst → List NumberedRule) → StartStands rules_of }
+{}
+
+/// The network that the code of a program opens, site after site, stands for the program's opening.
+/// It does nothing.
+pub fn opened_stands()
+    ensures { OpenedStands }
+{}
+
+/// Each location of a program's sites has the number of one of them as its site. It does nothing.
+pub fn tops_are_of_sites()
+    ensures { TopsAreOfSites }
+{}
+
+/// Each location that an opening bears is new to the tree. It does nothing.
+pub fn openings_bear_new()
+    ensures { OpeningsBearNew }
 {}
 
 /// From a program's start on, for every list of choices, the events replay from the program, what

@@ -13,6 +13,7 @@ pub use laws::{
     halt_call, halt_is_one_event, halt_of_a_part, lent_site_is_back, move_between_call,
     move_between_is_one_event, move_between_works, move_of_a_part, move_of_two_parts,
     move_within_call, move_within_is_one_event, move_within_works, network_runs,
-    no_choice_is_quiet, parcel_carries, react_call, reaction_is_one_event, reaction_of_a_part,
-    reaction_works, round_is_choices, rules_are_guards, run_fits, runs_are_guarded, start_stands,
+    no_choice_is_quiet, opened_stands, openings_bear_new, parcel_carries, react_call,
+    reaction_is_one_event, reaction_of_a_part, reaction_works, round_is_choices, rules_are_guards,
+    run_fits, runs_are_guarded, start_stands, tops_are_of_sites,
 };

@@ -1,15 +1,15 @@
 -- What becomes of the index of busy groups.
-use Rattle.std.proofs.Common.{◌≡◌, ◌≢◌, ◌⊎◌, ℕ, zero, suc, ◌+◌, ◌<◌, ◌≤◌, Bool, false, List, [], ◌∷◌, ◌++◌, length, get_or, set, refl, sym, ap, ◌∙◌, inl, inr, arith}
+use Rattle.std.proofs.Common.{◌≡◌, ◌≢◌, ◌⊎◌, ℕ, zero, suc, ◌+◌, ◌<◌, ◌≤◌, Bool, true, false, cond, List, [], ◌∷◌, ◌++◌, length, get_or, set, refl, sym, ap, ◌∙◌, inl, inr, arith}
 use Rattle.std.specs.Prelude.{not, eqb, replicate, remove}
 use Rattle.std.proofs.lemmas.Bool.{cases_eq}
 use Rattle.std.proofs.lemmas.List.{length-set, length-append, get_or-set_same, get_or-set_other}
 use Rattle.std.proofs.lemmas.List.Sums.{sum_by-cons}
-use Rattle.queue_cells.specs.Grouped.{Queued, lists_at, with_queue, idle_group, waiting}
+use Rattle.queue_cells.specs.Grouped.{Queued, lists_at, with_queue, idle_group, waiting, but_where}
 use Rattle.queue_cells.specs.Busy.{any_waits}
 use Rattle.queue_cells.specs.Index.{IsIndex}
 use Rattle.queue_cells.proofs.RowLemmas.{length-with_queue}
 
-waiting-replicate : (T : Type 0) (n : ℕ) → waiting {T = T} (replicate n []) ≡ 0
+pub waiting-replicate : (T : Type 0) (n : ℕ) → waiting {T = T} (replicate n []) ≡ 0
 waiting-replicate T zero = refl
 waiting-replicate T (suc n) =
     let rest = waiting-replicate T n in
@@ -22,6 +22,14 @@ get_or-false [] (suc k) = refl
 get_or-false (b ∷ bs) zero = refl
 get_or-false (b ∷ bs) (suc k) = get_or-false bs k
 
+nat_below : (k n : ℕ) → (k < n) ⊎ (n ≤ k)
+nat_below k zero = inr (omega arith)
+nat_below zero (suc n) = inl (omega arith)
+nat_below (suc k) (suc n) = elim (nat_below k n) [
+  | inl less ↦ inl (omega arith)
+  | inr behind ↦ inr (omega arith)
+]
+
 module _ {G T : Type 0} where
   lists_at-other : (qs : List (Queued G T)) (g c k : ℕ) (ms : List T) → k ≢ g → lists_at (with_queue qs g c ms) k ≡ lists_at qs k
   lists_at-other [] g c k ms differs = refl
@@ -30,7 +38,7 @@ module _ {G T : Type 0} where
   lists_at-other (q ∷ qs) (suc g) c zero ms differs = refl
   lists_at-other (q ∷ qs) (suc g) c (suc k) ms differs = lists_at-other qs g c k ms (λ same. differs (ap suc same))
 
-  lists_at-end : (qs : List (Queued G T)) (k : ℕ) → length qs ≤ k → lists_at qs k ≡ []
+  pub lists_at-end : (qs : List (Queued G T)) (k : ℕ) → length qs ≤ k → lists_at qs k ≡ []
   lists_at-end [] k behind = refl
   lists_at-end (q ∷ qs) zero behind = absurd (omega arith)
   lists_at-end (q ∷ qs) (suc k) behind = lists_at-end qs k (omega arith)
@@ -113,11 +121,46 @@ module _ {G T : Type 0} where
       | inr behind ↦ was.rest k behind ∙ ap any_waits (sym (lists_at-end qs k behind))
     ];
   }
+
+  -- the bits of the first groups, where no bit is set behind as many groups as there were
+  pub record IsIndexUpTo (busy : List Bool) (qs : List (Queued G T)) (before end : ℕ) : Type 0 where
+    pub few : length qs ≤ before
+    pub room : before ≤ length busy
+    pub bits : (g : ℕ) → g < end → get_or busy g false ≡ any_waits (lists_at qs g)
+    pub rest : (g : ℕ) → before ≤ g → get_or busy g false ≡ false
+
+  length-but_where : (p : G → Bool) (qs : List (Queued G T)) → length (but_where p qs) ≤ length qs
+  length-but_where p [] = omega arith
+  length-but_where p (q ∷ qs) = go (p q.told) (length-but_where p qs)
     where
-      nat_below : (k n : ℕ) → (k < n) ⊎ (n ≤ k)
-      nat_below k zero = inr (omega arith)
-      nat_below zero (suc n) = inl (omega arith)
-      nat_below (suc k) (suc n) = elim (nat_below k n) [
-        | inl less ↦ inl (omega arith)
-        | inr behind ↦ inr (omega arith)
-      ]
+      go : (t : Bool) → length (but_where p qs) ≤ length qs → length (cond t (but_where p qs) (q ∷ but_where p qs)) ≤ suc (length qs)
+      go true ih = omega arith
+      go false ih = omega arith
+
+  pub IsIndexUpTo-first : (p : G → Bool) (busy : List Bool) (old new : List (Queued G T)) (before : ℕ) → new ≡ but_where p old → before ≡ length old → IsIndex busy old → IsIndexUpTo busy new before 0
+  IsIndexUpTo-first p busy old new before is all was = record {
+    few = omega (arith, ap length is, length-but_where p old);
+    room = omega (arith, was.room);
+    bits = λ k less. absurd (omega arith);
+    rest = λ k behind. was.bits k ∙ ap any_waits (lists_at-end old k (omega arith));
+  }
+
+  pub IsIndexUpTo-next : (busy after : List Bool) (qs : List (Queued G T)) (before g : ℕ) (holds : Bool) → IsIndexUpTo busy qs before g → g < before → holds ≡ any_waits (lists_at qs g) → after ≡ set busy g holds → IsIndexUpTo after qs before (g + 1)
+  IsIndexUpTo-next busy after qs before g holds was within held noted = record {
+    few = was.few;
+    room = omega (arith, was.room, ap length noted, length-set busy g holds);
+    bits = λ k less. elim (cases_eq k g) [
+      | inl same ↦ ap (λ bs. get_or bs k false) noted ∙ ap (λ j. get_or (set busy g holds) j false) same ∙ get_or-set_same busy g holds false (omega (arith, was.room)) ∙ held ∙ ap (λ j. any_waits (lists_at qs j)) (sym same)
+      | inr differs ↦ ap (λ bs. get_or bs k false) noted ∙ get_or-set_other busy g k holds false differs ∙ was.bits k (omega arith)
+    ];
+    rest = λ k behind. ap (λ bs. get_or bs k false) noted ∙ get_or-set_other busy g k holds false (λ same. omega arith) ∙ was.rest k behind;
+  }
+
+  pub IsIndexUpTo-all : (busy : List Bool) (qs : List (Queued G T)) (before end : ℕ) → before ≤ end → IsIndexUpTo busy qs before end → IsIndex busy qs
+  IsIndexUpTo-all busy qs before end all was = record {
+    room = omega (arith, was.few, was.room);
+    bits = λ k. elim (nat_below k before) [
+      | inl less ↦ was.bits k (omega arith)
+      | inr behind ↦ was.rest k behind ∙ ap any_waits (sym (lists_at-end qs k (omega (arith, was.few))))
+    ];
+  }

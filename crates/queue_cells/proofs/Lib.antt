@@ -1,3 +1,5 @@
 pub mod Walks
 pub mod RowLemmas
 pub mod IndexLemmas
+pub mod Removal
+pub mod Messages

@@ -84,7 +84,7 @@ total-none : (n : ℕ) → total (replicate n no_ends) ≡ 0
 total-none zero = refl
 total-none (suc n) = let one = sum_by-cons (λ (e : Ends). e.count) no_ends (replicate n no_ends) in one ∙ (let rest : total (replicate n no_ends) ≡ 0 = total-none n in omega arith)
 
-empty_ends : {T : Type 0} (slots : List (Option (Cell T))) (es : List Ends) → AllQueues slots es → ((c : ℕ) → c < length es → get_or (map (messages slots) es) c [] ≡ []) → (total es ≡ 0) × ((k : ℕ) → all_uses slots k es ≡ 0)
+pub empty_ends : {T : Type 0} (slots : List (Option (Cell T))) (es : List Ends) → AllQueues slots es → ((c : ℕ) → c < length es → get_or (map (messages slots) es) c [] ≡ []) → (total es ≡ 0) × ((k : ℕ) → all_uses slots k es ≡ 0)
 empty_ends slots [] all none = (refl, λ k. refl)
 empty_ends slots (e ∷ es) all none =
     let first : messages slots e ≡ [] = none 0 (omega arith) in
@@ -356,11 +356,6 @@ module _ {G T : Type 0} where
   waiting-with [] g c ms within = absurd (omega arith)
   waiting-with (q ∷ qs) zero c ms within = sum_by-set length q.lists c ms [] within
   waiting-with (q ∷ qs) (suc g) c ms within = waiting-with qs g c ms within
-
-  pub remove-with_queue : (qs : List (Queued G T)) (g c : ℕ) (ms : List T) → remove (with_queue qs g c ms) g ≡ remove qs g
-  remove-with_queue [] g c ms = refl
-  remove-with_queue (q ∷ qs) zero c ms = refl
-  remove-with_queue (q ∷ qs) (suc g) c ms = ap (λ rest. q ∷ rest) (remove-with_queue qs g c ms)
 
   -- what holds of a group whose queues are empty
   rows-removed : (slots : List (Option (Cell T))) (rs : List (Row G)) (g : ℕ) (r : Row G) → g < length rs → get_or rs g r ≡ r → AllRows slots rs → AllRows slots (remove rs g) × ((k : ℕ) → row_uses slots k (remove rs g) + all_uses slots k r.ends.items ≡ row_uses slots k rs) × (map (queued slots) (remove rs g) ≡ remove (map (queued slots) rs) g)

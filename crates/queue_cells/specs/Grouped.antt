@@ -1,6 +1,6 @@
 -- What contracts see of groups of queues.
-use Rattle.std.specs.Prelude.{◌≡◌, ℕ, zero, suc, ◌<◌, true, List, [], ◌∷◌, ◌++◌, length, refl}
-use Rattle.std.specs.Prelude.{slice_index_or, slice_set, replicate, sum_by}
+use Rattle.std.specs.Prelude.{◌≡◌, ℕ, zero, suc, ◌+◌, ◌<◌, Bool, true, cond, List, [], ◌∷◌, ◌++◌}
+use Rattle.std.specs.Prelude.{length, refl, slice_index_or, slice_set, replicate, sum_by}
 use Rattle.std.specs.Coded.{Coded, code_by, coded×, coded_ℕ, coded_list}
 use Rattle.status_words.specs.Words.{has_bit}
 
@@ -43,6 +43,12 @@ module _ {G T : Type 0} where
       record { told = q.told; lists = slice_set q.lists chan ms } ∷ qs
   with_queue (q ∷ qs) (suc group) chan ms = q ∷ with_queue qs group chan ms
 
+  -- the groups with empty queues in one of them
+  abbrev pub emptied : List (Queued G T) → ℕ → List (Queued G T)
+  emptied [] group = []
+  emptied (q ∷ qs) zero = idle_group q.told (length q.lists) ∷ qs
+  emptied (q ∷ qs) (suc group) = q ∷ emptied qs group
+
   -- the groups with one message more, behind the others of one queue
   abbrev pub with_last : List (Queued G T) → ℕ → ℕ → T → List (Queued G T)
   with_last qs group chan m = with_queue qs group chan (queue_in qs group chan ++ m ∷ [])
@@ -55,6 +61,17 @@ module _ {T : Type 0} where
   -- every number of the mask is that of a queue that isn't empty
   abbrev pub AllHeld : List (List T) → List ℕ → Type 0
   AllHeld lists mask = (i : ℕ) → has_bit mask i ≡ true → 0 < length (slice_index_or lists i [])
+
+module _ {G T : Type 0} (is_selected : G → Bool) where
+  -- the groups that aren't selected by what is told of them
+  abbrev pub but_where : List (Queued G T) → List (Queued G T)
+  but_where [] = []
+  but_where (q ∷ qs) = cond (is_selected q.told) (but_where qs) (q ∷ but_where qs)
+
+  -- how many messages stand in those that are
+  abbrev pub waiting_where : List (Queued G T) → ℕ
+  waiting_where [] = 0
+  waiting_where (q ∷ qs) = cond (is_selected q.told) (waiting q.lists) 0 + waiting_where qs
 
 -- each record is stored as the tuple of its fields
 abbrev pub queued_code : {G T : Type 0} → Coded G → Coded T → Coded (Queued G T)

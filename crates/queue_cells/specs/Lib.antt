@@ -1,4 +1,5 @@
 pub mod Grouped
+pub mod Messages
 pub mod Walk
 pub mod Rows
 pub mod Busy

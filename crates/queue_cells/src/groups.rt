@@ -1,11 +1,13 @@
 ghost use Rattle.std.specs.Prelude.{◌≡◌, ◌≤◌, ◌<◌, ◌+◌, ◌∷◌, ◌++◌, ◌↔◌, [], length, Some};
 ghost use Rattle.std.specs.Prelude.{slice_get, remove, option_copied, IsOk, IsTrue, OnOk, OnErr};
 ghost use Rattle.queue_cells.specs.Grouped.{lists_at, queue_in, with_queue, with_last, waiting};
-ghost use Rattle.queue_cells.specs.Grouped.{idle_group, AllHeld};
+ghost use Rattle.queue_cells.specs.Grouped.{idle_group, emptied, but_where, waiting_where, AllHeld};
 ghost use Rattle.queue_cells.specs.Busy.{any_waits};
+ghost use Rattle.queue_cells.specs.Messages.{messages_in};
 ghost use Rattle.status_words.specs.Words.{number_of_words};
 
 use crate::cells::{Cell, chain, unchain};
+use crate::choosing::Selects;
 use crate::rows::{Idle, Row, replace};
 use crate::walk::{Iter, walk_from};
 use chem_model::Memory;
@@ -59,6 +61,13 @@ impl<G: Drop, T: Drop> Groups<G, T> {
         ensures { result ≡ length self.now.groups }
     {
         self.rows.len()
+    }
+
+    /// How many messages stand in all queues.
+    pub fn messages(&self) -> usize
+        ensures { result ≡ messages_in self.now.groups }
+    {
+        self.cells.len()
     }
 
     /// What is told of a group.
@@ -228,10 +237,39 @@ impl<G: Drop, T: Drop> Groups<G, T> {
         ensures spare { self.new.spare ≡ self.old.spare + waiting (lists_at self.old.groups group) }
         ensures spare_groups { self.new.spare_groups ≡ self.old.spare_groups + 1 }
     {
+        self.empty(group);
+        self.rows.remove(group);
+    }
+
+    // Drops the messages of a group. It takes no memory, and leaves room for as many more.
+    fn empty(&mut self, group: usize)
+        requires { group < length self.old.groups }
+        ensures groups { self.new.groups ≡ emptied self.old.groups group }
+        ensures spare { self.new.spare ≡ self.old.spare + waiting (lists_at self.old.groups group) }
+        ensures spare_groups { self.new.spare_groups ≡ self.old.spare_groups }
+    {
         let width = self.width(group);
         for chan in 0..width {
             self.clear(group, chan);
         }
-        self.rows.remove(group);
+    }
+
+    /// Drops each group that the test selects, with its messages, and the others close up. It takes
+    /// no memory, and leaves room for as many messages and groups more. It is one pass over the
+    /// groups.
+    pub fn remove_where<S: Selects<G>>(&mut self, gone: &S)
+        ensures groups { self.new.groups ≡ but_where (S.is_selected gone.now) self.old.groups }
+        ensures spare { self.new.spare
+            ≡ self.old.spare + waiting_where (S.is_selected gone.now) self.old.groups }
+        ensures spare_groups { self.new.spare_groups + length self.new.groups
+            ≡ self.old.spare_groups + length self.old.groups }
+    {
+        let len = self.len();
+        for group in 0..len {
+            if gone.selects(self.told(group)) {
+                self.empty(group);
+            }
+        }
+        self.rows.retain(|row| !gone.selects(&row.told));
     }
 }

@@ -1,9 +1,10 @@
 ghost use Rattle.std.specs.Prelude.{◌≡◌, ◌≤◌, ◌<◌, ◌+◌, ◌∷◌, ◌++◌, [], length, remove, slice_set};
 ghost use Rattle.std.specs.Prelude.{IsOk, OnOk, OnErr, IfOk, IfNone, IfSome};
 ghost use Rattle.queue_cells.specs.Grouped.{lists_at, queue_in, with_queue, with_last, waiting};
-ghost use Rattle.queue_cells.specs.Grouped.{idle_group};
-ghost use Rattle.queue_cells.specs.Busy.{IdleFrom, IsNextBusy};
+ghost use Rattle.queue_cells.specs.Grouped.{idle_group, but_where, waiting_where};
+ghost use Rattle.queue_cells.specs.Busy.{any_waits, IdleFrom, IsNextBusy};
 
+use crate::choosing::Selects;
 use crate::groups::Groups;
 use crate::rows::Idle;
 use chem_model::Memory;
@@ -48,6 +49,13 @@ fn note(busy: &mut Status, group: usize, holds: bool)
     } else {
         busy.clear(group as u32);
     }
+}
+
+// Whether there is a group with this index that holds a message.
+fn is_busy<G: Drop, T: Drop>(groups: &Groups<G, T>, group: usize) -> bool
+    ensures { result ≡ any_waits (lists_at groups.now.groups group) }
+{
+    group < groups.len() && groups.holds(group)
 }
 
 impl<G: Drop, T: Drop> Hot<G, T> {
@@ -180,6 +188,24 @@ impl<G: Drop, T: Drop> Hot<G, T> {
         for later in group..len {
             let holds = self.groups.holds(later);
             note(&mut self.busy, later, holds);
+        }
+    }
+
+    /// Drops each group that the test selects, with its messages, and the others close up. It takes
+    /// no memory, and leaves room for as many messages and groups more. It is one pass over the
+    /// groups.
+    pub fn remove_where<S: Selects<G>>(&mut self, gone: &S)
+        ensures groups { self.new.groups ≡ but_where (S.is_selected gone.now) self.old.groups }
+        ensures spare { self.new.spare
+            ≡ self.old.spare + waiting_where (S.is_selected gone.now) self.old.groups }
+        ensures spare_groups { self.new.spare_groups + length self.new.groups
+            ≡ self.old.spare_groups + length self.old.groups }
+    {
+        let before = self.groups.len();
+        self.groups.remove_where(gone);
+        for group in 0..before {
+            let holds = is_busy(&self.groups, group);
+            note(&mut self.busy, group, holds);
         }
     }
 

@@ -4,6 +4,7 @@
 #![tactic(auto)]
 
 mod cells;
+mod choosing;
 mod groups;
 mod hot;
 mod rows;
@@ -11,6 +12,7 @@ mod rows;
 mod tests;
 mod walk;
 
+pub use choosing::Selects;
 pub use groups::Groups;
 pub use hot::Hot;
 pub use rows::Idle;

@@ -1,4 +1,5 @@
 // Queues of numbers. The expected values were worked out by hand.
+use crate::choosing::Selects;
 use crate::groups::Groups;
 use crate::hot::Hot;
 use crate::rows::Idle;
@@ -171,5 +172,37 @@ fn busy_groups_are_found(rt: HostRuntime) -> Result<(), Fail> {
     assert_eq!(rt; hot.next_busy(0), Some(65));
     expect_taken_hot(&rt, &mut hot, 65, 10);
     assert_eq!(rt; hot.next_busy(0), None);
+    Ok(())
+}
+
+// Selects the groups of which an odd number is told.
+struct Odd;
+
+impl Selects<u32> for Odd {
+    ghost use Rattle.std.specs.Prelude.{◌%◌, ◌==◌};
+
+    ghost is_selected = { λ _ told. told % 2 == 1 };
+
+    fn selects(&self, told: &u32) -> bool {
+        *told % 2 == 1
+    }
+}
+
+#[test]
+fn selected_groups_go(rt: HostRuntime) -> Result<(), Fail> {
+    let mut hot = Hot::new(rt.alloc())?;
+    for told in 0..5 {
+        hot.add(rt.alloc(), told, 1)?;
+        put_hot(&rt, &mut hot, told as usize, 10)?;
+        put_hot(&rt, &mut hot, told as usize, 20 + told as u64)?;
+    }
+    hot.remove_where(&Odd);
+    assert_eq!(rt; hot.groups().len(), 3);
+    expect_queue(&rt, hot.groups(), 1, 0, &[10, 22]);
+    expect_queue(&rt, hot.groups(), 2, 0, &[10, 24]);
+    put_hot(&rt, &mut hot, 1, 30)?;
+    expect_queue(&rt, hot.groups(), 0, 0, &[10, 20]);
+    expect_queue(&rt, hot.groups(), 1, 0, &[10, 22, 30]);
+    assert_eq!(rt; hot.next_busy(1), Some(1));
     Ok(())
 }

@@ -1,10 +1,10 @@
 -- What each call keeps of a site.
-use Rattle.std.proofs.Common.{◌≡◌, ℕ, zero, suc, ◌+◌, ◌<◌, ◌^◌, Bool, true, false, cond, List, [], ◌∷◌, ◌++◌, length, Option, Some, None, Result, Ok, Err, refl, sym, ap, subst, ◌∙◌, arith}
+use Rattle.std.proofs.Common.{◌≡◌, ℕ, zero, suc, ◌+◌, ◌<◌, ◌≤◌, ◌^◌, Bool, true, false, cond, List, [], ◌∷◌, ◌++◌, length, Option, Some, None, Result, Ok, Err, refl, sym, ap, subst, ◌∙◌, arith}
 use Rattle.std.specs.Prelude.{slice_get, slice_set, slice_index_or, drop, OnOk, OnErr}
-use Rattle.std.specs.HashMap.{get}
 use Rattle.chem_model.specs.declared.name.Loc.{Loc}
 use Rattle.chem_model.specs.declared.event.AtomId.{AtomId}
 use Rattle.chem_model.specs.Apply.{same_atom}
+use Rattle.chem_laws.proofs.Taking.{same_atom_is}
 use Rattle.chem_model.specs.Each.{Each}
 use Rattle.wire_packet.specs.MessageFacts.{MessageParts}
 use Rattle.wire_packet.specs.declared.packet.Waiting.{Waiting}
@@ -15,18 +15,20 @@ use Rattle.net_laws.specs.Net.{among, home_or}
 use Rattle.net_laws.specs.Kept.{IsKept, AreApart}
 use Rattle.net_laws.specs.Changes.{Takes, AreQueues}
 use Rattle.net_laws.specs.Posting.{with_queues}
-use Rattle.net_laws.specs.Holding.{put, put_all, with_request, without_request, new_group, lay}
+use Rattle.net_laws.specs.Holding.{in_groups, put_in, put, with_request, without_request}
 use Rattle.net_laws.proofs.Holding.{put_is, lay_is}
 use Rattle.net_laws.proofs.Posting.{host_kept, each_with, fronts_go}
 use Rattle.site_solution.specs.declared.site.Site.TheInside.{Inside}
-use Rattle.site_solution.specs.Held.{queues_in, queue_of, without_front}
-use Rattle.site_solution.specs.Index.{Rows, Key, key_of, groups_of, told_of, holding, locate, same_key, IsIndex}
-use Rattle.site_solution.specs.declared.told.Spot.{Spot}
+use Rattle.site_solution.specs.Held.{queues_in, queue_of, without_front, has_atom}
+use Rattle.site_solution.specs.Rising.{Pending}
+use Rattle.site_solution.specs.Counted.{is_id, id_of, one_each, over_waiting, over_requests, times, waiting_in}
+use Rattle.site_solution.proofs.Counting.{put-sum, front-sum, request-more, request-less, absent-times, id-below}
+use Rattle.site_solution.specs.Index.{Rows, groups_of, told_of, holding, IsIndex}
 use Rattle.std.proofs.lemmas.List.{length-append}
 use Rattle.chem_laws.proofs.Lists.{Each-append}
 use Rattle.site_solution.specs.Stored.{seen, IsStored}
 use Rattle.site_solution.specs.CanLay.{HasNumbers, CanLay}
-use Rattle.site_solution.proofs.Queueing.{queues-are}
+use Rattle.site_solution.proofs.Queueing.{queues-are, index-same}
 use Rattle.site_solution.proofs.Putting.{told-many, queue-set}
 
 -- what holds before and after holds of what comes out
@@ -39,13 +41,37 @@ pub on-success : {A E X Y : Type 0} (f : X → Y) (y : Y) (r : Result A E) (done
 on-success f y (Ok a) done new ok is = ap f ok ∙ is
 on-success f y (Err e) done new ok is = tt
 
--- ---- locations and requests
+-- ---- ids
 
-pub host-stored : (a : Inside) (ls : List Loc) → IsStored a → IsStored (record a { locs = a.locs ++ ls })
-host-stored a ls h = record { kept = host_kept ls a.made (seen a) h.kept; index = h.index; numbers = h.numbers; few = h.few }
+-- an id that is new here occurs nowhere
+new-times : (i : AtomId) (s : Site) (j : AtomId) → has_atom j s ≡ false → same_atom j i ≡ true → times i s ≡ 0
+new-times i s j new same = subst (λ (k : AtomId). times k s ≡ 0) (same_atom_is j i same) (absent-times j s new)
 
-pub ask-stored : (a : Inside) (q : Request) → IsStored a → among a.locs q.loc ≡ true → IsStored (record a { requests = with_request q a.requests })
-ask-stored a q h here = record {
+other-id : (i j : AtomId) → same_atom j i ≡ false → is_id i j ≡ 0
+other-id i j other = ap (λ (b : Bool). cond {A = ℕ} b 1 0) other
+
+put-requests : (l : Loc) (m : MessageParts) (s : Site) → (put l m s).requests ≡ s.requests
+put-requests l m s = go (in_groups s.groups m)
+  where
+    go : (o : Option (List Group)) → (put_in o l m s).requests ≡ s.requests
+    go None = refl
+    go (Some gs) = refl
+
+-- ---- requests
+
+-- the site would be stored with these requests
+pub record AreAsked (a : Inside) (rs : List Request) : Type 0 where
+  pub kept : IsKept (record (seen a) { requests = rs })
+  pub once : (i : AtomId) → times i (record (seen a) { requests = rs }) ≤ 1
+
+pub as-asked : (a : Inside) → IsStored a → AreAsked a a.requests.items
+as-asked a h = record { kept = h.kept; once = h.once }
+
+pub asked-stored : (a : Inside) (new : Pending) → IsStored a → AreAsked a new.items → IsStored (record a { requests = new })
+asked-stored a new h are = record { kept = are.kept; once = are.once; few_waiting = h.few_waiting; index = h.index; numbers = h.numbers; few = h.few }
+
+pub ask-stored : (a : Inside) (q : Request) → IsStored a → among a.locs.locs q.loc ≡ true → has_atom q.id (seen a) ≡ false → AreAsked a (with_request q a.requests.items)
+ask-stored a q h here new = record {
   kept = record {
     queues = h.kept.queues;
     stuck = h.kept.stuck;
@@ -53,12 +79,14 @@ ask-stored a q h here = record {
     groups_here = h.kept.groups_here;
     stuck_here = h.kept.stuck_here;
     stuck_home = h.kept.stuck_home;
-    requests_here = each_with (λ (r : Request). among a.locs r.loc ≡ true) a.requests q h.kept.requests_here here;
+    requests_here = each_with (λ (r : Request). among a.locs.locs r.loc ≡ true) a.requests.items q h.kept.requests_here here;
   };
-  index = h.index;
-  numbers = h.numbers;
-  few = h.few;
+  once = λ i. one-more i (same_atom q.id i) refl (h.once i) (request-more i q a.requests.items);
 }
+  where
+    one-more : (i : AtomId) (b : Bool) → same_atom q.id i ≡ b → times i (seen a) ≤ 1 → over_requests i (with_request q a.requests.items) ≡ over_requests i a.requests.items + is_id i q.id → times i (record (seen a) { requests = with_request q a.requests.items }) ≤ 1
+    one-more i true same once sum = omega (arith, sum, id-below i q.id, new-times i (seen a) q.id new same)
+    one-more i false other once sum = omega (arith, sum, other-id i q.id other)
 
 each-without : (P : Request → Type 0) (i : AtomId) (qs : List Request) → Each P qs → Each P (without_request i qs)
 each-without P i [] h = tt
@@ -68,7 +96,7 @@ each-without P i (q ∷ qs) h = go (same_atom q.id i) (each-without P i qs h.1)
     go true rest = h.1
     go false rest = (h.0, rest)
 
-pub drop-stored : (a : Inside) (i : AtomId) → IsStored a → IsStored (record a { requests = without_request i a.requests })
+pub drop-stored : (a : Inside) (i : AtomId) → IsStored a → AreAsked a (without_request i a.requests.items)
 drop-stored a i h = record {
   kept = record {
     queues = h.kept.queues;
@@ -77,11 +105,9 @@ drop-stored a i h = record {
     groups_here = h.kept.groups_here;
     stuck_here = h.kept.stuck_here;
     stuck_home = h.kept.stuck_home;
-    requests_here = each-without (λ (r : Request). among a.locs r.loc ≡ true) i a.requests h.kept.requests_here;
+    requests_here = each-without (λ (r : Request). among a.locs.locs r.loc ≡ true) i a.requests.items h.kept.requests_here;
   };
-  index = h.index;
-  numbers = h.numbers;
-  few = h.few;
+  once = λ j. omega (arith, h.once j, request-less j i a.requests.items);
 }
 
 -- ---- messages
@@ -89,20 +115,28 @@ drop-stored a i h = record {
 -- the site would be stored with these groups and these stuck messages
 pub record AreStored (a : Inside) (qs : Rows) (ws : List Waiting) : Type 0 where
   pub kept : IsKept (holding (seen a) qs ws)
-  pub index : IsIndex (get same_key a.spots) (groups_of qs)
+  pub once : (i : AtomId) → times i (holding (seen a) qs ws) ≤ 1
+  pub few_waiting : waiting_in (holding (seen a) qs ws) < 2 ^ 32
+  pub index : IsIndex a.spots (groups_of qs)
   pub numbers : Each HasNumbers (told_of qs)
   pub few : length qs < 2 ^ 32
 
 pub as-stored : (a : Inside) → IsStored a → AreStored a a.groups.groups a.stuck.items
-as-stored a h = record { kept = h.kept; index = h.index; numbers = h.numbers; few = h.few }
+as-stored a h = record { kept = h.kept; once = h.once; few_waiting = h.few_waiting; index = h.index; numbers = h.numbers; few = h.few }
 
-pub put-stored : (a : Inside) (l : Loc) (m : MessageParts) (qs : Rows) (ws : List Waiting) → IsStored a → among a.locs l ≡ true → home_or l m.on ≡ l → IsIndex (get same_key a.spots) (groups_of qs) → told_of qs ≡ told_of a.groups.groups → put l m (seen a) ≡ holding (seen a) qs ws → AreStored a qs ws
-put-stored a l m qs ws h here home index told is = record {
+pub put-stored : (a : Inside) (l : Loc) (m : MessageParts) (qs : Rows) (ws : List Waiting) → IsStored a → among a.locs.locs l ≡ true → home_or l m.on ≡ l → has_atom m.id (seen a) ≡ false → waiting_in (seen a) + 1 < 2 ^ 32 → IsIndex a.spots (groups_of qs) → told_of qs ≡ told_of a.groups.groups → put l m (seen a) ≡ holding (seen a) qs ws → AreStored a qs ws
+put-stored a l m qs ws h here home new room index told is = record {
   kept = subst IsKept is (put_is l m (seen a) h.kept here home).kept;
+  once = λ i. subst (λ (s : Site). times i s ≤ 1) is (one-more i (same_atom m.id i) refl (h.once i) (put-sum (id_of i) l m (seen a)) (put-requests l m (seen a)));
+  few_waiting = subst (λ (s : Site). waiting_in s < 2 ^ 32) is (omega (arith, room, put-sum one_each l m (seen a)));
   index = index;
   numbers = subst (Each HasNumbers) (sym told) h.numbers;
   few = let many = sym (told-many qs) ∙ ap length told ∙ told-many a.groups.groups in omega (arith, h.few);
 }
+  where
+    one-more : (i : AtomId) (b : Bool) → same_atom m.id i ≡ b → times i (seen a) ≤ 1 → over_waiting (id_of i) (put l m (seen a)) ≡ over_waiting (id_of i) (seen a) + is_id i m.id → (put l m (seen a)).requests ≡ (seen a).requests → times i (put l m (seen a)) ≤ 1
+    one-more i true same once sum requests = omega (arith, sum, ap (over_requests i) requests, id-below i m.id, new-times i (seen a) m.id new same)
+    one-more i false other once sum requests = omega (arith, sum, ap (over_requests i) requests, other-id i m.id other)
 
 -- ---- a front goes
 
@@ -144,7 +178,7 @@ group-there gs j c some = go (slice_get gs j) refl some
     go (Some g) e h = (g, e)
 
 -- the groups without this front
-front-gone : (qs new : Rows) (j c : ℕ) (m : MessageParts) (g : Group) → slice_get (groups_of qs) j ≡ Some g → queue_in qs j c ≡ m ∷ queue_in new j c → new ≡ with_queue qs j c (queue_in new j c) → groups_of new ≡ slice_set (groups_of qs) j (record g { queues = without_front g.queues c })
+pub front-gone : (qs new : Rows) (j c : ℕ) (m : MessageParts) (g : Group) → slice_get (groups_of qs) j ≡ Some g → queue_in qs j c ≡ m ∷ queue_in new j c → new ≡ with_queue qs j c (queue_in new j c) → groups_of new ≡ slice_set (groups_of qs) j (record g { queues = without_front g.queues c })
 front-gone qs new j c m g at front is =
     let queue : slice_index_or g.queues c [] ≡ m ∷ queue_in new j c = ap (λ o. slice_index_or (queues_in o) c []) (sym at) ∙ queue-same qs j c ∙ front in
     let rest : queue_in new j c ≡ drop 1 (slice_index_or g.queues c []) = ap (drop 1) (sym queue) in
@@ -167,52 +201,12 @@ front-stored a new j c m h some front is =
     let after : groups_of new ≡ slice_set (groups_of qs) j (record g { queues = slice_set g.queues c (queue_in new j c) }) = ap groups_of is ∙ queue-set qs j c (queue_in new j c) g there.1 in
     let told : told_of new ≡ told_of qs = ap told_in after ∙ gone.told in
     let kept : IsKept (holding (seen a) new a.stuck.items) = subst (λ gs. IsKept (record (seen a) { groups = gs })) (sym after) gone.kept in
+    let site : record (seen a) { groups = groups_of new } ≡ with_queues (seen a) j g (without_front g.queues c) = front-site (seen a) qs new j c m g refl there.1 front is in
     record {
       kept = kept;
-      index = record {
-        named = λ site k home. h.index.named site k home ∙ ap (λ ds. locate ds site k home) (sym told);
-        queues = kept.queues;
-        apart = kept.apart;
-      };
+      once = λ i. omega (arith, h.once i, ap (λ (s : Site). over_waiting (id_of i) s) site, front-sum (id_of i) (seen a) j c g there.1);
+      few_waiting = omega (arith, h.few_waiting, ap (λ (s : Site). waiting_in s) site, front-sum one_each (seen a) j c g there.1);
+      index = index-same a.spots (groups_of qs) (groups_of new) h.index told kept.queues;
       numbers = subst (Each HasNumbers) (sym told) h.numbers;
       few = let many = sym (told-many new) ∙ ap length told ∙ told-many qs in omega (arith, h.few);
-    }
-
--- ---- a group is laid
-
--- the site would be stored with these groups, these stuck messages and this index
-pub record AreIndexed (a : Inside) (find : Key → Option Spot) (qs : Rows) (ws : List Waiting) : Type 0 where
-  pub kept : IsKept (holding (seen a) qs ws)
-  pub index : IsIndex find (groups_of qs)
-  pub numbers : Each HasNumbers (told_of qs)
-  pub few : length qs < 2 ^ 32
-
-pub room-stored : (a : Inside) (find : Key → Option Spot) (qs : Rows) → IsStored a → qs ≡ a.groups.groups → ((k : Key) → find k ≡ get same_key a.spots k) → AreIndexed a find qs a.stuck.items
-room-stored a find qs h groups same =
-    let back = sym groups in
-    record {
-      kept = subst (λ ps. IsKept (holding (seen a) ps a.stuck.items)) back h.kept;
-      index = record {
-        named = λ site k home. same (key_of site k home) ∙ h.index.named site k home ∙ ap (λ ps. locate (told_of ps) site k home) back;
-        queues = subst (λ ps. Each (λ (g : Group). AreQueues g.told.inst 0 g.told.counts g.queues) (groups_of ps)) back h.index.queues;
-        apart = subst (λ ps. AreApart (told_of ps)) back h.index.apart;
-      };
-      numbers = subst (λ ps. Each HasNumbers (told_of ps)) back h.numbers;
-      few = subst (λ (ps : Rows). length ps < 2 ^ 32) back h.few;
-    }
-
-pub laid-site : (s : Site) (more qs : Rows) (d e : Told) (stuck empty waiting ws : List Waiting) → groups_of more ≡ s.groups ++ new_group e ∷ [] → e ≡ d → empty ≡ [] → waiting ≡ s.stuck → put_all waiting (holding s more empty) ≡ holding s qs ws → holding s qs ws ≡ lay d s
-laid-site s more qs d e stuck empty waiting ws groups told none there put =
-    sym put ∙ ap (λ vs. put_all vs (holding s more empty)) there ∙ ap (λ vs. put_all s.stuck (holding s more vs)) none ∙ ap (λ gs. put_all s.stuck (record s { groups = gs; stuck = [] })) groups ∙ ap (λ (x : Told). lay x s) told
-
-pub laid-stored : (a : Inside) (find : Key → Option Spot) (qs : Rows) (ws : List Waiting) (d : Told) → IsStored a → CanLay d (seen a) → holding (seen a) qs ws ≡ lay d (seen a) → IsIndex find (groups_of qs) → length a.groups.groups + 1 < 2 ^ 32 → AreIndexed a find qs ws
-laid-stored a find qs ws d h can is index few =
-    let laid = lay_is d (seen a) h.kept can.here can.apart in
-    let told : told_of qs ≡ told_of a.groups.groups ++ d ∷ [] = ap (λ (s : Site). told_in s.groups) is ∙ laid.told in
-    let many = sym (told-many qs) ∙ ap length told ∙ length-append (told_of a.groups.groups) (d ∷ []) in
-    record {
-      kept = subst IsKept (sym is) laid.kept;
-      index = index;
-      numbers = subst (Each HasNumbers) (sym told) (Each-append HasNumbers (told_of a.groups.groups) (d ∷ []) h.numbers (can.numbers, tt));
-      few = omega (arith, few, told-many a.groups.groups);
     }

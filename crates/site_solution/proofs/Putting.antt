@@ -4,7 +4,7 @@ use Rattle.std.specs.Prelude.{slice_get, slice_set, replicate}
 use Rattle.chem_model.specs.declared.name.Loc.{Loc}
 use Rattle.wire_packet.specs.MessageFacts.{MessageParts}
 use Rattle.wire_packet.specs.declared.packet.Waiting.{Waiting}
-use Rattle.queue_cells.specs.Grouped.{Queued, with_queue, idle_group}
+use Rattle.queue_cells.specs.Grouped.{Queued, queue_in, with_queue, with_last, idle_group}
 use Rattle.net_laws.specs.Site.{Told, Group, Site, told_in}
 use Rattle.net_laws.specs.Holding.{in_groups, put_in, put, put_all, empty_queues, new_group}
 use Rattle.site_solution.specs.Index.{Rows, groups_of, told_of, holding}
@@ -45,3 +45,11 @@ queue-set (q ∷ qs) zero c ms g is =
     let same : record { told = q.told; queues = q.lists } ≡ g = cc in
     ap (λ (x : Group). record x { queues = slice_set x.queues c ms } ∷ groups_of qs) same
 queue-set (q ∷ qs) (suc j) c ms g is = ap (λ gs. record { told = q.told; queues = q.lists } ∷ gs) (queue-set qs j c ms g is)
+
+pub with-queue-many : (qs : Rows) (j c : ℕ) (ms : List MessageParts) → length (with_queue qs j c ms) ≡ length qs
+with-queue-many [] j c ms = refl
+with-queue-many (q ∷ qs) zero c ms = refl
+with-queue-many (q ∷ qs) (suc j) c ms = ap suc (with-queue-many qs j c ms)
+
+pub with-last-many : (qs : Rows) (j c : ℕ) (m : MessageParts) → length (with_last qs j c m) ≡ length qs
+with-last-many qs j c m = with-queue-many qs j c (queue_in qs j c ++ m ∷ [])

@@ -1,6 +1,7 @@
 -- The queue of a channel: where it is, and what it is for the groups as the laws see them.
 use Rattle.std.proofs.Common.{◌≡◌, ℕ, zero, suc, ◌+◌, ◌-◌, ◌<◌, ◌≤◌, Bool, true, false, cond, List, [], ◌∷◌, ◌++◌, length, Option, Some, None, refl, sym, ap, subst, ◌∙◌, arith, eqb-true, eq-eqb}
 use Rattle.std.specs.Prelude.{slice_get, slice_set, slice_index_or, ◌&&◌, ◌==◌, nat_lt}
+use Rattle.std.specs.HashMap.{get}
 use Rattle.std.proofs.lemmas.Bool.{and_parts}
 use Rattle.std.proofs.lemmas.Bool.Decides.{nat_tests}
 use Rattle.chem_model.specs.declared.name.Loc.{Loc}
@@ -22,8 +23,11 @@ use Rattle.net_laws.specs.Holding.{is_on, behind, queued_up, or_later, in_groups
 use Rattle.net_laws.proofs.Holding.{on_is, AreAllQueues, in_groups_is}
 use Rattle.net_laws.proofs.Holds.{each_get}
 use Rattle.site_solution.specs.declared.told.Spot.{Spot}
+use Rattle.site_solution.specs.declared.told.Mark.{Mark}
+use Rattle.site_solution.specs.declared.told.Spots.{Spots}
 use Rattle.site_solution.specs.Held.{queues_of}
-use Rattle.site_solution.specs.Index.{Rows, Key, groups_of, told_of, has_channel, locate_from, locate, is_count, on_count, counts_in, with_count, spot_on, spot_of, IsIndex}
+use Rattle.site_solution.proofs.Marks.{located-at, located-none}
+use Rattle.site_solution.specs.Index.{Rows, same_key, key_of, groups_of, told_of, has_channel, locate_from, locate, is_count, on_count, counts_in, with_count, spot_on, spot_of, mark_in, place_of, IsIndex}
 
 -- ---- groups as queue_cells has them
 
@@ -261,16 +265,30 @@ queue-there (q ∷ qs) zero c d are is within =
     (omega arith, omega (arith, are-many q.told.inst 0 q.told.counts q.lists are.0, subst (λ (x : Told). c < length x.counts) (sym same) within))
 queue-there (q ∷ qs) (suc g) c d are is within = let later = queue-there qs g c d are.1 is within in (omega (arith, later.0), later.1)
 
+pub told-length : (gs : List Group) → length (told_in gs) ≡ length gs
+told-length [] = refl
+told-length (g ∷ gs) = ap suc (told-length gs)
+
+-- the index is that of groups of which the same is told
+pub index-same : (spots : Spots) (gs hs : List Group) → IsIndex spots gs → told_in hs ≡ told_in gs → AreAllQueues hs → IsIndex spots hs
+index-same spots gs hs index told are = record {
+  many = index.many ∙ sym (told-length gs) ∙ ap length (sym told) ∙ told-length hs;
+  rise = index.rise;
+  named = λ site k home. index.named site k home ∙ ap (λ ds. mark_in spots.serials.items ds site k home) (sym told);
+  queues = are;
+  apart = subst AreApart (sym told) index.apart;
+}
+
 -- what the index tells of a message
-pub record IsTaken (find : Key → Option Spot) (qs : Rows) (m : MessageParts) (t : Spot) : Type 0 where
+pub record IsTaken (spots : Spots) (qs : Rows) (m : MessageParts) (t : Spot) : Type 0 where
   pub group : t.group < length qs
   pub chan : t.chan < length (lists_at qs t.group)
   pub is : in_groups (groups_of qs) m ≡ Some (groups_of (with_last qs t.group t.chan m))
-  pub index : IsIndex find (groups_of (with_last qs t.group t.chan m))
+  pub index : IsIndex spots (groups_of (with_last qs t.group t.chan m))
   pub same : told_of (with_last qs t.group t.chan m) ≡ told_of qs
 
-pub taken : (find : Key → Option Spot) (qs : Rows) (m : MessageParts) (t : Spot) → IsIndex find (groups_of qs) → spot_of (told_of qs) m ≡ Some t → IsTaken find qs m t
-taken find qs m t index is =
+pub taken : (spots : Spots) (qs : Rows) (m : MessageParts) (t : Spot) → IsIndex spots (groups_of qs) → spot_of (told_of qs) m ≡ Some t → IsTaken spots qs m t
+taken spots qs m t index is =
     let it = takes (told_of qs) m t m.on refl is in
     let there = queue-there qs t.group t.chan it.told index.queues it.is it.chan.within in
     let put = in-at qs t.group t.chan m it.told index.queues index.apart it.is it.chan.on it.count in
@@ -279,30 +297,37 @@ taken find qs m t index is =
       group = there.0;
       chan = there.1;
       is = put;
-      index = record {
-        named = λ site k home. index.named site k home ∙ ap (λ ds. locate ds site k home) (sym up.same);
-        queues = up.are;
-        apart = subst AreApart (sym up.same) index.apart;
-      };
+      index = index-same spots (groups_of qs) (groups_of (with_last qs t.group t.chan m)) index up.same up.are;
       same = up.same;
     }
 
-pub not_taken : (find : Key → Option Spot) (qs : Rows) (m : MessageParts) → IsIndex find (groups_of qs) → spot_of (told_of qs) m ≡ None → in_groups (groups_of qs) m ≡ None
-not_taken find qs m index is = in-none (groups_of qs) m (fits-none (told_of qs) m m.on index.apart refl is)
+pub not_taken : (spots : Spots) (qs : Rows) (m : MessageParts) → IsIndex spots (groups_of qs) → spot_of (told_of qs) m ≡ None → in_groups (groups_of qs) m ≡ None
+not_taken spots qs m index is = in-none (groups_of qs) m (fits-none (told_of qs) m m.on index.apart refl is)
 
 -- where the index has a channel, its group is there
-pub found-group : (find : Key → Option Spot) (qs : Rows) (site k : ℕ) (home : Loc) (t : Spot) → IsIndex find (groups_of qs) → find ((site, k), (home.site, home.k)) ≡ Some t → t.group < length qs
-found-group find qs site k home t index is =
-    let it = located (told_of qs) site k home t (sym (index.named site k home) ∙ is) in
-    (queue-there qs t.group t.chan it.told index.queues it.is it.chan.within).0
+pub found-at : (spots : Spots) (qs : Rows) (site k : ℕ) (home : Loc) (m : Mark) → IsIndex spots (groups_of qs) → get same_key spots.marks ((site, k), (home.site, home.k)) ≡ Some m → locate (told_of qs) site k home ≡ Some (record { group = place_of m.serial spots.serials.items; chan = m.chan })
+found-at spots qs site k home m index is = located-at spots.serials.items spots.next (told_of qs) site k home m index.rise (index.many ∙ sym (told-length (groups_of qs))) (sym (index.named site k home) ∙ is)
+
+pub found-group : (spots : Spots) (qs : Rows) (site k : ℕ) (home : Loc) (m : Mark) → IsIndex spots (groups_of qs) → get same_key spots.marks ((site, k), (home.site, home.k)) ≡ Some m → place_of m.serial spots.serials.items < length qs
+found-group spots qs site k home m index is =
+    let it = located (told_of qs) site k home (record { group = place_of m.serial spots.serials.items; chan = m.chan }) (found-at spots qs site k home m index is) in
+    (queue-there qs (place_of m.serial spots.serials.items) m.chan it.told index.queues it.is it.chan.within).0
 
 -- so what the code reads is the queue that takes the message
-pub spot-is : (find : Key → Option Spot) (qs : Rows) (m : MessageParts) (site k : ℕ) (home : Loc) (t : Spot) (q : Queued Told MessageParts) (r : Option Spot) → IsIndex find (groups_of qs) → m.on ≡ name.Chan site k home → find ((site, k), (home.site, home.k)) ≡ Some t → slice_get qs t.group ≡ Some q → r ≡ on_count (slice_get q.told.counts t.chan) (length m.args) t → r ≡ spot_of (told_of qs) m
-spot-is find qs m site k home t q r index on is there read =
-    let at : locate (told_of qs) site k home ≡ Some t = sym (index.named site k home) ∙ is in
+pub spot-is : (spots : Spots) (qs : Rows) (m : MessageParts) (site k : ℕ) (home : Loc) (u : Mark) (q : Queued Told MessageParts) (r : Option Spot) → IsIndex spots (groups_of qs) → m.on ≡ name.Chan site k home → get same_key spots.marks ((site, k), (home.site, home.k)) ≡ Some u → slice_get qs (place_of u.serial spots.serials.items) ≡ Some q
+    → r ≡ on_count (slice_get q.told.counts u.chan) (length m.args) (record { group = place_of u.serial spots.serials.items; chan = u.chan }) → r ≡ spot_of (told_of qs) m
+spot-is spots qs m site k home u q r index on is there read =
+    let t : Spot = record { group = place_of u.serial spots.serials.items; chan = u.chan } in
+    let at : locate (told_of qs) site k home ≡ Some t = found-at spots qs site k home u index is in
     let told = told-at qs t.group q there in
     let counted : with_count (told_of qs) (length m.args) (locate (told_of qs) site k home) ≡ on_count (slice_get q.told.counts t.chan) (length m.args) t = ap (with_count (told_of qs) (length m.args)) at ∙ ap (λ o. on_count (slice_get (counts_in o) t.chan) (length m.args) t) told in
     read ∙ sym counted ∙ sym (ap (λ n. spot_on (told_of qs) n (length m.args)) on)
+
+-- a message whose channel has no mark is taken by none
+pub spot-none : (spots : Spots) (qs : Rows) (m : MessageParts) (site k : ℕ) (home : Loc) → IsIndex spots (groups_of qs) → m.on ≡ name.Chan site k home → get same_key spots.marks ((site, k), (home.site, home.k)) ≡ None → spot_of (told_of qs) m ≡ None
+spot-none spots qs m site k home index on is =
+    let none = located-none spots.serials.items spots.next (told_of qs) site k home index.rise (index.many ∙ sym (told-length (groups_of qs))) (sym (index.named site k home) ∙ is) in
+    ap (λ n. spot_on (told_of qs) n (length m.args)) on ∙ ap (with_count (told_of qs) (length m.args)) none
 
 -- ---- a group is added
 

@@ -1,5 +1,5 @@
 -- What a site holds: its queues, and the ids of what waits there.
-use Rattle.std.specs.Prelude.{ℕ, Bool, ◌||◌, List, [], Option, Some, None, is_some}
+use Rattle.std.specs.Prelude.{ℕ, Bool, ◌||◌, List, [], ◌∷◌, Option, Some, None, is_some}
 use Rattle.std.specs.Prelude.{slice_get, slice_index_or, drop, slice_set}
 use Rattle.std.specs.List.{list_any}
 use Rattle.chem_model.specs.declared.event.AtomId.{AtomId}
@@ -9,6 +9,7 @@ use Rattle.wire_packet.specs.declared.packet.Waiting.{Waiting}
 use Rattle.wire_packet.specs.declared.packet.GroupInst.{GroupInst}
 use Rattle.net_laws.specs.Site.{Group, Site}
 use Rattle.net_laws.specs.Holding.{request_with}
+use Rattle.net_laws.specs.Posting.{with_queues}
 
 -- ---- its groups and their queues
 
@@ -27,6 +28,19 @@ queue_of gs j c = slice_index_or (queues_of gs j) c []
 -- the queues but the front of one of them
 abbrev pub without_front : List (List MessageParts) → ℕ → List (List MessageParts)
 without_front qs c = slice_set qs c (drop 1 (slice_index_or qs c []))
+
+-- the queues but, of each of these channels in turn, the front
+abbrev pub without_fronts : List (List MessageParts) → List ℕ → List (List MessageParts)
+without_fronts qs [] = qs
+without_fronts qs (c ∷ cs) = without_fronts (without_front qs c) cs
+
+-- the site without these fronts of a group
+abbrev pub taken_in : Option Group → ℕ → List ℕ → Site → Site
+taken_in None j cs s = s
+taken_in (Some g) j cs s = with_queues s j g (without_fronts g.queues cs)
+
+abbrev pub taken_at : ℕ → List ℕ → Site → Site
+taken_at j cs s = taken_in (slice_get s.groups j) j cs s
 
 abbrev pub inst_in : Option Group → Option GroupInst
 inst_in None = None

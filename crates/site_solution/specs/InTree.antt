@@ -1,44 +1,39 @@
 -- When all that a site holds and names is in a tree.
-use Rattle.std.specs.Prelude.{ℕ, Bool, true, false, ◌&&◌, ◌==◌, List, Option, Some, None, is_some}
+use Rattle.std.specs.Prelude.{ℕ, Bool, false, ◌&&◌, ◌==◌, List, Option, Some, None}
 use Rattle.std.specs.List.{list_all}
 use Rattle.chem_model.specs.declared.name.Loc.{Loc}
 use Rattle.chem_model.specs.declared.name.Name.{Name}
-use Rattle.chem_model.specs.declared.name.Name.TheVariants as name
 use Rattle.chem_model.specs.Opening.{root_of}
 use Rattle.wire_packet.specs.MessageFacts.{MessageParts}
-use Rattle.wire_packet.specs.declared.packet.Waiting.{Waiting}
 use Rattle.wire_packet.specs.declared.packet.Request.{Request}
 use Rattle.wire_packet.specs.declared.packet.Ask.{Ask}
-use Rattle.wire_packet.specs.declared.packet.Ask.TheVariants as request
 use Rattle.loc_tree.specs.Tree.{Tree, spot, number_in}
 use Rattle.net_laws.specs.Site.{Group, Site}
 use Rattle.net_laws.specs.Net.{among}
+use Rattle.site_solution.specs.Named.{name_in, names_in, message_in, queues_in, group_in}
+use Rattle.site_solution.specs.Named.{ask_in, request_in, all_in, in_tree}
 
 -- the location that a name names, or the home of the channel, is in the tree
 abbrev pub name_stands : Tree → Name → Bool
-name_stands t (name.Seen i) = true
-name_stands t (name.Place a) = is_some (spot t a)
-name_stands t (name.Chan s k h) = is_some (spot t h)
+name_stands t = name_in (in_tree t)
 
 abbrev pub names_stand : Tree → List Name → Bool
-names_stand t ns = list_all (name_stands t) ns
+names_stand t = names_in (in_tree t)
 
 abbrev pub message_stands : Tree → MessageParts → Bool
-message_stands t m = name_stands t m.on && names_stand t m.args
+message_stands t = message_in (in_tree t)
 
 abbrev pub queues_stand : Tree → List (List MessageParts) → Bool
-queues_stand t qs = list_all (list_all (message_stands t)) qs
+queues_stand t = queues_in (in_tree t)
 
 abbrev pub group_stands : Tree → Group → Bool
-group_stands t g = names_stand t g.told.inst.env && queues_stand t g.queues
+group_stands t = group_in (in_tree t)
 
 abbrev pub ask_stands : Tree → Ask → Bool
-ask_stands t (request.Go b k) = name_stands t b && name_stands t k
-ask_stands t (request.Fail a k) = name_stands t a && name_stands t k
-ask_stands t request.Halt = true
+ask_stands t = ask_in (in_tree t)
 
 abbrev pub request_stands : Tree → Request → Bool
-request_stands t q = ask_stands t q.ask
+request_stands t = request_in (in_tree t)
 
 -- the location is in the tree with this number
 abbrev pub is_number : Option ℕ → ℕ → Bool
@@ -53,6 +48,4 @@ has_number t i l = is_number (number_in (spot t l)) i
 abbrev pub is_in_tree : Tree → Site → Bool
 is_in_tree t s =
     (list_all (has_number t s.number) s.locs && among s.locs (root_of s.number))
-    && (list_all (group_stands t) s.groups
-    && (list_all (λ (w : Waiting). message_stands t w.msg) s.stuck
-    && list_all (request_stands t) s.requests))
+    && all_in (in_tree t) s

@@ -1,6 +1,8 @@
 -- Where the queue of a channel is, and the index that tells. No public contract cites it.
-use Rattle.std.specs.Prelude.{◌≡◌, ℕ, ◌+◌, ◌-◌, Bool, ◌&&◌, cond, List, [], ◌∷◌, length, nat_eq}
+use Rattle.std.specs.Prelude.{◌≡◌, ℕ, suc, ◌+◌, ◌-◌, ◌<◌, ◌≤◌, ◌^◌, Bool, ◌&&◌, cond}
+use Rattle.std.specs.Prelude.{List, [], ◌∷◌, length, nat_eq, vec_len, vec_capacity}
 use Rattle.std.specs.Prelude.{Option, Some, None, ◌==◌, slice_get, nat_lt, false}
+use Rattle.std.specs.HashMap.{get, spare}
 use Rattle.chem_model.specs.declared.name.Loc.{Loc}
 use Rattle.chem_model.specs.declared.name.Name.{Name}
 use Rattle.chem_model.specs.declared.name.Name.TheVariants as name
@@ -12,7 +14,10 @@ use Rattle.queue_cells.specs.Grouped.{Queued}
 use Rattle.net_laws.specs.Site.{Told, Group, Site, told_in}
 use Rattle.net_laws.specs.Changes.{AreQueues}
 use Rattle.net_laws.specs.Kept.{AreApart}
+use Rattle.net_laws.specs.Holding.{new_group}
 use Rattle.site_solution.specs.declared.told.Spot.{Spot}
+use Rattle.site_solution.specs.declared.told.Mark.{Mark}
+use Rattle.site_solution.specs.declared.told.Spots.{Spots}
 
 -- ---- groups as queue_cells has them
 
@@ -25,6 +30,11 @@ groups_of (q ∷ qs) = record { told = q.told; queues = q.lists } ∷ groups_of 
 
 abbrev pub told_of : Rows → List Told
 told_of qs = told_in (groups_of qs)
+
+-- groups with empty queues
+abbrev pub new_groups : List Told → List Group
+new_groups [] = []
+new_groups (d ∷ ds) = new_group d ∷ new_groups ds
 
 -- a site with other groups and other stuck messages
 abbrev pub holding : Site → Rows → List Waiting → Site
@@ -95,10 +105,40 @@ spot_of ds m = spot_on ds m.on (length m.args)
 
 -- ---- the index
 
--- it has exactly the channels of the groups, which are apart, and each queue holds messages on its
--- channel with its count
-pub record IsIndex (find : Key → Option Spot) (gs : List Group) : Type 0 where
+-- the serial of the first group with this channel, and the channel's place there
+abbrev pub mark_in : List ℕ → List Told → ℕ → ℕ → Loc → Option Mark
+mark_in [] ds site k home = None
+mark_in (s ∷ ss) [] site k home = None
+mark_in (s ∷ ss) (d ∷ ds) site k home =
+    cond (has_channel d site k home)
+    (Some (record { serial = s; chan = k - d.inst.chans.k }))
+    (mark_in ss ds site k home)
+
+-- the first of these is at least `least`, each other one more than those before it, and `next` more
+-- than all
+abbrev pub Rise : ℕ → List ℕ → ℕ → Type 0
+Rise least [] next = least ≤ next
+Rise least (s ∷ ss) next = (least ≤ s) × Rise (suc s) ss next
+
+-- how many of them are below a number, where they rise
+abbrev pub place_of : ℕ → List ℕ → ℕ
+place_of n [] = 0
+place_of n (s ∷ ss) = cond (nat_lt s n) (suc (place_of n ss)) 0
+
+-- each group has a serial, and these rise; it has exactly the channels of the groups, which are
+-- apart; and each queue holds messages on its channel with its count
+pub record IsIndex (spots : Spots) (gs : List Group) : Type 0 where
+  pub many : length spots.serials.items ≡ length gs
+  pub rise : Rise 0 spots.serials.items spots.next
   pub named :
-      (site k : ℕ) (home : Loc) → find (key_of site k home) ≡ locate (told_in gs) site k home
+      (site k : ℕ) (home : Loc)
+      → get same_key spots.marks (key_of site k home)
+      ≡ mark_in spots.serials.items (told_in gs) site k home
   pub queues : Each (λ (g : Group). AreQueues g.told.inst 0 g.told.counts g.queues) gs
   pub apart : AreApart (told_in gs)
+
+-- there is room for so many groups more, which have so many channels
+pub record HasRoom (spots : Spots) (groups channels : ℕ) : Type 0 where
+  pub serials : groups ≤ vec_capacity spots.serials - vec_len spots.serials
+  pub numbers : spots.next + groups < 2 ^ 64
+  pub marks : channels ≤ spare spots.marks

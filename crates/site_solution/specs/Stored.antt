@@ -1,25 +1,28 @@
 -- How a site lies in its fields. No public contract cites it.
-use Rattle.std.specs.Prelude.{◌<◌, ◌^◌, length}
-use Rattle.std.specs.HashMap.{get}
+use Rattle.std.specs.Prelude.{◌<◌, ◌≤◌, ◌^◌, length}
+use Rattle.chem_model.specs.declared.event.AtomId.{AtomId}
 use Rattle.chem_model.specs.Each.{Each}
 use Rattle.net_laws.specs.Site.{Site, told_in}
 use Rattle.net_laws.specs.Kept.{IsKept}
 use Rattle.site_solution.specs.declared.site.Site.TheInside.{Inside}
 use Rattle.site_solution.specs.CanLay.{HasNumbers}
-use Rattle.site_solution.specs.Index.{groups_of, same_key, IsIndex}
+use Rattle.site_solution.specs.Counted.{times, waiting_in}
+use Rattle.site_solution.specs.Index.{groups_of, IsIndex}
 
 abbrev pub seen : Inside → Site
 seen a = record {
   number = a.number;
   made = a.made;
-  locs = a.locs;
+  locs = a.locs.locs;
   groups = groups_of a.groups.groups;
   stuck = a.stuck.items;
-  requests = a.requests;
+  requests = a.requests.items;
 }
 
 pub record IsStored (a : Inside) : Type 0 where
   pub kept : IsKept (seen a)
-  pub index : IsIndex (get same_key a.spots) (groups_of a.groups.groups)
+  pub once : (i : AtomId) → times i (seen a) ≤ 1
+  pub few_waiting : waiting_in (seen a) < 2 ^ 32
+  pub index : IsIndex a.spots (groups_of a.groups.groups)
   pub numbers : Each HasNumbers (told_in (groups_of a.groups.groups))
   pub few : length a.groups.groups < 2 ^ 32

@@ -1,30 +1,31 @@
 // Requests in the order of their ids.
 ghost use Rattle.std.specs.Prelude.{◌≡◌, [], length, slice_get, Some, None, IsSome, OnOk, OnErr};
-ghost use Rattle.std.specs.Prelude.{◌≤◌, option_copied};
+ghost use Rattle.std.specs.Prelude.{◌≤◌, ◌<◌, ◌+◌, ◌^◌, option_copied};
 ghost use Rattle.chem_model.specs.Apply.{same_atom};
 ghost use Rattle.net_laws.specs.Holding.{precedes, request_with, with_request, without_request};
-ghost use Rattle.site_solution.specs.Rising.{rank};
+ghost use Rattle.site_solution.specs.Rising.{rank, with_requests, AreNewIn};
 
 use chem_model::{AtomId, Memory};
 use std::alloc::Global;
 use std::marker::Model;
 use wire_packet::Request;
 
-// Requests, fewer than 2^32, seen as a list whose ids rise.
+// Requests, fewer than 2^32, whose ids rise.
 #[derive(Drop)]
 pub(crate) struct Asked {
     items: Vec<Request>,
 }
 
 impl Model for Asked {
-    ghost use Rattle.std.specs.Prelude.{List};
-    ghost use Rattle.wire_packet.specs.declared.packet.Request.{Request};
+    ghost use Rattle.std.specs.Prelude.{◌-◌, vec_len, vec_capacity};
+    ghost use Rattle.site_solution.specs.Rising.{Pending, AreAsked};
 
-    ghost Value = { List Request };
+    ghost Value = { Pending };
 
-    ghost use Rattle.site_solution.specs.Rising.{AreAsked};
-
-    ghost view = { λ r. r.items.items };
+    ghost view = { λ r. record {
+      items = r.items.items;
+      spare = vec_capacity r.items - vec_len r.items;
+    } };
 
     ghost invariant = { λ r. AreAsked r.items.items };
 }
@@ -43,7 +44,7 @@ pub(crate) fn is_same(one: AtomId, other: AtomId) -> bool
 
 impl Asked {
     pub(crate) fn new(alloc: Global) -> Asked
-        ensures { result ≡ [] }
+        ensures { result.items ≡ [] }
     {
         Asked {
             items: Vec::new(alloc),
@@ -52,8 +53,8 @@ impl Asked {
 
     // How many come before the id.
     fn rank(&self, id: AtomId) -> usize
-        ensures rank { result ≡ rank id self.now }
-        ensures within { result ≤ length self.now }
+        ensures rank { result ≡ rank id self.now.items }
+        ensures within { result ≤ length self.now.items }
     {
         let mut low = 0;
         let mut high = self.items.len();
@@ -70,7 +71,7 @@ impl Asked {
 
     // The request with this id.
     pub(crate) fn find(&self, id: AtomId) -> Option<&Request>
-        ensures { option_copied result ≡ request_with id self.now }
+        ensures { option_copied result ≡ request_with id self.now.items }
     {
         let rank = self.rank(id);
         if rank >= self.items.len() {
@@ -86,36 +87,70 @@ impl Asked {
 
     // The request at this place in the order of ids.
     pub(crate) fn at(&self, index: usize) -> Option<&Request>
-        ensures { option_copied result ≡ slice_get self.now index }
+        ensures { option_copied result ≡ slice_get self.now.items index }
     {
         self.items.get(index)
     }
 
     // All of them.
     pub(crate) fn as_slice(&self) -> &[Request]
-        ensures { result.now ≡ self.now }
+        ensures { result.now ≡ self.now.items }
     {
         &self.items
     }
 
-    // Adds a request.
-    pub(crate) fn add(&mut self, request: Request) -> Result<(), Memory>
-        requires { request_with request.id self.old ≡ None }
-        ensures ok { OnOk result (self.new ≡ with_request request self.old) }
-        ensures err { OnErr result (self.new ≡ self.old) }
+    // Makes room for more requests.
+    pub(crate) fn reserve(&mut self, more: usize) -> Result<(), Memory>
+        ensures room { OnOk result (more ≤ self.new.spare) }
+        ensures few { OnOk result (length self.old.items + more < 2 ^ 32) }
+        ensures same { self.new.items ≡ self.old.items }
     {
-        if self.items.len() >= u32::MAX as usize {
+        if more > u32::MAX as usize - self.items.len() {
             return Err(Memory);
         }
-        let rank = self.rank(request.id);
-        self.items.insert(rank, request)?;
+        self.items.reserve(more)?;
         Ok(())
+    }
+
+    // Adds a request. It takes no memory.
+    pub(crate) fn add_reserved(&mut self, request: Request)
+        requires room { 1 ≤ self.old.spare }
+        requires few { length self.old.items + 1 < 2 ^ 32 }
+        requires new { request_with request.id self.old.items ≡ None }
+        ensures items { self.new.items ≡ with_request request self.old.items }
+        ensures spare { self.old.spare ≤ self.new.spare + 1 }
+    {
+        let rank = self.rank(request.id);
+        let _ = self.items.insert(rank, request);
+    }
+
+    // Adds a request.
+    pub(crate) fn add(&mut self, request: Request) -> Result<(), Memory>
+        requires { request_with request.id self.old.items ≡ None }
+        ensures ok { OnOk result (self.new.items ≡ with_request request self.old.items) }
+        ensures err { OnErr result (self.new.items ≡ self.old.items) }
+    {
+        self.reserve(1)?;
+        self.add_reserved(request);
+        Ok(())
+    }
+
+    // Adds requests. It takes no memory.
+    pub(crate) fn add_all(&mut self, requests: &[Request])
+        requires room { length requests.now ≤ self.old.spare }
+        requires few { length self.old.items + length requests.now < 2 ^ 32 }
+        requires new { AreNewIn self.old.items requests.now }
+        ensures { self.new.items ≡ with_requests requests.now self.old.items }
+    {
+        for request in requests {
+            self.add_reserved(*request);
+        }
     }
 
     // Drops a request.
     pub(crate) fn remove(&mut self, id: AtomId)
-        requires { IsSome (request_with id self.old) }
-        ensures { self.new ≡ without_request id self.old }
+        requires { IsSome (request_with id self.old.items) }
+        ensures { self.new.items ≡ without_request id self.old.items }
     {
         let rank = self.rank(id);
         self.items.remove(rank);

@@ -1,27 +1,65 @@
 // The queue of a message's channel.
-ghost use Rattle.std.specs.Prelude.{◌≡◌, ◌≤◌, ◌+◌, ◌-◌, ◌^◌, ◌++◌};
-ghost use Rattle.std.specs.Prelude.{◌∷◌, [], ℕ, Some, cond, length, slice_get};
-ghost use Rattle.std.specs.Prelude.{vec_capacity};
-ghost use Rattle.std.specs.Prelude.{◌<◌, OnOk, OnErr, IfErr};
+ghost use Rattle.std.specs.Prelude.{◌≡◌, ◌≤◌, ◌<◌, ◌+◌, ◌-◌, ◌^◌, ◌++◌, ◌∷◌, [], ℕ, List, Some, cond};
+ghost use Rattle.std.specs.Prelude.{length, slice_get, vec_capacity, OnOk, OnErr, IfErr};
 ghost use Rattle.std.specs.HashMap as hash;
-ghost use Rattle.queue_cells.specs.Grouped.{lists_at, with_last};
 ghost use Rattle.std.specs.HashMap.{spare};
+ghost use Rattle.queue_cells.specs.Grouped.{lists_at, with_last};
 ghost use Rattle.chem_model.specs.declared.name.Loc.{Loc};
-ghost use Rattle.net_laws.specs.Site.{Site};
+ghost use Rattle.net_laws.specs.Site.{Group, Site};
 ghost use Rattle.net_laws.specs.Kept.{AreApart};
 ghost use Rattle.net_laws.specs.Holding.{put_all, new_group};
 ghost use Rattle.site_solution.specs.Index.{key_of, is_one_of, holding};
 ghost use Rattle.site_solution.specs.Index.{groups_of, told_of, same_key, spot_of};
-ghost use Rattle.site_solution.specs.Index.{on_count, IsIndex};
+ghost use Rattle.site_solution.specs.Index.{on_count, Rise, place_of, IsIndex, HasRoom};
 
-use crate::told::{Spot, Told};
+use crate::told::{Mark, Spot, Spots, Told};
 use chem_model::{AtomId, Loc, Memory, Name};
 use queue_cells::{Groups, Idle};
+use std::alloc::Global;
 use std::collections::HashMap;
 use wire_packet::{Msg, Waiting};
 
-// The queue of each channel that a group has, by the channel's pair and that of its home.
-pub(crate) type Spots = HashMap<((u32, u64), (u32, u64)), Spot>;
+// The index of no group.
+pub(crate) fn no_spots(alloc: Global) -> Spots
+    ensures { IsIndex result [] }
+{
+    Spots {
+        marks: HashMap::new(alloc),
+        serials: Vec::new(alloc),
+        next: 0,
+    }
+}
+
+// Makes room for so many groups more, which have so many channels.
+pub(crate) fn reserve_spots(spots: &mut Spots, groups: usize, channels: usize) -> Result<(), Memory>
+    ensures room { OnOk result (HasRoom spots.new groups channels) }
+    ensures index { (gs : List Group) → IsIndex spots.old gs → IsIndex spots.new gs }
+{
+    if groups as u64 >= u64::MAX - spots.next {
+        return Err(Memory);
+    }
+    spots.serials.reserve(groups)?;
+    spots.marks.reserve(channels)?;
+    Ok(())
+}
+
+// How many serials are below this one.
+fn place_of(serials: &[u64], serial: u64) -> usize
+    requires { (least next : ℕ) × Rise least serials.now next }
+    ensures { result ≡ place_of serial serials.now }
+{
+    let mut low = 0;
+    let mut high = serials.len();
+    while low < high {
+        let middle = low + (high - low) / 2;
+        if serials[middle] < serial {
+            low = middle + 1;
+        } else {
+            high = middle;
+        }
+    }
+    low
+}
 
 // The queue, where messages of this count go into it.
 fn with_count(told: &Told, spot: Spot, count: usize) -> Option<Spot>
@@ -35,13 +73,17 @@ fn with_count(told: &Told, spot: Spot, count: usize) -> Option<Spot>
 
 // The queue that takes a message, if there is one.
 pub(crate) fn find(groups: &Groups<Told, Msg>, spots: &Spots, msg: &Msg) -> Option<Spot>
-    requires { IsIndex (hash.get same_key spots.now) (groups_of groups.now.groups) }
+    requires { IsIndex spots.now (groups_of groups.now.groups) }
     ensures { result ≡ spot_of (told_of groups.now.groups) msg.now }
 {
     let Name::Chan { site, k, home } = msg.on else {
         return None;
     };
-    let spot = *spots.get(&((site, k), (home.site, home.k)))?;
+    let mark = *spots.marks.get(&((site, k), (home.site, home.k)))?;
+    let spot = Spot {
+        group: place_of(&spots.serials, mark.serial),
+        chan: mark.chan,
+    };
     with_count(groups.told(spot.group), spot, msg.args.len())
 }
 
@@ -65,18 +107,21 @@ pub(crate) fn push_back(
     Ok(())
 }
 
-// Notes the queues of a new group. It takes no memory.
-pub(crate) fn name_queues(spots: &mut Spots, first: AtomId, home: Loc, width: u32, group: usize)
-    requires room { width ≤ spare spots.old }
+// Notes the queues of a new group with this serial. It takes no memory.
+pub(crate) fn name_queues(spots: &mut Spots, first: AtomId, home: Loc, width: u32, serial: u64)
+    requires room { width ≤ spare spots.old.marks }
     requires fits { first.k + width ≤ 2 ^ 64 }
-    ensures { (site k : ℕ) (at : Loc) → hash.get same_key spots.new (key_of site k at)
+    ensures named { (site k : ℕ) (at : Loc) → hash.get same_key spots.new.marks (key_of site k at)
         ≡ cond (is_one_of first.site first.k width home site k at)
-        (Some (record { group = group; chan = k - first.k }))
-        (hash.get same_key spots.old (key_of site k at)) }
+        (Some (record { serial = serial; chan = k - first.k }))
+        (hash.get same_key spots.old.marks (key_of site k at)) }
+    ensures room { spare spots.old.marks ≤ spare spots.new.marks + width }
+    ensures serials { spots.new.serials ≡ spots.old.serials }
+    ensures next { spots.new.next ≡ spots.old.next }
 {
     for chan in 0..width {
         let key = ((first.site, first.k + chan as u64), (home.site, home.k));
-        let _ = spots.insert(key, Spot { group, chan });
+        let _ = spots.marks.insert(key, Mark { serial, chan });
     }
 }
 
@@ -88,12 +133,16 @@ pub(crate) fn settle(
     stuck: &mut Vec<Waiting>,
     waiting: Vec<Waiting>,
 )
-    requires index { IsIndex (hash.get same_key spots.now) (groups_of groups.old.groups) }
+    requires index { IsIndex spots.now (groups_of groups.old.groups) }
     requires room { length waiting.items ≤ groups.old.spare }
     requires fits { length waiting.items + length stuck.old.items ≤ vec_capacity stuck.old }
     ensures site { (s : Site) → put_all waiting.items (holding s groups.old.groups stuck.old.items)
         ≡ holding s groups.new.groups stuck.new.items }
-    ensures index { IsIndex (hash.get same_key spots.now) (groups_of groups.new.groups) }
+    ensures index { IsIndex spots.now (groups_of groups.new.groups) }
+    ensures many { length groups.new.groups ≡ length groups.old.groups }
+    ensures spare { groups.old.spare ≤ groups.new.spare + length waiting.items }
+    ensures capacity { vec_capacity stuck.new ≡ vec_capacity stuck.old }
+    ensures stuck { length stuck.new.items ≤ length stuck.old.items + length waiting.items }
 {
     for one in waiting {
         if let Some(spot) = find(groups, spots, &one.msg) {
@@ -114,20 +163,24 @@ pub(crate) fn add_group(
     home: Loc,
     width: u32,
 )
-    requires index { IsIndex (hash.get same_key spots.old) (groups_of groups.old.groups) }
+    requires index { IsIndex spots.old (groups_of groups.old.groups) }
     requires first { idle.told.inst.chans ≡ first }
     requires home { idle.told.inst.loc ≡ home }
     requires width { (idle.width ≡ width) × (length idle.told.counts ≡ width) }
     requires fits { first.k + width ≤ 2 ^ 64 }
     requires apart { AreApart (told_of groups.old.groups ++ idle.told ∷ []) }
-    requires room { (1 ≤ groups.old.spare_groups) × (width ≤ spare spots.old) }
+    requires room { (1 ≤ groups.old.spare_groups) × HasRoom spots.old 1 width }
     ensures groups { groups_of groups.new.groups
         ≡ groups_of groups.old.groups ++ new_group idle.told ∷ [] }
     ensures many { length groups.new.groups ≡ length groups.old.groups + 1 }
     ensures spare { groups.new.spare ≡ groups.old.spare }
-    ensures index { IsIndex (hash.get same_key spots.new) (groups_of groups.new.groups) }
+    ensures spare_groups { groups.new.spare_groups + 1 ≡ groups.old.spare_groups }
+    ensures index { IsIndex spots.new (groups_of groups.new.groups) }
+    ensures left { (g c : ℕ) → HasRoom spots.old (g + 1) (c + width) → HasRoom spots.new g c }
 {
-    let group = groups.len();
+    let serial = spots.next;
     groups.add_reserved(idle);
-    name_queues(spots, first, home, width, group);
+    name_queues(spots, first, home, width, serial);
+    spots.serials.push_reserved(serial);
+    spots.next = serial + 1;
 }

@@ -5,7 +5,14 @@
 #![tactic(auto)]
 
 mod asked;
+mod commit;
+mod effects;
 mod finding;
+mod forgetting;
+mod more;
+mod packing;
+mod places;
+mod pouring;
 mod site;
 mod testing;
 #[cfg(test)]
@@ -13,5 +20,6 @@ mod tests;
 mod told;
 mod walking;
 
+pub use effects::Effects;
 pub use site::{Site, site_is_kept};
 pub use walking::message_is_there;

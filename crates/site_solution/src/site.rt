@@ -7,8 +7,8 @@ ghost use Rattle.net_laws.specs.Site.{Group, told_in};
 ghost use Rattle.net_laws.specs.Net.{among, home_or};
 ghost use Rattle.net_laws.specs.Opening.{empty_site};
 ghost use Rattle.net_laws.specs.Posting.{with_queues};
+ghost use Rattle.net_laws.specs.ByCode.{told_by};
 ghost use Rattle.net_laws.specs.Kept.{IsKept};
-ghost use Rattle.site_solution.specs.Told.{told_by};
 ghost use Rattle.chem_model.specs.Each.{Each};
 ghost use Rattle.site_solution.specs.CanLay.{CanLay, HasNumbers};
 ghost use Rattle.net_laws.specs.Holding.{put, ask, lay, host_all, request_with, drop_request};
@@ -18,26 +18,30 @@ ghost use Rattle.std.specs.List.{list_all};
 ghost use Rattle.std.specs.Prelude.{is_some};
 ghost use Rattle.loc_tree.specs.Tree.{spot};
 ghost use Rattle.chem_model.specs.declared.name.Loc.{Loc};
+ghost use Rattle.chem_model.specs.declared.event.AtomId.{AtomId};
 ghost use Rattle.site_solution.specs.InCode.{is_in_code};
 ghost use Rattle.site_solution.specs.Draws.{all_drawn, CanDraw};
 ghost use Rattle.site_solution.specs.InTree.{has_number, is_in_tree};
 ghost use Rattle.site_solution.specs.Held.{queues_of, queue_of, without_front, inst_in, has_atom};
+ghost use Rattle.site_solution.specs.Held.{taken_at};
+ghost use Rattle.site_solution.specs.Counted.{times, waiting_in};
+ghost use Rattle.site_solution.specs.More.{CanAdd, added};
 
 use crate::asked::Asked;
-use crate::finding::{Spots, add_group, find, push_back, settle};
+use crate::finding::{find, no_spots, push_back, settle};
+use crate::more::{More, add_groups, make_room, new_group, take_fronts, told_by};
+use crate::places::Places;
 use crate::testing::{
     Count, are_told_by, groups_are_drawn, locs_are_drawn, requests_are_drawn, stuck_are_drawn,
 };
-use crate::told::Told;
+use crate::told::{Spots, Told};
 use crate::walking::{groups_are_there, in_groups, in_stuck, requests_are_there, stuck_are_there};
-use chem_model::{AtomId, Items, Loc, Memory, same_loc};
+use chem_model::{AtomId, Loc, Memory};
 use env_store::Code;
 use loc_tree::LocTree;
-use queue_cells::{Groups, Idle};
+use queue_cells::Groups;
 use std::alloc::Global;
-use std::collections::HashMap;
 use std::marker::Model;
-use std::mem;
 use wire_packet::{GroupInst, Msg, Request, Waiting};
 
 /// What one root hosts. Contracts see its number, how many numbers it has made, its locations, its
@@ -45,12 +49,13 @@ use wire_packet::{GroupInst, Msg, Request, Waiting};
 ///
 /// Each site keeps the facts of `IsKept`: all that it holds stands at locations that it hosts, a
 /// queue holds messages on its channel with its count, no group could take a stuck message, and no
-/// two groups share a channel.
+/// two groups share a channel. The ids of waiting messages and requests are all different, and
+/// fewer than 2^32 messages wait.
 #[derive(Drop)]
 pub struct Site {
     number: u32,
     made: u64,
-    locs: Items<Loc>,
+    locs: Places,
     groups: Groups<Told, Msg>,
     spots: Spots,
     stuck: Vec<Waiting>,
@@ -74,14 +79,14 @@ impl Site {
     pub fn empty(alloc: Global, number: u32) -> Result<Site, Memory>
         ensures { IfOk result (λ site. site ≡ empty_site number 1 (root_of number ∷ [])) }
     {
-        let mut locs = Items::new(alloc);
-        locs.push(Loc { site: number, k: 0 })?;
+        let mut locs = Places::new(alloc);
+        locs.add(Loc { site: number, k: 0 })?;
         Ok(Site {
             number,
             made: 1,
             locs,
             groups: Groups::new(alloc),
-            spots: HashMap::new(alloc),
+            spots: no_spots(alloc),
             stuck: Vec::new(alloc),
             requests: Asked::new(alloc),
         })
@@ -98,12 +103,14 @@ impl Site {
     pub fn has(&self, loc: &Loc) -> bool
         ensures { result ≡ among self.now.locs loc.now }
     {
-        for here in self.locs.as_slice() {
-            if same_loc(*here, *loc) {
-                return true;
-            }
-        }
-        false
+        self.locs.has(loc)
+    }
+
+    // Its locations.
+    pub(crate) fn places(&self) -> &Places
+        ensures { result.now.locs ≡ self.now.locs }
+    {
+        &self.locs
     }
 
     /// How many numbers it has made.
@@ -181,6 +188,14 @@ impl Site {
         self.groups.width(group as usize)
     }
 
+    // How many messages wait.
+    fn waiting(&self) -> usize
+        ensures count { result ≡ waiting_in self.now }
+        ensures few { result < 2 ^ 32 }
+    {
+        self.groups.messages() + self.stuck.len()
+    }
+
     /// Puts a message at a location: behind the others in the queue of its channel, or beside the
     /// queues where no group takes it. Where there is no memory it comes back.
     pub fn put(&mut self, loc: &Loc, msg: Msg) -> Result<(), (Msg, Memory)>
@@ -191,6 +206,9 @@ impl Site {
         ensures err { OnErr result (self.new ≡ self.old) }
         ensures back { IfErr result (λ back. back.0 ≡ msg) }
     {
+        if self.waiting() >= u32::MAX as usize {
+            return Err((msg, Memory));
+        }
         match find(&self.groups, &self.spots, &msg) {
             Some(spot) => push_back(&mut self.groups, spot.group, spot.chan, msg),
             None => keep(&mut self.stuck, *loc, msg),
@@ -205,13 +223,7 @@ impl Site {
         ensures ok { OnOk result (self.new ≡ lay (told_by code.now group) self.old) }
         ensures err { OnErr result (self.new ≡ self.old) }
     {
-        let level = &code.levels.as_slice()[group.level as usize];
-        let counts = level.counts.copy(alloc)?;
-        let told = Told {
-            inst: group,
-            counts,
-            guards: level.guards,
-        };
+        let told = told_by(alloc, code, group)?;
         self.add(alloc, told)
     }
 
@@ -221,22 +233,59 @@ impl Site {
         ensures ok { OnOk result (self.new ≡ lay told self.old) }
         ensures err { OnErr result (self.new ≡ self.old) }
     {
-        if self.groups.len() >= u32::MAX as usize {
+        let mut groups = Vec::with_capacity(alloc, 1)?;
+        groups.push(new_group(alloc, told)?)?;
+        let more = More {
+            next: self.made,
+            groups,
+            waiting: Vec::new(alloc),
+            requests: Vec::new(alloc),
+        };
+        self.add_all(alloc, &[], more, 0, &[])
+    }
+
+    // Drops the fronts of these queues of a group in turn, where there are any, and adds locations,
+    // groups, messages and requests. Where there is no memory for all of it, nothing changes.
+    pub(crate) fn add_all(
+        &mut self,
+        alloc: Global,
+        locs: &[Loc],
+        more: More,
+        group: u32,
+        chans: &[u32],
+    ) -> Result<(), Memory>
+        requires { CanAdd locs.now more self.old }
+        ensures ok { OnOk result (self.new ≡ added locs.now more (taken_at group chans.now self.old)) }
+        ensures err { OnErr result (self.new ≡ self.old) }
+    {
+        let held = self.waiting();
+        if more.waiting.len() > u32::MAX as usize - held
+            || more.groups.len() > u32::MAX as usize - self.groups.len()
+        {
             return Err(Memory);
         }
-        let first = told.inst.chans;
-        let home = told.inst.loc;
-        let width = told.counts.len() as u32;
-        let count = self.stuck.len();
-        self.groups.reserve(count)?;
-        self.groups.reserve_groups(1)?;
-        self.spots.reserve(width as usize)?;
-        let mut rest = Vec::with_capacity(alloc, count)?;
-        let idle = Idle::new(alloc, told, width)?;
-        add_group(&mut self.groups, &mut self.spots, idle, first, home, width);
-        let waiting = mem::replace(&mut self.stuck, Vec::new(alloc));
-        settle(&mut self.groups, &self.spots, &mut rest, waiting);
-        self.stuck = rest;
+        self.locs.reserve(locs.len())?;
+        self.requests.reserve(more.requests.len())?;
+        let again = make_room(
+            alloc,
+            &mut self.groups,
+            &mut self.spots,
+            &mut self.stuck,
+            &more,
+        )?;
+        let More {
+            next,
+            groups,
+            waiting,
+            requests,
+        } = more;
+        self.made = next;
+        self.locs.add_all(locs);
+        self.requests.add_all(&requests);
+        take_fronts(&mut self.groups, group as usize, chans);
+        add_groups(&mut self.groups, &mut self.spots, groups);
+        settle(&mut self.groups, &self.spots, &mut self.stuck, again);
+        settle(&mut self.groups, &self.spots, &mut self.stuck, waiting);
         Ok(())
     }
 
@@ -255,7 +304,7 @@ impl Site {
         ensures ok { OnOk result (self.new ≡ host_all (loc.now ∷ []) self.old) }
         ensures err { OnErr result (self.new ≡ self.old) }
     {
-        self.locs.push(*loc)
+        self.locs.add(*loc)
     }
 
     /// The count of made numbers, which is then raised.
@@ -282,8 +331,12 @@ impl Site {
     fn locs_are_there(&self, tree: &LocTree) -> bool
         ensures { result ≡ list_all (has_number tree.now self.now.number) self.now.locs }
     {
-        for loc in self.locs.as_slice() {
-            if !(tree.holds(loc) && tree.root(loc) == self.number) {
+        for pair in self.locs.as_slice() {
+            let loc = Loc {
+                site: pair.0,
+                k: pair.1,
+            };
+            if !(tree.holds(&loc) && tree.root(&loc) == self.number) {
                 return false;
             }
         }
@@ -356,11 +409,14 @@ impl Site {
 }
 
 /// All that a site holds stands at locations that it hosts, a queue holds messages on its channel
-/// with its count, no group could take a stuck message, no two groups share a channel, and channels
-/// and rules have numbers of 64 bits. It does nothing.
+/// with its count, no group could take a stuck message, no two groups share a channel, channels and
+/// rules have numbers of 64 bits, the ids of waiting messages and requests are all different, and
+/// fewer than 2^32 messages wait. It does nothing.
 pub fn site_is_kept(site: &Site)
     ensures kept { IsKept site.now }
     ensures numbers { Each HasNumbers (told_in site.now.groups) }
+    ensures once { (i : AtomId) → times i site.now ≤ 1 }
+    ensures few_waiting { waiting_in site.now < 2 ^ 32 }
 {
     let _number = site.number;
 }

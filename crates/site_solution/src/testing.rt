@@ -7,13 +7,13 @@ ghost use Rattle.wire_packet.specs.declared.packet.Request.{Request};
 ghost use Rattle.chem_model.specs.declared.name.Loc.{Loc};
 ghost use Rattle.net_laws.specs.Site.{Group};
 ghost use Rattle.queue_cells.specs.Grouped.{lists_at};
+ghost use Rattle.site_solution.specs.Hosted.{locs_of};
 ghost use Rattle.site_solution.specs.Index.{groups_of, told_of};
 ghost use Rattle.site_solution.specs.InCode.{same_counts, is_told_by};
 ghost use Rattle.site_solution.specs.Draws.{is_drawn, are_drawn, message_drawn, told_drawn};
 ghost use Rattle.site_solution.specs.Draws.{queues_drawn, group_drawn};
 
 use crate::told::Told;
-use chem_model::Loc;
 use env_store::Code;
 use queue_cells::{Groups, Iter};
 use wire_packet::{Msg, Request, Waiting};
@@ -130,12 +130,13 @@ pub(crate) fn groups_are_drawn(count: Count, groups: &Groups<Told, Msg>) -> bool
     true
 }
 
-pub(crate) fn locs_are_drawn(count: Count, locs: &[Loc]) -> bool
+pub(crate) fn locs_are_drawn(count: Count, pairs: &[(u32, u64)]) -> bool
     ensures { result
-        ≡ list_all (λ (l : Loc). is_drawn count.number count.made l.site l.k) locs.now }
+        ≡ list_all (λ (l : Loc). is_drawn count.number count.made l.site l.k)
+        (locs_of pairs.now) }
 {
-    for loc in locs {
-        if !is_drawn(count, loc.site, loc.k) {
+    for pair in pairs {
+        if !is_drawn(count, pair.0, pair.1) {
             return false;
         }
     }

@@ -1,5 +1,7 @@
 // What is told of a group, and where a queue is.
-use chem_model::Nums;
+use chem_model::{AtomId, Loc, Nums};
+use queue_cells::Idle;
+use std::collections::HashMap;
 use std::marker::Model;
 use wire_packet::GroupInst;
 
@@ -23,9 +25,36 @@ impl Model for Told {
     ghost view = { λ d. record { inst = d.inst; counts = d.counts; guards = d.guards } };
 }
 
-// A queue: its group, and its channel in that group.
+// A group to come, with the memory that it takes; its first channel, its location and how many
+// channels it has.
+#[derive(Drop)]
+pub(crate) struct NewGroup {
+    pub(crate) idle: Idle<Told>,
+    pub(crate) first: AtomId,
+    pub(crate) home: Loc,
+    pub(crate) width: u32,
+}
+
+// A queue: the index of its group, and its channel in that group.
 #[derive(Clone, Copy)]
 pub(crate) struct Spot {
     pub(crate) group: usize,
     pub(crate) chan: u32,
+}
+
+// A queue: the serial of its group, and its channel in that group.
+#[derive(Clone, Copy)]
+pub(crate) struct Mark {
+    pub(crate) serial: u64,
+    pub(crate) chan: u32,
+}
+
+// The queue of each channel that a group has, by the channel's pair and that of its home. The
+// serials of the groups rise along them, and the next one is above them all. So a group that goes
+// leaves the marks of all others as they are.
+#[derive(Drop)]
+pub(crate) struct Spots {
+    pub(crate) marks: HashMap<((u32, u64), (u32, u64)), Mark>,
+    pub(crate) serials: Vec<u64>,
+    pub(crate) next: u64,
 }

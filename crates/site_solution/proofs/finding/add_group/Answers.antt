@@ -1,7 +1,8 @@
-use Rattle.std.proofs.Common.{◌∙◌, ◌∷◌, ◌++◌, [], sym, ap}
-use Rattle.std.specs.HashMap as hash
+use Rattle.std.proofs.Common.{ℕ, ◌+◌, ◌∙◌, ◌∷◌, ◌++◌, [], refl, sym, ap, arith}
+use Rattle.std.specs.Prelude.{Vec, vec_len, vec_capacity}
+use Rattle.std.specs.declared.alloc.Global.{Global}
 use Rattle.queue_cells.specs.Grouped.{idle_group}
-use Rattle.site_solution.specs.Index.{groups_of, same_key}
+use Rattle.site_solution.specs.Index.{groups_of}
 use Rattle.site_solution.proofs.Putting.{group-laid}
 use Rattle.site_solution.proofs.Naming.{index-added}
 use Rattle.site_solution.proofs.finding.add_group.Goals as goal
@@ -17,4 +18,15 @@ returns-clause-index c =
     let width = c.requires.width.0 ∙ sym c.requires.width.1 in
     let more = c.add_reserved.ensures.groups ∙ ap (λ n. c.args.groups.now.groups ++ idle_group c.args.idle.told n ∷ []) width in
     let is = ap groups_of more ∙ group-laid c.args.groups.now.groups c.args.idle.told in
-    index-added (hash.get same_key c.args.spots.now) (hash.get same_key c.name_queues.new.spots) c.args.groups.now.groups (groups_of c.add_reserved.new.self.groups) c.args.idle.told c.args.first c.args.home c.args.width c.len-group.result c.requires.index c.requires.apart c.requires.first c.requires.home c.requires.width.1 c.len-group.ensures c.name_queues.ensures is
+    let serials = c.push_reserved.ensures.items ∙ ap (λ (v : Vec ℕ Global). v.items ++ c.args.spots.now.next ∷ []) c.name_queues.ensures.serials in
+    index-added c.args.spots.now (record { marks = c.name_queues.new.spots.marks; serials = c.push_reserved.new.self; next = c.args.spots.now.next + 1 }) c.args.groups.now.groups (groups_of c.add_reserved.new.self.groups) c.args.idle.told c.args.first c.args.home c.args.width c.requires.index c.requires.apart c.requires.first c.requires.home c.requires.width.1 c.name_queues.ensures.named serials refl is
+
+pub returns-clause-left : goal.returns-clause-left
+returns-clause-left c = λ g k room.
+    let len = ap vec_len c.name_queues.ensures.serials in
+    let capacity = ap vec_capacity c.name_queues.ensures.serials in
+    record {
+      serials = omega (arith, room.serials, c.push_reserved.ensures.len, c.push_reserved.ensures.capacity);
+      numbers = omega (arith, room.numbers);
+      marks = omega (arith, room.marks, c.name_queues.ensures.room);
+    }

@@ -1,4 +1,6 @@
-use Rattle.std.proofs.Common.{subst}
+use Rattle.std.proofs.Common.{◌≤◌, ◌<◌, ◌^◌, subst}
+use Rattle.chem_model.specs.declared.event.AtomId.{AtomId}
+use Rattle.site_solution.specs.Counted.{times, waiting_in}
 use Rattle.chem_model.specs.Each.{Each}
 use Rattle.net_laws.specs.Site.{Site, told_in}
 use Rattle.net_laws.specs.Kept.{IsKept}
@@ -10,3 +12,9 @@ returns-clause-kept c = subst IsKept c.site.view_is c.site.invariant.kept
 
 pub returns-clause-numbers : goal.returns-clause-numbers
 returns-clause-numbers c = subst (λ (s : Site). Each HasNumbers (told_in s.groups)) c.site.view_is c.site.invariant.numbers
+
+pub returns-clause-once : goal.returns-clause-once
+returns-clause-once c = subst (λ (s : Site). (i : AtomId) → times i s ≤ 1) c.site.view_is c.site.invariant.once
+
+pub returns-clause-few_waiting : goal.returns-clause-few_waiting
+returns-clause-few_waiting c = subst (λ (s : Site). waiting_in s < 2 ^ 32) c.site.view_is c.site.invariant.few_waiting

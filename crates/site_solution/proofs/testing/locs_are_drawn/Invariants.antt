@@ -1,8 +1,9 @@
 use Rattle.std.proofs.Common.{◌≡◌, drop}
 use Rattle.std.specs.List.{list_all}
 use Rattle.site_solution.specs.Draws.{is_drawn}
+use Rattle.site_solution.specs.Hosted.{locs_of}
 use Rattle.chem_model.specs.declared.name.Loc.{Loc}
 use Rattle.site_solution.proofs.testing.locs_are_drawn.Given as goal
 
-abbrev pub invariant-loop-loc : goal.invariant-loop-loc
-invariant-loop-loc l = list_all (λ (x : Loc). is_drawn l.count.number l.count.made x.site x.k) (drop l.loc-index l.locs) ≡ list_all (λ (x : Loc). is_drawn l.count.number l.count.made x.site x.k) l.locs
+abbrev pub invariant-loop-pair : goal.invariant-loop-pair
+invariant-loop-pair l = list_all (λ (x : Loc). is_drawn l.count.number l.count.made x.site x.k) (locs_of (drop l.pair-index l.pairs)) ≡ list_all (λ (x : Loc). is_drawn l.count.number l.count.made x.site x.k) (locs_of l.pairs)

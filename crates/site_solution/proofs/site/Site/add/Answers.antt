@@ -1,30 +1,25 @@
-use Rattle.std.proofs.Common.{◌+◌, ◌<◌, ◌^◌, ◌∙◌, ◌∷◌, ◌++◌, [], length, ap, arith}
-use Rattle.std.specs.HashMap as hash
-use Rattle.site_solution.specs.Index.{Rows, groups_of, same_key}
-use Rattle.site_solution.specs.Stored.{seen}
-use Rattle.net_laws.specs.Holding.{new_group}
-use Rattle.site_solution.proofs.Keeping.{room-stored, laid-site, laid-stored}
+use Rattle.std.proofs.Common.{◌≡◌, ◌≤◌, List, [], ◌∷◌, ◌++◌, subst, ap, sym, ◌∙◌}
+use Rattle.chem_model.specs.declared.event.AtomId.{AtomId}
+use Rattle.net_laws.specs.Site.{Site}
+use Rattle.net_laws.specs.Holding.{lay}
+use Rattle.site_solution.specs.Counted.{times}
+use Rattle.site_solution.specs.More.{added}
+use Rattle.site_solution.specs.Held.{taken_at}
+use Rattle.site_solution.specs.declared.more.More.{More}
+use Rattle.site_solution.specs.declared.told.NewGroup.{NewGroup}
+use Rattle.site_solution.proofs.Keeping.{on-success}
+use Rattle.site_solution.proofs.Adding.{lay-can, lay-added}
 use Rattle.site_solution.proofs.site.Site.add.Goals as goal
 
-pub invariant_of-self-in_err-rest : goal.invariant_of-self-in_err-rest
-invariant_of-self-in_err-rest c =
-    let all = room-stored c.self.inside (hash.get same_key c.reserve-2.new.self) c.reserve_groups.new.self.groups c.self.invariant (c.reserve_groups.ensures.groups ∙ c.reserve.ensures.groups) c.reserve-2.ensures.entries.2 in
-    record { kept = all.kept; index = all.index; numbers = all.numbers; few = all.few }
+pub add_all-requires : goal.add_all-requires
+add_all-requires c =
+    let m : More = record { next = c.self.inside.made; groups = c.push.new.self; waiting = c.new.result; requests = c.new-2.result } in
+    let items : c.push.new.self.items ≡ c.in_ok-new_group.field-0 ∷ [] = c.in_ok-push.ensures.items ∙ ap (λ (xs : List NewGroup). xs ++ c.in_ok-new_group.field-0 ∷ []) c.in_ok-groups.ensures.items in
+    let once = subst (λ (s : Site). (i : AtomId) → times i s ≤ 1) c.self.view_is c.self.invariant.once in
+    lay-can c.args.told m c.in_ok-new_group.field-0 c.args.self.now c.requires once items c.in_ok-new_group.ensures.told c.in_ok-new_group.ensures.is c.new.ensures.items c.new-2.ensures.items
 
-pub invariant_of-self-in_err-idle : goal.invariant_of-self-in_err-idle
-invariant_of-self-in_err-idle c =
-    let all = room-stored c.self.inside (hash.get same_key c.reserve-2.new.self) c.reserve_groups.new.self.groups c.self.invariant (c.reserve_groups.ensures.groups ∙ c.reserve.ensures.groups) c.reserve-2.ensures.entries.2 in
-    record { kept = all.kept; index = all.index; numbers = all.numbers; few = all.few }
-
-pub add_group-requires-clause-index : goal.add_group-requires-clause-index
-add_group-requires-clause-index c = (room-stored c.self.inside (hash.get same_key c.reserve-2.new.self) c.reserve_groups.new.self.groups c.self.invariant (c.reserve_groups.ensures.groups ∙ c.reserve.ensures.groups) c.reserve-2.ensures.entries.2).index
-
-pub invariant_of-self-2 : goal.invariant_of-self-2
-invariant_of-self-2 c =
-    let can = rw (← c.self.view_is) at c.requires in
-    let groups = c.reserve_groups.ensures.groups ∙ c.reserve.ensures.groups in
-    let more = c.add_group.ensures.groups ∙ ap (λ (qs : Rows). groups_of qs ++ new_group c.in_ok-idle.idle.told ∷ []) groups in
-    let is = laid-site (seen c.self.inside) c.add_group.new.groups.groups c.settle.new.groups.groups c.args.told c.in_ok-idle.idle.told c.self.inside.stuck.items c.in_ok-rest.rest.items c.replace-waiting.result.items c.settle.new.stuck.items more c.in_ok-idle.ensures.told c.in_ok-rest.ensures.items (ap (λ v. v.items) c.replace-waiting.ensures.value) (c.settle.ensures.site (seen c.self.inside)) in
-    let few : length c.self.inside.groups.groups + 1 < 2 ^ 32 = omega (arith, c.if-len.false, c.len.ensures) in
-    let all = laid-stored c.self.inside (hash.get same_key c.add_group.new.spots) c.settle.new.groups.groups c.settle.new.stuck.items c.args.told c.self.invariant can is c.settle.ensures.index few in
-    record { kept = all.kept; index = all.index; numbers = all.numbers; few = all.few }
+pub returns-clause-ok : goal.returns-clause-ok
+returns-clause-ok c =
+    let m : More = record { next = c.self.inside.made; groups = c.push.new.self; waiting = c.new.result; requests = c.new-2.result } in
+    let items : c.push.new.self.items ≡ c.in_ok-new_group.field-0 ∷ [] = c.in_ok-push.ensures.items ∙ ap (λ (xs : List NewGroup). xs ++ c.in_ok-new_group.field-0 ∷ []) c.in_ok-groups.ensures.items in
+    on-success (λ (s : Site). s) (lay c.args.told c.args.self.now) c.add_all.result _ c.add_all.new.self c.add_all.ensures.ok (lay-added c.args.told m c.in_ok-new_group.field-0 c.args.self.now (ap (λ (s : Site). s.made) c.self.view_is) items c.in_ok-new_group.ensures.told c.new.ensures.items c.new-2.ensures.items)

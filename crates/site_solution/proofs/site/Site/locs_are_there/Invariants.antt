@@ -1,7 +1,8 @@
 use Rattle.std.proofs.Common.{◌≡◌, drop}
 use Rattle.std.specs.List.{list_all}
+use Rattle.site_solution.specs.Hosted.{locs_of}
 use Rattle.site_solution.specs.InTree.{has_number}
 use Rattle.site_solution.proofs.site.Site.locs_are_there.Given as goal
 
-abbrev pub invariant-loop-loc : goal.invariant-loop-loc
-invariant-loop-loc l = list_all (has_number l.tree l.self.number) (drop l.loc-index l.loc-items) ≡ list_all (has_number l.tree l.self.number) l.loc-items
+abbrev pub invariant-loop-pair : goal.invariant-loop-pair
+invariant-loop-pair l = list_all (has_number l.tree l.self.number) (locs_of (drop l.pair-index l.pair-items)) ≡ list_all (has_number l.tree l.self.number) (locs_of l.pair-items)

@@ -16,7 +16,7 @@ pub invariant_of-self : goal.invariant_of-self
 invariant_of-self c =
     let some = rw (← c.self.view_is) at c.requires in
     let all = front-stored c.self.inside c.take_front.new.self.groups c.args.group c.args.chan c.take_front.result c.self.invariant some c.take_front.ensures.front c.take_front.ensures.groups in
-    record { kept = all.kept; index = all.index; numbers = all.numbers; few = all.few }
+    record { kept = all.kept; once = all.once; few_waiting = all.few_waiting; index = all.index; numbers = all.numbers; few = all.few }
 
 pub returns : goal.returns
 returns c = λ g here.

@@ -1,0 +1,15 @@
+//! Compiled code, run as values: what a body, the opening of a site or one message makes. It
+//! touches no site.
+#![tactic(auto)]
+
+mod body;
+mod made;
+mod naming;
+mod parts;
+mod posting;
+mod running;
+#[cfg(test)]
+mod tests;
+
+pub use made::{Post, Posts, Run};
+pub use running::{message, open, run};

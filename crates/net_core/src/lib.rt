@@ -1,0 +1,8 @@
+//! A network of sites on one thread.
+#![tactic(auto)]
+
+mod laws;
+
+pub use laws::{
+    acts_lead, counts_rise, deliveries_fall, none_enabled_is_quiet, reactions_bear_new,
+};

@@ -1,0 +1,16 @@
+-- The locations that a site hosts, as pairs in a set. No public contract cites it.
+use Rattle.std.specs.Prelude.{ℕ, Bool, ◌&&◌, List, [], ◌∷◌, nat_eq}
+use Rattle.chem_model.specs.declared.name.Loc.{Loc}
+
+-- the locations, and how many more fit with no allocation
+pub record Hosted : Type 0 where
+  pub locs : List Loc
+  pub spare : ℕ
+
+abbrev pub locs_of : List (ℕ × ℕ) → List Loc
+locs_of [] = []
+locs_of (p ∷ ps) = record { site = p.0; k = p.1 } ∷ locs_of ps
+
+-- the key of a location
+abbrev pub same_pair_as : ℕ × ℕ → ℕ × ℕ → Bool
+same_pair_as p q = nat_eq p.0 q.0 && nat_eq p.1 q.1

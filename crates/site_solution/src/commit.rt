@@ -1,0 +1,180 @@
+// What a run leaves at a site, and what it sends.
+ghost use Rattle.std.specs.Prelude.{◌≡◌, ◌++◌, [], IfOk, OnOk, OnErr};
+ghost use Rattle.chem_model.specs.Each.{Each};
+ghost use Rattle.net_laws.specs.Net.{address};
+ghost use Rattle.net_laws.specs.ByCode.{told_by};
+ghost use Rattle.net_laws.specs.Parcels.{all_told};
+ghost use Rattle.net_laws.specs.Posting.{pour_here};
+ghost use Rattle.code_run.specs.Posts.{posted, all_posted};
+ghost use Rattle.site_solution.specs.Answers.{IsFlightOf, Answers};
+ghost use Rattle.site_solution.specs.Commit.{AreNew, CanLeave};
+ghost use Rattle.site_solution.specs.Held.{taken_at};
+ghost use Rattle.site_solution.specs.New.{told_of_new, IsNewGroup};
+ghost use Rattle.site_solution.specs.Leave.{IsSorted, Sorts, IsLeft};
+
+use crate::effects::Effects;
+use crate::more::{More, new_groups};
+use crate::places::Places;
+use crate::site::Site;
+use crate::told::NewGroup;
+use chem_model::{Items, Loc, Memory};
+use code_run::{Post, Posts, Run};
+use env_store::{Code, Locs};
+use loc_tree::LocTree;
+use std::alloc::Global;
+use wire_packet::{Flight, Flights, Msg, Packet, Request, Waiting, encode};
+
+// What is posted: messages that wait here, requests, and messages that go away.
+#[derive(Drop)]
+struct Sorted {
+    waiting: Vec<Waiting>,
+    requests: Vec<Request>,
+    flights: Flights,
+}
+
+// The number of the site that hosts the location, or 0 where the tree doesn't have it.
+fn address(tree: &LocTree, loc: &Loc) -> u32
+    ensures { result ≡ address tree.now loc.now }
+{
+    if tree.holds(loc) { tree.root(loc) } else { 0 }
+}
+
+// A message under way to the site that hosts this location.
+fn flight(alloc: Global, tree: &LocTree, loc: &Loc, msg: Msg) -> Result<Flight, Memory>
+    ensures { IfOk result (λ f.
+        IsFlightOf (record { target = address tree.now loc.now; msg = msg }) f) }
+{
+    let target = address(tree, loc);
+    let bytes = encode(alloc, &Packet::Message(msg))?;
+    Ok(Flight { target, bytes })
+}
+
+// Sorts one post more.
+fn sort_post(
+    alloc: Global,
+    tree: &LocTree,
+    here: &Places,
+    born: &Places,
+    post: &Post,
+    sorted: &mut Sorted,
+) -> Result<(), Memory>
+    ensures { OnOk result (Sorts tree.now (here.now.locs ++ born.now.locs) (posted post.now)
+        sorted.old sorted.new) }
+{
+    match post {
+        Post::Message(one) => {
+            if here.has(&one.loc) || born.has(&one.loc) {
+                sorted.waiting.push(one.copy(alloc)?)?;
+                Ok(())
+            } else {
+                let flight = flight(alloc, tree, &one.loc, one.msg.copy(alloc)?)?;
+                sorted.flights.push(flight)?;
+                Ok(())
+            }
+        }
+        Post::Request(one) => {
+            sorted.requests.push(*one)?;
+            Ok(())
+        }
+    }
+}
+
+// Sorts what is posted, where the locations here and those that are born are hosted.
+fn sort_posts(
+    alloc: Global,
+    tree: &LocTree,
+    here: &Places,
+    born: &Places,
+    posts: &[Post],
+) -> Result<Sorted, Memory>
+    ensures { IfOk result
+        (IsSorted tree.now (here.now.locs ++ born.now.locs) (all_posted posts.now)) }
+{
+    let mut sorted = Sorted {
+        waiting: Vec::new(alloc),
+        requests: Vec::new(alloc),
+        flights: Items::new(alloc),
+    };
+    for post in posts {
+        sort_post(alloc, tree, here, born, post, &mut sorted)?;
+    }
+    Ok(sorted)
+}
+
+// Locations as a set.
+fn places(alloc: Global, locs: &[Loc]) -> Result<Places, Memory>
+    requires { AreNew [] locs.now }
+    ensures { IfOk result (λ places. places.locs ≡ locs.now) }
+{
+    let mut places = Places::new(alloc);
+    places.reserve(locs.len())?;
+    places.add_all(locs);
+    Ok(places)
+}
+
+impl Site {
+    // Drops the fronts of these queues of a group in turn, where there are any, and then leaves
+    // here what a run made, with these groups. Where there is no memory, nothing changes.
+    pub(crate) fn leave(
+        &mut self,
+        alloc: Global,
+        tree: &LocTree,
+        run: &Run,
+        groups: Vec<NewGroup>,
+        group: u32,
+        chans: &[u32],
+    ) -> Result<Flights, Memory>
+        requires new { Each IsNewGroup groups.items }
+        requires can { CanLeave run.now.births (told_of_new groups.items) (all_posted run.now.posts)
+            self.old }
+        ensures ok { IfOk result (IsLeft (pour_here tree.now run.now.next run.now.births
+            (told_of_new groups.items) (all_posted run.now.posts)
+            (taken_at group chans.now self.old)) self.new) }
+        ensures err { OnErr result (self.new ≡ self.old) }
+    {
+        let born = places(alloc, run.births.as_slice())?;
+        let Sorted {
+            waiting,
+            requests,
+            flights,
+        } = sort_posts(alloc, tree, self.places(), &born, run.posts.as_slice())?;
+        let more = More {
+            next: run.next,
+            groups,
+            waiting,
+            requests,
+        };
+        self.add_all(alloc, run.births.as_slice(), more, group, chans)?;
+        Ok(flights)
+    }
+
+    /// Drops the fronts of these queues of a group in turn, where there are any, and then leaves
+    /// here what a run made: its births are hosted, its groups laid, its requests added, and its
+    /// messages put where they are hosted here; the others go away. Where there is no memory for
+    /// all of it, nothing changes.
+    pub fn commit(
+        &mut self,
+        alloc: Global,
+        code: &Code,
+        tree: &LocTree,
+        run: Run,
+        group: u32,
+        chans: &[u32],
+    ) -> Result<Effects, Memory>
+        requires { CanLeave run.births (all_told (told_by code.now) run.groups)
+            (all_posted run.posts) self.old }
+        ensures ok { IfOk result (λ e. Answers
+            (pour_here tree.now run.next run.births (all_told (told_by code.now) run.groups)
+            (all_posted run.posts) (taken_at group chans.now self.old))
+            run.outs run.births self.new e) }
+        ensures err { OnErr result (self.new ≡ self.old) }
+    {
+        let groups = new_groups(alloc, code, run.groups.as_slice())?;
+        let sends = self.leave(alloc, tree, &run, groups, group, chans)?;
+        Ok(Effects {
+            sends,
+            outs: run.outs,
+            births: run.births,
+        })
+    }
+}

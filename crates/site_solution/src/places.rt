@@ -1,0 +1,89 @@
+// The locations that a site hosts.
+ghost use Rattle.std.specs.Prelude.{◌≡◌, ◌≤◌, ◌+◌, ◌∷◌, ◌++◌, [], false, length, OnOk, OnErr};
+ghost use Rattle.net_laws.specs.Net.{among};
+ghost use Rattle.site_solution.specs.Hosted.{locs_of};
+ghost use Rattle.site_solution.specs.Commit.{AreNew};
+
+use chem_model::{Loc, Memory};
+use indexmap::IndexSet;
+use std::alloc::Global;
+use std::marker::Model;
+
+// Locations in the order in which they came, all different.
+#[derive(Drop)]
+pub(crate) struct Places {
+    pairs: IndexSet<(u32, u64)>,
+}
+
+impl Model for Places {
+    ghost use Rattle.indexmap.specs.IndexSet.{spare};
+    ghost use Rattle.site_solution.specs.Hosted.{Hosted, locs_of};
+
+    ghost Value = { Hosted };
+
+    ghost view = { λ p. record { locs = locs_of p.pairs.keys; spare = spare p.pairs } };
+}
+
+impl Places {
+    // No location.
+    pub(crate) fn new(alloc: Global) -> Places
+        ensures { result.locs ≡ [] }
+    {
+        Places {
+            pairs: IndexSet::new(alloc),
+        }
+    }
+
+    pub(crate) fn has(&self, loc: &Loc) -> bool
+        ensures { result ≡ among self.now.locs loc.now }
+    {
+        self.pairs.contains(&(loc.site, loc.k))
+    }
+
+    // The pairs of all of them.
+    pub(crate) fn as_slice(&self) -> &[(u32, u64)]
+        ensures { locs_of result.now ≡ self.now.locs }
+    {
+        self.pairs.as_slice()
+    }
+
+    pub(crate) fn reserve(&mut self, more: usize) -> Result<(), Memory>
+        ensures room { OnOk result (more ≤ self.new.spare) }
+        ensures same { self.new.locs ≡ self.old.locs }
+    {
+        self.pairs.reserve(more)?;
+        Ok(())
+    }
+
+    // Adds a location. It takes no memory.
+    pub(crate) fn add_reserved(&mut self, loc: Loc)
+        requires room { 1 ≤ self.old.spare }
+        requires new { among self.old.locs loc ≡ false }
+        ensures locs { self.new.locs ≡ self.old.locs ++ loc ∷ [] }
+        ensures spare { self.old.spare ≤ self.new.spare + 1 }
+    {
+        let _ = self.pairs.insert((loc.site, loc.k));
+    }
+
+    // Adds a location.
+    pub(crate) fn add(&mut self, loc: Loc) -> Result<(), Memory>
+        requires new { among self.old.locs loc ≡ false }
+        ensures ok { OnOk result (self.new.locs ≡ self.old.locs ++ loc ∷ []) }
+        ensures err { OnErr result (self.new.locs ≡ self.old.locs) }
+    {
+        self.reserve(1)?;
+        self.add_reserved(loc);
+        Ok(())
+    }
+
+    // Adds locations. It takes no memory.
+    pub(crate) fn add_all(&mut self, locs: &[Loc])
+        requires room { length locs.now ≤ self.old.spare }
+        requires new { AreNew self.old.locs locs.now }
+        ensures { self.new.locs ≡ self.old.locs ++ locs.now }
+    {
+        for loc in locs {
+            self.add_reserved(*loc);
+        }
+    }
+}

@@ -1,0 +1,111 @@
+// The calls that pour.
+ghost use Rattle.std.specs.Prelude.{◌≡◌, [], true, length, Some, slice_get, IfOk, OnErr};
+ghost use Rattle.chem_model.specs.declared.name.Ref.TheVariants.{Known};
+ghost use Rattle.chem_model.specs.Process.{Msg};
+ghost use Rattle.chem_model.specs.Reduction.{all_known};
+ghost use Rattle.chem_model.specs.Opening.{root_of};
+ghost use Rattle.chem_model.specs.Pour.{pour};
+ghost use Rattle.env_store.specs.CodeFacts.{IsBodyAt};
+ghost use Rattle.env_store.specs.Running.{code_made};
+ghost use Rattle.loc_tree.specs.Tree.{is_alive};
+ghost use Rattle.net_laws.specs.Net.{among, with_births};
+ghost use Rattle.net_laws.specs.ByCode.{run_here};
+ghost use Rattle.net_laws.specs.Meeting.{sent_here};
+ghost use Rattle.site_solution.specs.Answers.{Answers};
+ghost use Rattle.site_solution.specs.Held.{taken_at};
+ghost use Rattle.site_solution.specs.Pours.{CanPour, HasPoured, CanEmit, HasEmitted};
+
+use crate::effects::Effects;
+use crate::site::{Site, site_is_kept};
+use chem_model::{Loc, Memory, Name, Names, Nums};
+use code_run::{message, run};
+use env_store::{Code, Env};
+use loc_tree::LocTree;
+use std::alloc::Global;
+
+impl Site {
+    /// Runs a body of the code at a location here, under an environment as long as the body begins
+    /// with. The births are hosted here afterwards. Where there is no memory, nothing changes.
+    pub fn pour(
+        &mut self,
+        alloc: Global,
+        code: &Code,
+        tree: &LocTree,
+        loc: &Loc,
+        body: u32,
+        env: &Env,
+    ) -> Result<Effects, Memory>
+        requires body { IsBodyAt code.now (length env.now) body }
+        requires here { among self.old.locs loc.now ≡ true }
+        requires alive { is_alive tree.now loc.now ≡ true }
+        requires can { CanPour code.now tree.now env.now self.old }
+        ensures ok { IfOk result (λ e.
+            let a = code_made code.now self.old.number body env.now loc.now self.old.made in
+            Answers (run_here code.now tree.now a self.old) a.outs a.births self.new e) }
+        ensures err { OnErr result (self.new ≡ self.old) }
+        ensures keeps { IfOk result (λ e.
+            HasPoured code.now (with_births tree.now self.old.number e.births) self.new) }
+    {
+        self.pour_taking(alloc, code, tree, 0, &[], loc, body, env)
+    }
+
+    /// Drops the fronts of these queues of a group in turn, where there are any, and then pours.
+    /// Where there is no memory for all of it, nothing changes.
+    pub fn pour_taking(
+        &mut self,
+        alloc: Global,
+        code: &Code,
+        tree: &LocTree,
+        group: u32,
+        chans: &[u32],
+        loc: &Loc,
+        body: u32,
+        env: &Env,
+    ) -> Result<Effects, Memory>
+        requires body { IsBodyAt code.now (length env.now) body }
+        requires here { among self.old.locs loc.now ≡ true }
+        requires alive { is_alive tree.now loc.now ≡ true }
+        requires can { CanPour code.now tree.now env.now self.old }
+        ensures ok { IfOk result (λ e.
+            let a = code_made code.now self.old.number body env.now loc.now self.old.made in
+            Answers (run_here code.now tree.now a (taken_at group chans.now self.old))
+            a.outs a.births self.new e) }
+        ensures err { OnErr result (self.new ≡ self.old) }
+        ensures keeps { IfOk result (λ e.
+            HasPoured code.now (with_births tree.now self.old.number e.births) self.new) }
+    {
+        site_is_kept(self);
+        let made = run(alloc, code, self.number(), body, env, loc, self.made())?;
+        self.commit(alloc, code, tree, made, group, chans)
+    }
+
+    /// Pours one message at a location here. Where there is no memory, nothing changes.
+    pub fn emit(
+        &mut self,
+        alloc: Global,
+        tree: &LocTree,
+        counts: &Nums,
+        loc: &Loc,
+        on: Name,
+        args: Names,
+    ) -> Result<Effects, Memory>
+        requires here { among self.old.locs loc.now ≡ true }
+        requires alive { is_alive tree.now loc.now ≡ true }
+        requires can { CanEmit tree.now on args self.old }
+        ensures ok { IfOk result (λ e.
+            let a = pour counts.now self.old.number (root_of self.old.number) [] loc.now
+            self.old.made (Msg (Known on) (all_known args)) in
+            Answers (sent_here tree.now a self.old) a.outs [] self.new e) }
+        ensures err { OnErr result (self.new ≡ self.old) }
+        ensures keeps { IfOk result (λ _. HasEmitted tree.now self.new) }
+    {
+        site_is_kept(self);
+        let made = message(alloc, counts, self.number(), loc, on, args, self.made())?;
+        let sends = self.leave(alloc, tree, &made, Vec::new(alloc), 0, &[])?;
+        Ok(Effects {
+            sends,
+            outs: made.outs,
+            births: made.births,
+        })
+    }
+}
