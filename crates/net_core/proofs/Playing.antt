@@ -1,33 +1,69 @@
--- One choice more.
-use Rattle.std.proofs.Common.{◌≡◌, List, [], ◌∷◌, ◌++◌, Option, Some, None, refl, ap, ◌∙◌}
+-- For every list of choices the events replay.
+use Rattle.std.proofs.Common.{ℕ, ◌+◌, ◌*◌, List, ◌∷◌, Option, Some, None, refl, ap, ◌∙◌, arith, length}
 use Rattle.chem_model.specs.declared.event.Event.{Event}
 use Rattle.chem_model.specs.declared.numbered.Numbered.{Numbered}
-use Rattle.chem_model.specs.Apply.{apply_if, replay_from}
+use Rattle.chem_model.specs.ProgramFacts.{ProgramTerms, IsProgram}
+use Rattle.chem_model.specs.Apply.{replay_from}
+use Rattle.chem_model.specs.Opening.{opening}
 use Rattle.env_store.specs.CodeParts.{CodeParts}
-use Rattle.net_laws.specs.Net.{Net}
+use Rattle.env_store.specs.CodeFacts.{IsCode}
+use Rattle.env_store.specs.Reading.{IsCodeOf}
+use Rattle.env_store.specs.Laws.{rules_of_group}
+use Rattle.net_laws.specs.Net.{Net, Stands}
+use Rattle.net_laws.specs.Opened.{RunsCode, opened_net}
+use Rattle.net_laws.proofs.Opened.{opened_stands}
 use Rattle.net_core.specs.Laws.{IsLedFrom}
-use Rattle.net_core.specs.Playing.{IsPlayedFrom}
+use Rattle.net_core.specs.Playing.{Does, react, deliver, halt, detect, move, DoesAll, stops, makes, carries, ListsReplay, OpenedPlay}
+use Rattle.net_core.specs.Rising.{AllMade, Rises}
+use Rattle.net_core.proofs.Leading.{acts_lead}
+use Rattle.net_core.proofs.Rising.{all_more, counts_rise}
 
-replay_append : (o : Option Numbered) (es : List Event) (e : Event) → replay_from o (es ++ e ∷ []) ≡ apply_if (replay_from o es) e
-replay_append o [] e = refl
-replay_append o (x ∷ es) e = replay_append (apply_if o x) es e
+-- each choice is one event or none
+one_leads : (c : CodeParts) (net new : Net) (o : Option Event) → IsCode c → Does c net o new → IsLedFrom net o new c
+one_leads c net new o kept (react i j k e _ does) = (acts_lead c net new kept).0 i j k e does
+one_leads c net new o kept (deliver f _ does) = (acts_lead c net new kept).1 f does
+one_leads c net new o kept (halt a _ does) = (acts_lead c net new kept).2 a does
+one_leads c net new o kept (detect a _ does) = (acts_lead c net new kept).3 a does
+one_leads c net new o kept (move a _ does) = (acts_lead c net new kept).4 a does
 
-pub nothing_played : (c : CodeParts) (net : Net) → IsPlayedFrom net [] net c
-nothing_played c net p n ok is stands runs = record { after = n; replays = refl; stands = stands; runs = runs }
+pub lists_replay : ListsReplay
+lists_replay c net end es kept (stops _) p n ok is stands runs = record { after = n; replays = refl; stands = stands; runs = runs }
+lists_replay c net end es kept (makes _ mid _ e rest does more) p n ok is stands runs =
+    let step = one_leads c net mid (Some e) kept does p n ok is stands runs in
+    let later = lists_replay c mid end rest kept more p step.leads.after ok is step.leads.stands step.runs in
+    record { after = later.after; replays = ap (λ o. replay_from o rest) step.leads.applies ∙ later.replays; stands = later.stands; runs = later.runs }
+lists_replay c net end es kept (carries _ mid _ _ does more) p n ok is stands runs =
+    let step = one_leads c net mid None kept does p n ok is stands runs in
+    lists_replay c mid end es kept more p n ok is step.leads step.runs
 
-pub event_played : (c : CodeParts) (net mid new : Net) (es : List Event) (e : Event) → IsPlayedFrom net es mid c → IsLedFrom mid (Some e) new c → IsPlayedFrom net (es ++ e ∷ []) new c
-event_played c net mid new es e played led p n ok is stands runs =
-    let before = played p n ok is stands runs in
-    let step = led p before.after ok is before.stands before.runs in
-    record {
-      after = step.leads.after;
-      replays = replay_append (Some n) es e ∙ ap (λ o. apply_if o e) before.replays ∙ step.leads.applies;
-      stands = step.leads.stands;
-      runs = step.runs;
-    }
+-- how many numbers a choice may draw
+abbrev rise : Option Event → ℕ
+rise None = 0
+rise (Some e) = 1048576
 
-pub delivery_played : (c : CodeParts) (net mid new : Net) (es : List Event) → IsPlayedFrom net es mid c → IsLedFrom mid None new c → IsPlayedFrom net es new c
-delivery_played c net mid new es played led p n ok is stands runs =
-    let before = played p n ok is stands runs in
-    let step = led p before.after ok is before.stands before.runs in
-    record { after = before.after; replays = before.replays; stands = step.leads; runs = step.runs }
+one_rises : (c : CodeParts) (net new : Net) (o : Option Event) (most : ℕ) → Rises c net new → Does c net o new → AllMade most net → AllMade (most + rise o) new
+one_rises c net new o most rises (react i j k e _ does) all = rises.reacts i j k most e does all
+one_rises c net new o most rises (deliver f _ does) all = all_more most (most + 0) (omega arith) new.sites (rises.delivers f most does all)
+one_rises c net new o most rises (halt a _ does) all = all_more most (most + 1048576) (omega arith) new.sites (rises.halts a most does all)
+one_rises c net new o most rises (detect a _ does) all = all_more (most + 1) (most + 1048576) (omega arith) new.sites (rises.detects a most does all)
+one_rises c net new o most rises (move a _ does) all = all_more (most + 1) (most + 1048576) (omega arith) new.sites (rises.moves a most does all)
+
+all_rise :
+    (c : CodeParts) (net end : Net) (es : List Event) → IsCode c → DoesAll c net es end → (p : ProgramTerms) (n : Numbered) → IsProgram p → IsCodeOf p c
+    → Stands (rules_of_group p) net n → RunsCode p c net → (most : ℕ) → AllMade most net → AllMade (most + 1048576 * length es) end
+all_rise c net end es kept (stops _) p n ok is stands runs most all = all_more most (most + 1048576 * 0) (omega arith) net.sites all
+all_rise c net end es kept (makes _ mid _ e rest does more) p n ok is stands runs most all =
+    let step = one_leads c net mid (Some e) kept does p n ok is stands runs in
+    let first = one_rises c net mid (Some e) most (counts_rise p c ok kept is net mid n stands runs) does all in
+    let later = all_rise c mid end rest kept more p step.leads.after ok is step.leads.stands step.runs (most + 1048576) first in
+    all_more (most + 1048576 + 1048576 * length rest) (most + 1048576 * length (e ∷ rest)) (omega arith) end.sites later
+all_rise c net end es kept (carries _ mid _ _ does more) p n ok is stands runs most all =
+    let step = one_leads c net mid None kept does p n ok is stands runs in
+    let first = all_more (most + 0) most (omega arith) mid.sites (one_rises c net mid None most (counts_rise p c ok kept is net mid n stands runs) does all) in
+    all_rise c mid end es kept more p n ok is step.leads step.runs most first
+
+pub opened_play : OpenedPlay
+opened_play p c ok kept is end es does =
+    let opened = opened_stands p c ok kept is in
+    let made = all_rise c (opened_net c) end es kept does p (opening p) ok is opened.0 opened.1 1048576 opened.2 in
+    (lists_replay c (opened_net c) end es kept does p (opening p) ok is opened.0 opened.1, all_more (1048576 + 1048576 * length es) (1048576 * (length es + 1)) (omega arith) end.sites made)

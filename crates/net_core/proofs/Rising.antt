@@ -77,7 +77,7 @@ taken_args i counts qs (c ∷ cs) (m ∷ ms) left h t =
     let many : length m.args ≡ slice_index counts c = front.0.1 ∙ sym (count_at counts c of.0 of.1) in
     omega (arith, length-append m.args (args_of ms), many, taken_args i counts (slice_set qs c t.0) cs ms left (queues_left i 0 counts qs c m t.0 h t.1) t.2)
 
-all_more : (a b : ℕ) → a ≤ b → (ss : List Site) → Each (λ (s : Site). s.made ≤ a) ss → Each (λ (s : Site). s.made ≤ b) ss
+pub all_more : (a b : ℕ) → a ≤ b → (ss : List Site) → Each (λ (s : Site). s.made ≤ a) ss → Each (λ (s : Site). s.made ≤ b) ss
 all_more a b le ss h = Each-weaker (λ (s : Site). s.made ≤ a) (λ (s : Site). s.made ≤ b) (λ s g. omega (arith, g, le)) ss h
 
 one_made : (net new : Net) (i : ℕ) (t : Site) (a b : ℕ) → a ≤ b → new.sites ≡ slice_set net.sites i t → t.made ≤ b → AllMade a net → AllMade b new

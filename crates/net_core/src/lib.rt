@@ -4,5 +4,6 @@
 mod laws;
 
 pub use laws::{
-    acts_lead, counts_rise, deliveries_fall, none_enabled_is_quiet, reactions_bear_new,
+    acts_lead, counts_rise, deliveries_fall, lists_replay, none_enabled_is_quiet, opened_play,
+    reactions_bear_new,
 };

@@ -17,8 +17,8 @@ use Rattle.site_solution.specs.declared.site.Site.TheInside.{Inside}
 use Rattle.site_solution.specs.CanLay.{HasNumbers, CanLay}
 use Rattle.site_solution.specs.Held.{taken_at}
 use Rattle.site_solution.specs.declared.told.NewGroup.{NewGroup}
-use Rattle.site_solution.specs.Counted.{over_groups, over_stuck, over_waiting, one_each, id_of, over_requests, times, waiting_in}
-use Rattle.site_solution.specs.Rising.{with_requests, AreNewIn}
+use Rattle.site_solution.specs.Counted.{over_stuck, over_waiting, one_each, id_of, over_requests, times, waiting_in}
+use Rattle.site_solution.specs.Rising.{with_requests}
 use Rattle.site_solution.specs.Index.{Rows, groups_of, holding, new_groups, IsIndex}
 use Rattle.site_solution.specs.declared.told.Spots.{Spots}
 use Rattle.site_solution.proofs.Queueing.{index-same}

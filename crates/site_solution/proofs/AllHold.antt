@@ -1,6 +1,6 @@
 -- What holds of each message, each group and each request of a site, after each change.
-use Rattle.std.proofs.Common.{◌≡◌, ℕ, zero, suc, ◌+◌, ◌≤◌, ◌<◌, List, [], ◌∷◌, ◌++◌, length, Bool, true, false, cond, refl, sym, ap, ◌∙◌, subst, arith}
-use Rattle.std.specs.Prelude.{◌&&◌, slice_index_or}
+use Rattle.std.proofs.Common.{◌≡◌, ℕ, zero, suc, List, [], ◌∷◌, ◌++◌, Bool, true, false, cond, refl, sym, ap, ◌∙◌, arith}
+use Rattle.std.specs.Prelude.{◌&&◌}
 use Rattle.std.specs.List.{list_all, Contains}
 use Rattle.std.proofs.lemmas.Bool.{and_parts}
 use Rattle.chem_model.specs.declared.name.Loc.{Loc}
@@ -10,7 +10,7 @@ use Rattle.wire_packet.specs.declared.packet.Waiting.{Waiting}
 use Rattle.wire_packet.specs.declared.packet.Request.{Request}
 use Rattle.net_laws.specs.Site.{Told, Group, Site, told_in}
 use Rattle.net_laws.specs.Holding.{precedes, with_request}
-use Rattle.site_solution.specs.Counted.{over_queue, over_queues, over_groups, over_stuck, over_waiting}
+use Rattle.site_solution.specs.Counted.{over_queue, over_queues, over_groups, over_stuck}
 use Rattle.site_solution.specs.Rising.{with_requests}
 use Rattle.site_solution.proofs.Fronts.{AreGone}
 use Rattle.site_solution.proofs.Adding.{HasCome}

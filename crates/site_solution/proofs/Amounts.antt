@@ -1,5 +1,5 @@
 -- How many messages wait, as the fields count them.
-use Rattle.std.proofs.Common.{◌≡◌, ℕ, ◌+◌, List, [], ◌∷◌, length, refl, sym, ap, ◌∙◌, arith}
+use Rattle.std.proofs.Common.{◌≡◌, List, [], ◌∷◌, length, refl, arith}
 use Rattle.std.proofs.lemmas.List.Sums.{sum_by-cons}
 use Rattle.wire_packet.specs.MessageFacts.{MessageParts}
 use Rattle.wire_packet.specs.declared.packet.Waiting.{Waiting}

@@ -1,6 +1,6 @@
 -- What a run answers, as the laws name it.
-use Rattle.std.proofs.Common.{◌≡◌, ◌≤◌, ℕ, List, [], ◌∷◌, Result, Ok, Err, refl, sym, ap, ◌∙◌, subst}
-use Rattle.std.specs.Prelude.{IfOk, true}
+use Rattle.std.proofs.Common.{◌≡◌, List, [], Result, Ok, Err, refl, ap, ◌∙◌, subst}
+use Rattle.std.specs.Prelude.{IfOk}
 use Rattle.chem_model.specs.declared.name.Loc.{Loc}
 use Rattle.chem_model.specs.declared.event.Out.{Out}
 use Rattle.chem_model.specs.declared.numbered.Made.{Made}
@@ -8,7 +8,7 @@ use Rattle.wire_packet.specs.declared.packet.Flight.{Flight}
 use Rattle.env_store.specs.CodeParts.{CodeParts}
 use Rattle.env_store.specs.Running.{Ran, atom_ran}
 use Rattle.loc_tree.specs.Tree.{Tree}
-use Rattle.net_laws.specs.Site.{Told, Site}
+use Rattle.net_laws.specs.Site.{Site}
 use Rattle.net_laws.specs.Parcels.{all_told}
 use Rattle.net_laws.specs.ByCode.{told_by, run_here}
 use Rattle.net_laws.specs.Meeting.{sent_here}

@@ -1,5 +1,5 @@
 -- Requests that are added where there is room.
-use Rattle.std.proofs.Common.{◌≡◌, ℕ, zero, suc, ◌+◌, ◌≤◌, ◌<◌, length, drop, List, [], ◌∷◌, Option, Some, None, Bool, true, false, cond, Result, Ok, Err, refl, sym, ap, ◌∙◌, if◌then◌else◌, arith}
+use Rattle.std.proofs.Common.{◌≡◌, ℕ, zero, suc, ◌+◌, ◌<◌, length, drop, List, [], ◌∷◌, Some, None, Bool, true, false, cond, Result, Ok, Err, refl, ap, if◌then◌else◌, arith}
 use Rattle.std.specs.Prelude.{IsOk, is_ok, slice_get, slice_index_or}
 use Rattle.chem_model.specs.declared.event.AtomId.{AtomId}
 use Rattle.chem_model.specs.Apply.{same_atom}
@@ -7,7 +7,7 @@ use Rattle.chem_laws.proofs.Taking.{same_atom_refl}
 use Rattle.wire_packet.specs.declared.packet.Request.{Request}
 use Rattle.net_laws.specs.Holding.{request_with, with_request}
 use Rattle.site_solution.specs.Counted.{is_id, over_requests}
-use Rattle.site_solution.specs.Rising.{with_requests, AreNewIn}
+use Rattle.site_solution.specs.Rising.{AreNewIn}
 use Rattle.site_solution.proofs.Counting.{request-more}
 
 pub taken-ok : {A E X : Type 0} (r : Result A E) (xs ys new : X) → IsOk r → new ≡ (if is_ok r then xs else ys) → new ≡ xs

@@ -1,6 +1,6 @@
 -- Sums over what waits, and how often ids occur, after each change of a site.
-use Rattle.std.proofs.Common.{◌≡◌, ℕ, zero, suc, ◌+◌, ◌≤◌, List, [], ◌∷◌, ◌++◌, Option, Some, None, Bool, true, false, cond, refl, sym, ap, ◌∙◌, subst, arith}
-use Rattle.std.specs.Prelude.{slice_get, slice_set, slice_index_or, drop, is_some, ◌||◌}
+use Rattle.std.proofs.Common.{◌≡◌, ℕ, zero, suc, ◌+◌, ◌≤◌, List, [], ◌∷◌, ◌++◌, Option, Some, None, Bool, true, false, cond, refl, sym, ap, ◌∙◌, arith}
+use Rattle.std.specs.Prelude.{slice_get, slice_set, is_some, ◌||◌}
 use Rattle.std.specs.List.{list_any}
 use Rattle.chem_model.specs.declared.name.Loc.{Loc}
 use Rattle.chem_model.specs.declared.event.AtomId.{AtomId}
@@ -11,9 +11,8 @@ use Rattle.wire_packet.specs.declared.packet.Waiting.{Waiting}
 use Rattle.wire_packet.specs.declared.packet.Request.{Request}
 use Rattle.net_laws.specs.Site.{Told, Group, Site}
 use Rattle.net_laws.specs.Posting.{with_queues}
-use Rattle.net_laws.specs.Holding.{is_on, behind, queued_up, or_later, in_groups, put_in, put, put_all, empty_queues, new_group, lay, lay_all, precedes, with_request, without_request, request_with, ask_all}
+use Rattle.net_laws.specs.Holding.{is_on, behind, queued_up, or_later, in_groups, put_in, put, put_all, empty_queues, new_group, lay, lay_all, precedes, with_request, without_request, request_with}
 use Rattle.site_solution.specs.Held.{is_id_of, in_queues, in_groups_of, has_atom, without_front}
-use Rattle.site_solution.specs.Index.{new_groups}
 use Rattle.site_solution.specs.Counted.{over_queue, over_queues, over_groups, over_stuck, over_waiting, is_id, id_of, over_requests, times}
 
 module _ (f : MessageParts → ℕ) where

@@ -1,11 +1,10 @@
 -- Fronts of queues that go.
-use Rattle.std.proofs.Common.{◌≡◌, ℕ, zero, suc, ◌+◌, ◌≤◌, ◌<◌, List, [], ◌∷◌, length, Option, Some, None, refl, sym, ap, ◌∙◌, subst, arith}
+use Rattle.std.proofs.Common.{◌≡◌, ℕ, zero, suc, ◌≤◌, List, [], ◌∷◌, length, Option, Some, None, refl, sym, ap, ◌∙◌, subst, arith}
 use Rattle.std.specs.Prelude.{slice_get, slice_set, slice_index_or, drop}
 use Rattle.wire_packet.specs.MessageFacts.{MessageParts}
-use Rattle.net_laws.specs.Site.{Told, Group, Site, told_in}
+use Rattle.net_laws.specs.Site.{Group, Site, told_in}
 use Rattle.net_laws.specs.Kept.{IsKept}
 use Rattle.net_laws.specs.Changes.{Takes}
-use Rattle.net_laws.specs.Posting.{with_queues}
 use Rattle.net_laws.proofs.Posting.{fronts_go}
 use Rattle.site_solution.specs.Held.{without_front, without_fronts, taken_in, taken_at}
 use Rattle.site_solution.specs.Counted.{over_waiting}

@@ -1,6 +1,6 @@
 -- Locations as pairs of a set.
-use Rattle.std.proofs.Common.{◌≡◌, ℕ, List, [], ◌∷◌, ◌++◌, Bool, true, false, cond, Result, Ok, Err, refl, sym, ap, ◌∙◌, if◌then◌else◌}
-use Rattle.std.specs.Prelude.{IsOk, IfOk, is_ok, nat_eq, ◌&&◌, ◌||◌, ◌==◌}
+use Rattle.std.proofs.Common.{◌≡◌, ℕ, List, [], ◌∷◌, ◌++◌, Bool, false, Result, Ok, Err, refl, ap, ◌∙◌, if◌then◌else◌}
+use Rattle.std.specs.Prelude.{IsOk, IfOk, ◌||◌}
 use Rattle.std.specs.List.{list_any}
 use Rattle.loc_tree.proofs.Spots.{same_loc_sym}
 use Rattle.chem_model.specs.declared.name.Loc.{Loc}

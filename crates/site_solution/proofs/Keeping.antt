@@ -1,5 +1,5 @@
 -- What each call keeps of a site.
-use Rattle.std.proofs.Common.{◌≡◌, ℕ, zero, suc, ◌+◌, ◌<◌, ◌≤◌, ◌^◌, Bool, true, false, cond, List, [], ◌∷◌, ◌++◌, length, Option, Some, None, Result, Ok, Err, refl, sym, ap, subst, ◌∙◌, arith}
+use Rattle.std.proofs.Common.{◌≡◌, ℕ, zero, suc, ◌+◌, ◌<◌, ◌≤◌, ◌^◌, Bool, true, false, cond, List, [], ◌∷◌, length, Option, Some, None, Result, Ok, Err, refl, sym, ap, subst, ◌∙◌, arith}
 use Rattle.std.specs.Prelude.{slice_get, slice_set, slice_index_or, drop, OnOk, OnErr}
 use Rattle.chem_model.specs.declared.name.Loc.{Loc}
 use Rattle.chem_model.specs.declared.event.AtomId.{AtomId}
@@ -10,24 +10,22 @@ use Rattle.wire_packet.specs.MessageFacts.{MessageParts}
 use Rattle.wire_packet.specs.declared.packet.Waiting.{Waiting}
 use Rattle.wire_packet.specs.declared.packet.Request.{Request}
 use Rattle.queue_cells.specs.Grouped.{lists_at, queue_in, with_queue}
-use Rattle.net_laws.specs.Site.{Told, Group, Site, told_in}
+use Rattle.net_laws.specs.Site.{Group, Site, told_in}
 use Rattle.net_laws.specs.Net.{among, home_or}
-use Rattle.net_laws.specs.Kept.{IsKept, AreApart}
-use Rattle.net_laws.specs.Changes.{Takes, AreQueues}
+use Rattle.net_laws.specs.Kept.{IsKept}
+use Rattle.net_laws.specs.Changes.{Takes}
 use Rattle.net_laws.specs.Posting.{with_queues}
 use Rattle.net_laws.specs.Holding.{in_groups, put_in, put, with_request, without_request}
-use Rattle.net_laws.proofs.Holding.{put_is, lay_is}
-use Rattle.net_laws.proofs.Posting.{host_kept, each_with, fronts_go}
+use Rattle.net_laws.proofs.Holding.{put_is}
+use Rattle.net_laws.proofs.Posting.{each_with, fronts_go}
 use Rattle.site_solution.specs.declared.site.Site.TheInside.{Inside}
 use Rattle.site_solution.specs.Held.{queues_in, queue_of, without_front, has_atom}
 use Rattle.site_solution.specs.Rising.{Pending}
 use Rattle.site_solution.specs.Counted.{is_id, id_of, one_each, over_waiting, over_requests, times, waiting_in}
 use Rattle.site_solution.proofs.Counting.{put-sum, front-sum, request-more, request-less, absent-times, id-below}
 use Rattle.site_solution.specs.Index.{Rows, groups_of, told_of, holding, IsIndex}
-use Rattle.std.proofs.lemmas.List.{length-append}
-use Rattle.chem_laws.proofs.Lists.{Each-append}
 use Rattle.site_solution.specs.Stored.{seen, IsStored}
-use Rattle.site_solution.specs.CanLay.{HasNumbers, CanLay}
+use Rattle.site_solution.specs.CanLay.{HasNumbers}
 use Rattle.site_solution.proofs.Queueing.{queues-are, index-same}
 use Rattle.site_solution.proofs.Putting.{told-many, queue-set}
 

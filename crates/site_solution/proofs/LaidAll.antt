@@ -1,5 +1,5 @@
 -- Groups laid one after another are what they are where all are added first, and what is stuck is put once.
-use Rattle.std.proofs.Common.{◌≡◌, ℕ, List, [], ◌∷◌, ◌++◌, true, refl, sym, ap, ◌∙◌, subst}
+use Rattle.std.proofs.Common.{◌≡◌, List, [], ◌∷◌, ◌++◌, true, refl, sym, ap, ◌∙◌, subst}
 use Rattle.chem_model.specs.declared.name.Loc.{Loc}
 use Rattle.chem_model.specs.Each.{Each}
 use Rattle.chem_laws.proofs.Lists.{Each-left}

@@ -1,10 +1,8 @@
 -- Groups to come, one more.
 use Rattle.std.proofs.Common.{◌≡◌, ℕ, ◌+◌, List, [], ◌∷◌, ◌++◌, length, refl, sym, ap, ◌∙◌, subst, arith}
-use Rattle.chem_model.specs.Each.{Each}
-use Rattle.net_laws.specs.Site.{Told, Group, Site, told_in}
-use Rattle.net_laws.specs.Net.{among}
+use Rattle.net_laws.specs.Site.{Told, Group, told_in}
 use Rattle.net_laws.specs.Kept.{AreApart}
-use Rattle.net_laws.specs.Holding.{new_group, lay}
+use Rattle.net_laws.specs.Holding.{new_group}
 use Rattle.site_solution.specs.declared.told.NewGroup.{NewGroup}
 use Rattle.site_solution.specs.declared.told.Spots.{Spots}
 use Rattle.site_solution.specs.Index.{Rows, groups_of, told_of, new_groups, HasRoom}

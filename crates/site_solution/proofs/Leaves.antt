@@ -1,5 +1,5 @@
 -- What a run of the code made may be left at the site that ran it.
-use Rattle.std.proofs.Common.{◌≡◌, ℕ, zero, suc, ◌+◌, ◌<◌, ◌≤◌, ◌^◌, List, [], ◌∷◌, ◌++◌, length, Option, Some, None, Bool, true, false, cond, refl, sym, ap, ◌∙◌, subst, arith, inl, inr, ◌⊎◌, eqb-true}
+use Rattle.std.proofs.Common.{◌≡◌, ℕ, ◌+◌, ◌<◌, ◌≤◌, ◌^◌, List, [], ◌∷◌, ◌++◌, length, Option, Bool, true, false, cond, refl, sym, ap, ◌∙◌, arith, inl, inr, ◌⊎◌, eqb-true}
 use Rattle.std.specs.Prelude.{◌&&◌, ◌||◌, ◌==◌, not, nat_lt, slice_get}
 use Rattle.std.specs.List.{list_all}
 use Rattle.std.proofs.lemmas.Bool.{and_parts, or_left, or_right}
@@ -18,9 +18,8 @@ use Rattle.wire_packet.specs.declared.packet.Request.{Request}
 use Rattle.env_store.specs.declared.code.Level.{Level}
 use Rattle.env_store.specs.CodeParts.{CodeParts}
 use Rattle.net_laws.specs.Site.{Told, Group, Site, told_in}
-use Rattle.net_laws.specs.Net.{among, home_or}
-use Rattle.net_laws.specs.Changes.{channel_of}
-use Rattle.net_laws.specs.Kept.{AreDisjoint, AreApart, IsKept}
+use Rattle.net_laws.specs.Net.{among}
+use Rattle.net_laws.specs.Kept.{AreDisjoint, IsKept}
 use Rattle.net_laws.specs.Parcels.{all_told}
 use Rattle.net_laws.specs.ByCode.{told_by, counts_at, guards_at}
 use Rattle.net_laws.proofs.Calls.{apart_both}

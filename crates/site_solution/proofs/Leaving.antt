@@ -5,14 +5,13 @@ use Rattle.chem_model.specs.declared.name.Loc.{Loc}
 use Rattle.chem_model.specs.declared.event.AtomId.{AtomId}
 use Rattle.chem_model.specs.Each.{Each}
 use Rattle.wire_packet.specs.declared.packet.Flight.{Flight}
-use Rattle.wire_packet.specs.declared.packet.Waiting.{Waiting}
 use Rattle.wire_packet.specs.declared.packet.Request.{Request}
 use Rattle.loc_tree.specs.Tree.{Tree}
-use Rattle.net_laws.specs.Site.{Told, Group, Site, told_in}
-use Rattle.net_laws.specs.Net.{Addressed, among, address, home_or}
+use Rattle.net_laws.specs.Site.{Site}
+use Rattle.net_laws.specs.Net.{among}
 use Rattle.net_laws.specs.Posting.{Posted, a_message, a_request, Outcome, pour_here}
 use Rattle.net_laws.proofs.Posting.{among_append}
-use Rattle.site_solution.specs.Counted.{over_stuck, is_id, id_of, over_requests, times}
+use Rattle.site_solution.specs.Counted.{over_stuck, is_id, id_of, over_requests}
 use Rattle.site_solution.specs.Commit.{AreNew, MayStand, times_posted, CanLeave}
 use Rattle.site_solution.specs.Answers.{AreFlights}
 use Rattle.site_solution.specs.Split.{waits_in, asked_in, away_from, with_more}
@@ -23,7 +22,7 @@ use Rattle.site_solution.specs.Leave.{IsSorted, IsLeft}
 use Rattle.site_solution.specs.declared.commit.Sorted.{Sorted}
 use Rattle.code_run.specs.declared.made.Post.{Post}
 use Rattle.code_run.specs.Posts.{all_posted}
-use Rattle.site_solution.specs.Held.{taken_in, taken_at}
+use Rattle.site_solution.specs.Held.{taken_at}
 use Rattle.site_solution.specs.New.{gone_at}
 use Rattle.site_solution.proofs.Fronts.{taken-is}
 use Rattle.site_solution.proofs.Splitting.{poured-split}
@@ -67,7 +66,7 @@ asked-at ls [] h = tt
 asked-at ls (a_message l m ∷ ps) h = asked-at ls ps h.1
 asked-at ls (a_request q ∷ ps) h = (h.0, asked-at ls ps h.1)
 
-fewer-times : (i : AtomId) (ls : List Loc) (ps : List Posted) → over_stuck (id_of i) (waits_in ls ps) + over_requests i (asked_in ps) ≤ times_posted i ps
+pub fewer-times : (i : AtomId) (ls : List Loc) (ps : List Posted) → over_stuck (id_of i) (waits_in ls ps) + over_requests i (asked_in ps) ≤ times_posted i ps
 fewer-times i ls [] = omega arith
 fewer-times i ls (a_message l m ∷ ps) = go (among ls l) (fewer-times i ls ps)
   where

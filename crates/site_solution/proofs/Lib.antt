@@ -27,3 +27,8 @@ pub mod Together
 pub mod Possible
 pub mod Dropping
 pub mod Copied
+pub mod Packed
+pub mod Removed
+pub mod Parting
+pub mod Carrying
+pub mod Receiving

@@ -1,7 +1,7 @@
 -- What a site needs in order to pour holds of it again afterwards.
-use Rattle.std.proofs.Common.{◌≡◌, ℕ, zero, suc, ◌+◌, ◌≤◌, ◌<◌, ◌^◌, List, [], ◌∷◌, ◌++◌, length, Option, Some, None, Bool, true, false, cond, refl, sym, ap, ◌∙◌, subst, arith, inl, inr, ◌⊎◌, eq-eqb}
+use Rattle.std.proofs.Common.{◌≡◌, ℕ, ◌+◌, ◌≤◌, ◌^◌, List, [], ◌∷◌, ◌++◌, length, Option, Some, None, Bool, true, false, cond, refl, sym, ap, ◌∙◌, subst, arith, inl, inr, eq-eqb}
 use Rattle.std.specs.Prelude.{◌&&◌, ◌||◌, ◌==◌, is_some, slice_get, zip}
-use Rattle.std.specs.List.{list_all, Contains}
+use Rattle.std.specs.List.{list_all}
 use Rattle.std.proofs.lemmas.Bool.{and_parts, or_left, or_right}
 use Rattle.std.proofs.lemmas.Bool.Decides.{nat_tests}
 use Rattle.chem_model.specs.declared.name.Loc.{Loc}
@@ -9,7 +9,8 @@ use Rattle.chem_model.specs.declared.name.Name.{Name}
 use Rattle.chem_model.specs.declared.name.Name.TheVariants as name
 use Rattle.chem_model.specs.declared.event.AtomId.{AtomId}
 use Rattle.chem_model.specs.Solution.{same_loc}
-use Rattle.chem_laws.proofs.Within.{same_loc_is}
+use Rattle.chem_laws.proofs.Within.{same_loc_is, same_loc_refl}
+use Rattle.site_solution.proofs.LaidAll.{append-one}
 use Rattle.chem_model.specs.Each.{Each}
 use Rattle.chem_laws.proofs.Lists.{true_both}
 use Rattle.wire_packet.specs.MessageFacts.{MessageParts}
@@ -20,13 +21,12 @@ use Rattle.wire_packet.specs.declared.packet.Ask.{Ask}
 use Rattle.wire_packet.specs.declared.packet.Ask.TheVariants as request
 use Rattle.env_store.specs.declared.code.Level.{Level}
 use Rattle.env_store.specs.CodeParts.{CodeParts}
-use Rattle.env_store.specs.CodeFacts.{IsKnownTo}
 use Rattle.loc_tree.specs.Tree.{Tree, spot, IsFresh}
 use Rattle.net_laws.specs.Site.{Told, Group, Site, told_in}
 use Rattle.net_laws.specs.Net.{among, with_births}
 use Rattle.net_laws.specs.Parcels.{all_told}
 use Rattle.net_laws.specs.ByCode.{told_by, counts_at, guards_at}
-use Rattle.net_laws.proofs.Trees.{births_spot, born_standing}
+use Rattle.net_laws.proofs.Trees.{births_spot}
 use Rattle.net_laws.proofs.Posting.{among_append}
 use Rattle.code_run.specs.declared.made.Post.{Post}
 use Rattle.code_run.specs.declared.made.Post.TheVariants as post
@@ -35,7 +35,7 @@ use Rattle.code_run.specs.Posts.{all_posted}
 use Rattle.code_run.specs.RunFacts.{AreBorn, AreNumbered, IsLaid, IsHere, IsOfRun, AskNames, PostNames, GroupNames, IsRun}
 use Rattle.site_solution.specs.InCode.{same_pairs, same_counts, is_level_of, is_told_by, is_in_code}
 use Rattle.site_solution.specs.Named.{name_in, names_in, message_in, group_in, ask_in, request_in, all_in, in_tree, in_reach}
-use Rattle.site_solution.specs.Draws.{is_drawn, are_drawn, message_drawn, told_drawn, queues_drawn, group_drawn, all_drawn, CanDraw}
+use Rattle.site_solution.specs.Draws.{is_drawn, are_drawn, message_drawn, told_drawn, all_drawn}
 use Rattle.site_solution.specs.Split.{waits_in, asked_in}
 use Rattle.site_solution.specs.Pours.{CanPour, HasPoured, CanEmit, HasEmitted}
 use Rattle.site_solution.specs.InTree.{is_number, has_number, is_in_tree}
@@ -52,7 +52,7 @@ use Rattle.net_laws.specs.Kept.{AreApart, IsKept}
 use Rattle.net_laws.specs.Posting.{Outcome, pour_here}
 use Rattle.site_solution.proofs.Fronts.{AreGone, are-gone, taken-is}
 use Rattle.site_solution.proofs.Adding.{MayCome, HasCome, come-is}
-use Rattle.site_solution.proofs.Leaves.{drawn-later, drawn-new, AreAllDrawn, drawn-parts, here-or_born, run-leaves}
+use Rattle.site_solution.proofs.Leaves.{drawn-later, drawn-new, drawn-parts, here-or_born, run-leaves}
 use Rattle.site_solution.proofs.AllHold.{all-both, all-weaker, holds-at, AllHold, gone-holds, come-holds, holds-weaker}
 
 append-nil : {X : Type 0} (xs : List X) → xs ++ [] ≡ xs
@@ -345,6 +345,35 @@ in_tree-named t s named =
     let parts' = and_parts (list_all (λ (w : Waiting). message_in (in_tree t) w.msg) s.stuck) _ parts.1 in
     let all = holds-weaker (message_in (in_tree t)) (message_in there) (λ (d : Told). names_in (in_tree t) d.inst.env) (λ (d : Told). names_in there d.inst.env) (request_in (in_tree t)) (request_in there) s (message-weaker (in_tree t) there weaker) (λ d e. names-weaker (in_tree t) there weaker d.inst.env e) (λ q e. ask-weaker (in_tree t) there weaker q.ask e) (record { groups = parts.0; stuck = parts'.0; requests = parts'.1 }) in
     true_both _ _ all.groups (true_both _ _ all.stuck all.requests)
+
+-- ---- the numbers of the locations here
+
+members-in : (front ls : List Loc) → list_all (among (front ++ ls)) ls ≡ true
+members-in front [] = refl
+members-in front (l ∷ ls) = true_both (among (front ++ l ∷ ls) l) (list_all (among (front ++ l ∷ ls)) ls) (among_append front (l ∷ ls) l ∙ or_right (among front l) (among (l ∷ ls) l) (ap (λ u. u || among ls l) (same_loc_refl l))) (subst (λ (xs : List Loc). list_all (among xs) ls ≡ true) (append-one front l ls) (members-in (front ++ l ∷ []) ls))
+
+-- where all here is in the tree with the number of the site, it is so again with the births
+pub poured-in_tree : (c : CodeParts) (t : Tree) (s new : Site) (l : Loc) (env : List Name) (r : Run) → IsRun c s.number l env s.made r → IsFresh t s.number s.made → is_in_tree t s ≡ true → new.number ≡ s.number → new.locs ≡ s.locs ++ r.births → all_in (in_reach (with_births t s.number r.births) new.locs) new ≡ true → is_in_tree (with_births t s.number r.births) new ≡ true
+poured-in_tree c t s new l env r run fresh old number locs named =
+    let t' = with_births t s.number r.births in
+    let all = and_parts (list_all (has_number t s.number) s.locs && among s.locs (root_of s.number)) (all_in (in_tree t) s) old in
+    let own = and_parts (list_all (has_number t s.number) s.locs) (among s.locs (root_of s.number)) all.0 in
+    let later : (a : Loc) → has_number t s.number a ≡ true → has_number t' s.number a ≡ true = λ a e. by_birth a (among r.births a) (spot-later t s.number s.made r.next r.births fresh run.births a) e in
+    let born : (a : Loc) → among r.births a ≡ true → has_number t' s.number a ≡ true = λ a e. ap (λ o. is_number (number_in o) s.number) (spot-later t s.number s.made r.next r.births fresh run.births a ∙ ap (λ u. cond u (Some (record { number = s.number; marked = false })) (spot t a)) e) ∙ eq-eqb s.number s.number refl in
+    let both : list_all (has_number t' s.number) (s.locs ++ r.births) ≡ true = all-both (has_number t' s.number) s.locs r.births (all-weaker (has_number t s.number) (has_number t' s.number) s.locs later own.0) (all-weaker (among r.births) (has_number t' s.number) r.births born (members-in [] r.births)) in
+    let numbered : list_all (has_number t' new.number) new.locs ≡ true = ap (λ (i : ℕ). list_all (has_number t' i) new.locs) number ∙ ap (list_all (has_number t' s.number)) locs ∙ both in
+    let root : among new.locs (root_of new.number) ≡ true = ap (λ (i : ℕ). among new.locs (root_of i)) number ∙ ap (λ xs. among xs (root_of s.number)) locs ∙ among_append s.locs r.births (root_of s.number) ∙ or_left (among s.locs (root_of s.number)) (among r.births (root_of s.number)) own.1 in
+    true_both (list_all (has_number t' new.number) new.locs && among new.locs (root_of new.number)) (all_in (in_tree t') new) (true_both (list_all (has_number t' new.number) new.locs) (among new.locs (root_of new.number)) numbered root) (named-in_tree t' new numbered named)
+  where
+    by_birth : (a : Loc) (u : Bool) → spot (with_births t s.number r.births) a ≡ cond u (Some (record { number = s.number; marked = false })) (spot t a) → has_number t s.number a ≡ true → has_number (with_births t s.number r.births) s.number a ≡ true
+    by_birth a true is e = ap (λ o. is_number (number_in o) s.number) is ∙ eq-eqb s.number s.number refl
+    by_birth a false is e = ap (λ o. is_number (number_in o) s.number) is ∙ e
+
+pub poured-there : (c : CodeParts) (t : Tree) (s new : Site) (l : Loc) (env : List Name) (r : Run) (j : ℕ) (cs : List ℕ) → IsRun c s.number l env s.made r → among s.locs l ≡ true → IsKept s → ((i : AtomId) → times i s ≤ 1) → CanPour c t env s → new ≡ (pour_here t r.next r.births (all_told (told_by c) r.groups) (all_posted r.posts) (taken_at j cs s)).site → is_in_tree t s ≡ true → is_in_tree (with_births t s.number r.births) new ≡ true
+poured-there c t s new l env r j cs run here kept once can is old =
+    let few : r.next ≤ 2 ^ 64 = omega (arith, run.below, can.can_draw.few) in
+    let come = run-comes c t s new l env r j cs run here kept once can.can_draw.drawn few is in
+    poured-in_tree c t s new l env r run can.can_draw.fresh old come.number come.locs (poured-keeps c t s new l env r j cs run here kept once can is).all_named
 
 -- ---- one message
 

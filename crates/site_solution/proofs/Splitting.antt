@@ -1,12 +1,12 @@
 -- What is posted at a site, as messages that are put and requests that are added.
-use Rattle.std.proofs.Common.{◌≡◌, ℕ, List, [], ◌∷◌, ◌++◌, Option, Some, None, Bool, true, false, cond, refl, sym, ap, ◌∙◌, subst}
+use Rattle.std.proofs.Common.{◌≡◌, ℕ, List, [], ◌∷◌, ◌++◌, Option, Some, None, Bool, true, false, cond, refl, ap, ◌∙◌}
 use Rattle.chem_model.specs.declared.name.Loc.{Loc}
 use Rattle.wire_packet.specs.MessageFacts.{MessageParts}
 use Rattle.wire_packet.specs.declared.packet.Waiting.{Waiting}
 use Rattle.wire_packet.specs.declared.packet.Request.{Request}
 use Rattle.loc_tree.specs.Tree.{Tree}
 use Rattle.net_laws.specs.Site.{Told, Group, Site}
-use Rattle.net_laws.specs.Net.{Addressed, among, address}
+use Rattle.net_laws.specs.Net.{among, address}
 use Rattle.net_laws.specs.Holding.{in_groups, put_in, put, put_all, ask, ask_all, new_group, lay, lay_all, host_all}
 use Rattle.net_laws.specs.Posting.{Posted, a_message, a_request, Outcome, post, post_all, pour_here}
 use Rattle.site_solution.specs.Split.{waits_in, asked_in, away_from, with_more}
@@ -18,7 +18,7 @@ put-locs l m s = go (in_groups s.groups m)
     go None = refl
     go (Some gs) = refl
 
-put_all-locs : (ws : List Waiting) (s : Site) → (put_all ws s).locs ≡ s.locs
+pub put_all-locs : (ws : List Waiting) (s : Site) → (put_all ws s).locs ≡ s.locs
 put_all-locs [] s = refl
 put_all-locs (w ∷ ws) s = put_all-locs ws (put w.loc w.msg s) ∙ put-locs w.loc w.msg s
 

@@ -1,13 +1,12 @@
 -- A front that is taken, where there is one.
-use Rattle.std.proofs.Common.{◌≡◌, ℕ, ◌≤◌, List, [], ◌∷◌, length, Option, Some, None, refl, sym, ap, ◌∙◌, subst, arith}
+use Rattle.std.proofs.Common.{◌≡◌, ℕ, ◌≤◌, List, [], ◌∷◌, length, Option, Some, None, refl, sym, ap, ◌∙◌}
 use Rattle.std.specs.Prelude.{slice_get, slice_index_or}
 use Rattle.wire_packet.specs.MessageFacts.{MessageParts}
 use Rattle.queue_cells.specs.Grouped.{lists_at, queue_in, with_queue}
 use Rattle.net_laws.specs.Site.{Group}
 use Rattle.site_solution.specs.Held.{queues_in}
 use Rattle.site_solution.specs.Index.{Rows, groups_of}
-use Rattle.site_solution.specs.New.{told_of_new, gone_at}
-use Rattle.site_solution.specs.declared.told.NewGroup.{NewGroup}
+use Rattle.site_solution.specs.New.{gone_at}
 use Rattle.site_solution.proofs.Queueing.{queues-are}
 use Rattle.site_solution.proofs.Keeping.{front-gone}
 use Rattle.site_solution.proofs.Fronts.{past-front, gone-none, gone-empty, gone-one}

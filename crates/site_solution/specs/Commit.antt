@@ -3,8 +3,6 @@ use Rattle.std.specs.Prelude.{◌≡◌, ℕ, ◌+◌, ◌≤◌, List, [], ◌�
 use Rattle.chem_model.specs.declared.name.Loc.{Loc}
 use Rattle.chem_model.specs.declared.event.AtomId.{AtomId}
 use Rattle.chem_model.specs.Each.{Each}
-use Rattle.wire_packet.specs.declared.packet.Waiting.{Waiting}
-use Rattle.wire_packet.specs.declared.packet.Request.{Request}
 use Rattle.net_laws.specs.Site.{Told, Site, told_in}
 use Rattle.net_laws.specs.Net.{among, home_or}
 use Rattle.net_laws.specs.Kept.{AreApart}

@@ -14,9 +14,13 @@ pub mod Hosted
 pub mod Index
 pub mod Forgotten
 pub mod Packed
+pub mod Apart
+pub mod Parted
 pub mod New
 pub mod Split
 pub mod More
+pub mod Parcels
+pub mod Carried
 pub mod Leave
 pub mod Stored
 pub mod Possible

@@ -1,5 +1,5 @@
 -- What comes to a site, and the room that it takes. No public contract cites it.
-use Rattle.std.specs.Prelude.{◌≡◌, ℕ, ◌+◌, ◌<◌, ◌≤◌, ◌^◌, Bool, true, false, not, List, [], ◌∷◌, ◌++◌}
+use Rattle.std.specs.Prelude.{◌≡◌, ◌+◌, ◌≤◌, Bool, true, false, List, [], ◌∷◌, ◌++◌}
 use Rattle.std.specs.Prelude.{length, Vec, vec_capacity}
 use Rattle.std.specs.declared.alloc.Global.{Global}
 use Rattle.wire_packet.specs.MessageFacts.{MessageParts}

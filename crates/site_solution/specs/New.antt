@@ -1,8 +1,7 @@
 -- Groups that are to come, with the memory that they take. No public contract cites it.
 use Rattle.std.specs.Prelude.{◌≡◌, ℕ, ◌+◌, List, [], ◌∷◌, Option, Some, None, slice_get, slice_set}
 use Rattle.std.specs.Prelude.{length}
-use Rattle.chem_model.specs.Each.{Each}
-use Rattle.net_laws.specs.Site.{Told, Group, Site, told_in}
+use Rattle.net_laws.specs.Site.{Told, Group}
 use Rattle.site_solution.specs.declared.told.NewGroup.{NewGroup}
 use Rattle.site_solution.specs.Held.{without_fronts}
 

@@ -1,6 +1,6 @@
 -- What is posted, sorted: what waits here, requests, and what goes away. No public contract cites
 -- it.
-use Rattle.std.specs.Prelude.{◌≡◌, ℕ, ◌+◌, List, [], ◌∷◌, ◌++◌, cond}
+use Rattle.std.specs.Prelude.{ℕ, List, [], ◌∷◌, cond}
 use Rattle.chem_model.specs.declared.name.Loc.{Loc}
 use Rattle.wire_packet.specs.declared.packet.Waiting.{Waiting}
 use Rattle.wire_packet.specs.declared.packet.Request.{Request}

@@ -3,9 +3,10 @@ ghost use Rattle.std.specs.Prelude.{◌≡◌, [], length, slice_get, Some, None
 ghost use Rattle.std.specs.Prelude.{◌≤◌, ◌<◌, ◌+◌, ◌^◌, option_copied};
 ghost use Rattle.chem_model.specs.Apply.{same_atom};
 ghost use Rattle.net_laws.specs.Holding.{precedes, request_with, with_request, without_request};
-ghost use Rattle.site_solution.specs.Rising.{rank, with_requests, AreNewIn};
+ghost use Rattle.site_solution.specs.Rising.{rank, with_requests, AreNewIn, AreAsked};
+ghost use Rattle.net_laws.specs.Parcels.{requests_but};
 
-use chem_model::{AtomId, Memory};
+use chem_model::{AtomId, Loc, Memory, same_loc};
 use std::alloc::Global;
 use std::marker::Model;
 use wire_packet::Request;
@@ -94,7 +95,8 @@ impl Asked {
 
     // All of them.
     pub(crate) fn as_slice(&self) -> &[Request]
-        ensures { result.now ≡ self.now.items }
+        ensures members { result.now ≡ self.now.items }
+        ensures asked { AreAsked self.now.items }
     {
         &self.items
     }
@@ -154,5 +156,12 @@ impl Asked {
     {
         let rank = self.rank(id);
         self.items.remove(rank);
+    }
+
+    // Drops the requests at a location.
+    pub(crate) fn drop_at(&mut self, loc: Loc)
+        ensures { self.new.items ≡ requests_but loc self.old.items }
+    {
+        self.items.retain(|request| !same_loc(loc, request.loc));
     }
 }

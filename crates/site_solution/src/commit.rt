@@ -26,10 +26,10 @@ use wire_packet::{Flight, Flights, Msg, Packet, Request, Waiting, encode};
 
 // What is posted: messages that wait here, requests, and messages that go away.
 #[derive(Drop)]
-struct Sorted {
-    waiting: Vec<Waiting>,
-    requests: Vec<Request>,
-    flights: Flights,
+pub(crate) struct Sorted {
+    pub(crate) waiting: Vec<Waiting>,
+    pub(crate) requests: Vec<Request>,
+    pub(crate) flights: Flights,
 }
 
 // The number of the site that hosts the location, or 0 where the tree doesn't have it.
@@ -80,7 +80,7 @@ fn sort_post(
 }
 
 // Sorts what is posted, where the locations here and those that are born are hosted.
-fn sort_posts(
+pub(crate) fn sort_posts(
     alloc: Global,
     tree: &LocTree,
     here: &Places,
@@ -102,7 +102,7 @@ fn sort_posts(
 }
 
 // Locations as a set.
-fn places(alloc: Global, locs: &[Loc]) -> Result<Places, Memory>
+pub(crate) fn places(alloc: Global, locs: &[Loc]) -> Result<Places, Memory>
     requires { AreNew [] locs.now }
     ensures { IfOk result (λ places. places.locs ≡ locs.now) }
 {

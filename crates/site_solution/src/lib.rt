@@ -4,6 +4,7 @@
 //! are.
 #![tactic(auto)]
 
+mod apart;
 mod asked;
 mod commit;
 mod effects;
@@ -11,6 +12,7 @@ mod finding;
 mod forgetting;
 mod more;
 mod packing;
+mod parcels;
 mod places;
 mod pouring;
 mod site;

@@ -1,6 +1,7 @@
 // The locations that a site hosts.
 ghost use Rattle.std.specs.Prelude.{◌≡◌, ◌≤◌, ◌+◌, ◌∷◌, ◌++◌, [], false, length, OnOk, OnErr};
 ghost use Rattle.net_laws.specs.Net.{among};
+ghost use Rattle.net_laws.specs.Parcels.{locs_but};
 ghost use Rattle.site_solution.specs.Hosted.{locs_of};
 ghost use Rattle.site_solution.specs.Commit.{AreNew};
 
@@ -74,6 +75,14 @@ impl Places {
         self.reserve(1)?;
         self.add_reserved(loc);
         Ok(())
+    }
+
+    // Drops a location.
+    pub(crate) fn remove(&mut self, loc: Loc)
+        ensures { self.new.locs ≡ locs_but loc self.old.locs }
+    {
+        self.pairs
+            .retain(|pair| pair.0 != loc.site || pair.1 != loc.k);
     }
 
     // Adds locations. It takes no memory.

@@ -13,6 +13,7 @@ ghost use Rattle.net_laws.specs.ByCode.{run_here};
 ghost use Rattle.net_laws.specs.Meeting.{sent_here};
 ghost use Rattle.site_solution.specs.Answers.{Answers};
 ghost use Rattle.site_solution.specs.Held.{taken_at};
+ghost use Rattle.site_solution.specs.InTree.{is_in_tree};
 ghost use Rattle.site_solution.specs.Pours.{CanPour, HasPoured, CanEmit, HasEmitted};
 
 use crate::effects::Effects;
@@ -45,6 +46,8 @@ impl Site {
         ensures err { OnErr result (self.new ≡ self.old) }
         ensures keeps { IfOk result (λ e.
             HasPoured code.now (with_births tree.now self.old.number e.births) self.new) }
+        ensures in_tree { IfOk result (λ e. is_in_tree tree.now self.old ≡ true
+            → is_in_tree (with_births tree.now self.old.number e.births) self.new ≡ true) }
     {
         self.pour_taking(alloc, code, tree, 0, &[], loc, body, env)
     }
@@ -73,6 +76,8 @@ impl Site {
         ensures err { OnErr result (self.new ≡ self.old) }
         ensures keeps { IfOk result (λ e.
             HasPoured code.now (with_births tree.now self.old.number e.births) self.new) }
+        ensures in_tree { IfOk result (λ e. is_in_tree tree.now self.old ≡ true
+            → is_in_tree (with_births tree.now self.old.number e.births) self.new ≡ true) }
     {
         site_is_kept(self);
         let made = run(alloc, code, self.number(), body, env, loc, self.made())?;

@@ -24,25 +24,34 @@ ghost use Rattle.site_solution.specs.Draws.{all_drawn, CanDraw};
 ghost use Rattle.site_solution.specs.InTree.{has_number, is_in_tree};
 ghost use Rattle.site_solution.specs.Held.{queues_of, queue_of, without_front, inst_in, has_atom};
 ghost use Rattle.site_solution.specs.Held.{taken_at};
+ghost use Rattle.net_laws.specs.Parcels.{pack, parcel_of, remove, stuck_but};
+ghost use Rattle.site_solution.specs.Apart.{are_separate, is_apart};
+ghost use Rattle.site_solution.specs.Parted.{is_parted};
 ghost use Rattle.site_solution.specs.Counted.{times, waiting_in};
 ghost use Rattle.site_solution.specs.More.{CanAdd, added};
 
+use crate::apart::{
+    groups_are_apart, is_separate, queued_are_apart, requests_are_apart, stuck_are_apart,
+};
 use crate::asked::Asked;
 use crate::finding::{find, no_spots, push_back, settle};
+use crate::forgetting::drop_groups;
 use crate::more::{More, add_groups, make_room, new_group, take_fronts, told_by};
+use crate::packing::{copy_groups_at, copy_requests_at, copy_waiting_at};
 use crate::places::Places;
 use crate::testing::{
-    Count, are_told_by, groups_are_drawn, locs_are_drawn, requests_are_drawn, stuck_are_drawn,
+    Count, are_told_by, groups_are_drawn, is_drawn, locs_are_drawn, requests_are_drawn,
+    stuck_are_drawn,
 };
 use crate::told::{Spots, Told};
 use crate::walking::{groups_are_there, in_groups, in_stuck, requests_are_there, stuck_are_there};
-use chem_model::{AtomId, Loc, Memory};
+use chem_model::{AtomId, Loc, Memory, same_loc};
 use env_store::Code;
 use loc_tree::LocTree;
 use queue_cells::Groups;
 use std::alloc::Global;
 use std::marker::Model;
-use wire_packet::{GroupInst, Msg, Request, Waiting};
+use wire_packet::{GroupInst, Msg, Parcel, Request, Waiting};
 
 /// What one root hosts. Contracts see its number, how many numbers it has made, its locations, its
 /// groups with a queue for each of their channels, the messages that are stuck, and its requests.
@@ -406,6 +415,80 @@ impl Site {
     {
         self.requests.remove(*atom);
     }
+
+    // Its number, and how many numbers it has made.
+    pub(crate) fn count(&self) -> Count
+        ensures number { result.number ≡ self.now.number }
+        ensures made { result.made ≡ self.now.made }
+    {
+        Count {
+            number: self.number,
+            made: self.made,
+        }
+    }
+
+    // Whether no group here has a channel or a rule of this one.
+    pub(crate) fn is_separate(&self, told: &Told) -> bool
+        ensures { result ≡ list_all (are_separate told.now) (told_in self.now.groups) }
+    {
+        is_separate(&self.groups, told)
+    }
+
+    // Whether all that stands at a location of another site may come to this one.
+    fn is_parted(&self, from: &Site, loc: &Loc, but: &AtomId) -> bool
+        ensures { result ≡ is_parted self.now from.now loc.now but.now }
+    {
+        let atom = *but;
+        !self.has(loc)
+            && is_drawn(self.count(), loc.site, loc.k)
+            && groups_are_apart(self, &from.groups, *loc)
+            && queued_are_apart(self, atom, &from.groups, *loc)
+            && stuck_are_apart(self, atom, &from.stuck, *loc)
+            && requests_are_apart(self, atom, from.requests.as_slice(), *loc)
+    }
+
+    /// Whether neither a location of another site nor a rule, channel or atom there, one atom left
+    /// out, is held here, and each of them that this site made has a number below its count. The
+    /// tree, which both sites have in common, isn't read.
+    pub fn apart(&self, from: &Site, _tree: &LocTree, loc: &Loc, but: &AtomId) -> bool
+        ensures { result ≡ is_apart self.now but.now (pack loc.now from.now) }
+    {
+        self.is_parted(from, loc, but)
+    }
+
+    /// A copy of a location with its groups, its messages in the order of their queues and then
+    /// those that are stuck, and its requests.
+    pub fn pack(&self, alloc: Global, loc: &Loc) -> Result<Parcel, Memory>
+        ensures { IfOk result (λ parcel. parcel ≡ parcel_of (pack loc.now self.now)) }
+    {
+        let groups = copy_groups_at(alloc, &self.groups, *loc)?;
+        let waiting = copy_waiting_at(alloc, &self.groups, &self.stuck, *loc)?;
+        let requests = copy_requests_at(alloc, self.requests.as_slice(), *loc)?;
+        Ok(Parcel {
+            loc: *loc,
+            groups,
+            waiting,
+            requests,
+        })
+    }
+
+    /// Drops a location with all that stands at it: exactly what `pack` gives of it. It takes no
+    /// memory.
+    pub fn remove(&mut self, loc: &Loc)
+        ensures { self.new ≡ remove loc.now self.old }
+    {
+        drop_groups(&mut self.groups, &mut self.spots, *loc);
+        drop_stuck(&mut self.stuck, *loc);
+        self.requests.drop_at(*loc);
+        self.locs.remove(*loc);
+    }
+}
+
+// Drops the stuck messages at a location.
+fn drop_stuck(stuck: &mut Vec<Waiting>, loc: Loc)
+    ensures { stuck.new.items ≡ stuck_but loc stuck.old.items }
+{
+    stuck.retain(|waiting| !same_loc(loc, waiting.loc));
 }
 
 /// All that a site holds stands at locations that it hosts, a queue holds messages on its channel

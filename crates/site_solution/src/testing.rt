@@ -64,7 +64,7 @@ pub(crate) struct Count {
     pub(crate) made: u64,
 }
 
-fn is_drawn(count: Count, site: u32, k: u64) -> bool
+pub(crate) fn is_drawn(count: Count, site: u32, k: u64) -> bool
     ensures { result ≡ is_drawn count.number count.made site k }
 {
     site != count.number || k < count.made
@@ -76,7 +76,7 @@ fn are_drawn(count: Count, site: u32, k: u64, many: usize) -> bool
     site != count.number || many == 0 || k <= count.made && many as u64 <= count.made - k
 }
 
-fn told_is_drawn(count: Count, told: &Told) -> bool
+pub(crate) fn told_is_drawn(count: Count, told: &Told) -> bool
     ensures { result ≡ told_drawn count.number count.made told.now }
 {
     let chans = told.inst.chans;

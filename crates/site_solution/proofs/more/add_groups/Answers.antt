@@ -1,8 +1,7 @@
-use Rattle.std.proofs.Common.{◌≡◌, ◌+◌, ◌≤◌, ◌∷◌, ◌++◌, List, length, sym, subst, ap, ◌∙◌, rules, arith}
+use Rattle.std.proofs.Common.{◌≡◌, ◌∷◌, ◌++◌, List, length, sym, subst, ap, ◌∙◌, rules, arith}
 use Rattle.std.specs.Vec.Iter.{into_iter_items}
 use Rattle.chem_model.specs.Each.{Each}
 use Rattle.net_laws.specs.Kept.{AreApart}
-use Rattle.net_laws.specs.Site.{Told}
 use Rattle.site_solution.specs.declared.told.NewGroup.{NewGroup}
 use Rattle.site_solution.specs.CanLay.{HasNumbers}
 use Rattle.site_solution.specs.Index.{told_of, groups_of, new_groups, HasRoom}

@@ -1,4 +1,4 @@
-use Rattle.std.proofs.Common.{◌≡◌, ◌+◌, ◌≤◌, [], length, drop, sym, ap, ◌∙◌, arith}
+use Rattle.std.proofs.Common.{◌≡◌, ◌+◌, [], drop, sym, ap, ◌∙◌, arith}
 use Rattle.site_solution.specs.Index.{groups_of}
 use Rattle.site_solution.specs.New.{gone_at}
 use Rattle.site_solution.proofs.Asking.{drop-here}

@@ -1,5 +1,5 @@
-use Rattle.std.proofs.Common.{◌≡◌, ◌+◌, ◌≤◌, ◌-◌, arith, ap, sym, ◌∙◌}
-use Rattle.std.specs.Prelude.{insert, IsOk, vec_len, vec_capacity}
+use Rattle.std.proofs.Common.{◌≡◌, arith, ap, sym, ◌∙◌}
+use Rattle.std.specs.Prelude.{insert}
 use Rattle.site_solution.specs.Rising.{rank, Pending}
 use Rattle.site_solution.proofs.Ranks.{insert-at_rank, Rising-with, length-with}
 use Rattle.site_solution.proofs.Asking.{taken-ok}

@@ -1,4 +1,3 @@
-use Rattle.std.proofs.Common.{◌∙◌}
 use Rattle.site_solution.proofs.Hosting.{if-ok, inserted}
 use Rattle.site_solution.proofs.places.Places.add_reserved.Goals as goal
 

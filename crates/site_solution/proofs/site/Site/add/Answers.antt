@@ -1,10 +1,8 @@
-use Rattle.std.proofs.Common.{◌≡◌, ◌≤◌, List, [], ◌∷◌, ◌++◌, subst, ap, sym, ◌∙◌}
+use Rattle.std.proofs.Common.{◌≡◌, ◌≤◌, List, [], ◌∷◌, ◌++◌, subst, ap, ◌∙◌}
 use Rattle.chem_model.specs.declared.event.AtomId.{AtomId}
 use Rattle.net_laws.specs.Site.{Site}
 use Rattle.net_laws.specs.Holding.{lay}
 use Rattle.site_solution.specs.Counted.{times}
-use Rattle.site_solution.specs.More.{added}
-use Rattle.site_solution.specs.Held.{taken_at}
 use Rattle.site_solution.specs.declared.more.More.{More}
 use Rattle.site_solution.specs.declared.told.NewGroup.{NewGroup}
 use Rattle.site_solution.proofs.Keeping.{on-success}

@@ -11,7 +11,7 @@ use Rattle.site_solution.specs.declared.site.Site.TheInside.{Inside}
 use Rattle.site_solution.specs.Stored.{seen}
 use Rattle.site_solution.proofs.Amounts.{stuck-many}
 use Rattle.site_solution.proofs.Fronts.{are-gone}
-use Rattle.site_solution.proofs.Adding.{AreDone, gone-index, done-is, done-stored, may-done}
+use Rattle.site_solution.proofs.Adding.{gone-index, done-is, done-stored, may-done}
 use Rattle.site_solution.proofs.site.Site.add_all.Goals as goal
 
 pub make_room-requires : goal.make_room-requires

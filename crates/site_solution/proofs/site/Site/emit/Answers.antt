@@ -1,5 +1,4 @@
-use Rattle.std.proofs.Common.{◌≡◌, ◌+◌, ◌≤◌, ◌^◌, ℕ, List, [], ◌∷◌, subst, sym, ap, ◌∙◌, arith}
-use Rattle.chem_model.specs.declared.name.Loc.{Loc}
+use Rattle.std.proofs.Common.{◌≡◌, ℕ, List, [], ◌∷◌, subst, sym, ap, ◌∙◌, arith}
 use Rattle.chem_model.specs.declared.name.Ref.TheVariants.{Known}
 use Rattle.chem_model.specs.declared.numbered.Made.{Made}
 use Rattle.chem_model.specs.Process.{Msg}
@@ -7,13 +6,12 @@ use Rattle.chem_model.specs.Reduction.{all_known}
 use Rattle.chem_model.specs.Opening.{root_of}
 use Rattle.chem_model.specs.Pour.{pour}
 use Rattle.chem_model.specs.Each.{Each}
-use Rattle.wire_packet.specs.declared.packet.GroupInst.{GroupInst}
 use Rattle.env_store.specs.CodeParts.{CodeParts}
 use Rattle.env_store.specs.Running.{atom_ran}
 use Rattle.net_laws.specs.Site.{Told}
 use Rattle.net_laws.specs.Parcels.{all_told}
 use Rattle.net_laws.specs.ByCode.{told_by}
-use Rattle.net_laws.specs.Posting.{pour_here, Outcome}
+use Rattle.net_laws.specs.Posting.{pour_here}
 use Rattle.code_run.specs.declared.made.Run.{Run}
 use Rattle.code_run.specs.RunFacts.{IsRun}
 use Rattle.code_run.specs.Posts.{run_of, all_posted}

@@ -1,4 +1,4 @@
-use Rattle.std.proofs.Common.{List, ◌∷◌, ◌++◌, []}
+use Rattle.std.proofs.Common.{List, ◌∷◌, []}
 use Rattle.chem_model.specs.declared.name.Loc.{Loc}
 use Rattle.net_laws.specs.Kept.{IsKept}
 use Rattle.net_laws.proofs.Posting.{host_kept}

@@ -1,4 +1,4 @@
-use Rattle.std.proofs.Common.{◌≡◌, List, [], ◌++◌, sym, subst, ap, ◌∙◌}
+use Rattle.std.proofs.Common.{List, [], ◌++◌, sym, subst, ap, ◌∙◌}
 use Rattle.chem_model.specs.declared.name.Loc.{Loc}
 use Rattle.code_run.specs.Posts.{all_posted}
 use Rattle.site_solution.specs.Commit.{AreNew}

@@ -1,4 +1,4 @@
-use Rattle.std.proofs.Common.{◌≡◌, ◌+◌, ◌<◌, ◌^◌, length, ◌∙◌, sym, ap, arith}
+use Rattle.std.proofs.Common.{◌≡◌, ◌+◌, ◌∙◌, ap, arith}
 use Rattle.site_solution.specs.Counted.{waiting_in}
 use Rattle.site_solution.specs.Stored.{seen}
 use Rattle.site_solution.proofs.Amounts.{rows-many, stuck-many}
