@@ -3,9 +3,11 @@
 #![tactic(auto)]
 
 mod deaths;
+mod detecting;
 mod halting;
 #[cfg(test)]
 mod tests;
 
 pub use deaths::dead_for;
+pub use detecting::detect;
 pub use halting::{halt, halt_ready};

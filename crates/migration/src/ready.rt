@@ -1,0 +1,43 @@
+ghost use Rattle.std.specs.Prelude.{◌≡◌, List, Some, true, IsSome};
+ghost use Rattle.chem_model.specs.declared.event.Event.TheVariants as event;
+ghost use Rattle.chem_model.specs.declared.numbered.NumberedRule.{NumberedRule};
+ghost use Rattle.wire_packet.specs.declared.packet.GroupInst.{GroupInst};
+ghost use Rattle.loc_tree.specs.Tree.{spot};
+ghost use Rattle.site_solution.specs.InTree.{request_stands, is_in_tree};
+ghost use Rattle.site_solution.specs.Possible.{Foretells};
+ghost use Rattle.migration.specs.Moves.{is_ready, can_go};
+
+use chem_model::{AtomId, Name};
+use loc_tree::LocTree;
+use site_solution::{Site, site_is_kept};
+use wire_packet::{Ask, Request};
+
+// Whether the request is one to go, where the rule Go lets its location move to the target.
+fn is_ready(tree: &LocTree, request: &Request) -> bool
+    requires loc { IsSome (spot tree.now request.now.loc) }
+    requires names { request_stands tree.now request.now ≡ true }
+    ensures { result ≡ is_ready tree.now (Some request.now) }
+{
+    match request.ask {
+        Ask::Go {
+            target: Name::Place(target),
+            cont: _,
+        } => tree.can_move(&request.loc, &target),
+        _ => false,
+    }
+}
+
+/// Whether this is a request of the site to go, which the rule Go allows: exactly where that event
+/// is possible, whatever stands beside the site.
+pub fn move_ready(site: &Site, tree: &LocTree, atom: &AtomId) -> bool
+    requires { is_in_tree tree.now site.now ≡ true }
+    ensures exact { result ≡ can_go tree.now atom.now site.now }
+    ensures possible { (rules_of : GroupInst → List NumberedRule)
+        → Foretells rules_of tree.now site.now atom.now (event.Move atom.now) result }
+{
+    site_is_kept(site);
+    match site.request(atom) {
+        Some(request) => is_ready(tree, request),
+        None => false,
+    }
+}
