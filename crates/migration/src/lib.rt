@@ -1,6 +1,12 @@
-//! Locations that move: when a request to go may be met.
+//! Locations that move: within the site that hosts them already, or from one site to another with
+//! all that stands there.
 #![tactic(auto)]
 
+mod carrying;
+mod leaving;
+mod moving;
 mod ready;
 
-pub use ready::move_ready;
+pub use carrying::{can_join, move_between};
+pub use moving::move_within;
+pub use ready::{leads_into, move_ready};

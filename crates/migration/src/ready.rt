@@ -6,6 +6,7 @@ ghost use Rattle.loc_tree.specs.Tree.{spot};
 ghost use Rattle.site_solution.specs.InTree.{request_stands, is_in_tree};
 ghost use Rattle.site_solution.specs.Possible.{Foretells};
 ghost use Rattle.migration.specs.Moves.{is_ready, can_go};
+ghost use Rattle.migration.specs.Within.{leads_into};
 
 use chem_model::{AtomId, Name};
 use loc_tree::LocTree;
@@ -38,6 +39,22 @@ pub fn move_ready(site: &Site, tree: &LocTree, atom: &AtomId) -> bool
     site_is_kept(site);
     match site.request(atom) {
         Some(request) => is_ready(tree, request),
+        None => false,
+    }
+}
+
+/// Whether this is a request of the first site to go to a location that the second one hosts.
+pub fn leads_into(from: &Site, into: &Site, atom: &AtomId) -> bool
+    ensures { result ≡ leads_into atom.now from.now into.now }
+{
+    match from.request(atom) {
+        Some(request) => match request.ask {
+            Ask::Go {
+                target: Name::Place(target),
+                cont: _,
+            } => into.has(&target),
+            _ => false,
+        },
         None => false,
     }
 }

@@ -1,0 +1,100 @@
+// Moves from one site to another.
+ghost use Rattle.std.specs.Prelude.{◌≡◌, List, true, Some, IfOk, OnErr, IsSome};
+ghost use Rattle.chem_model.specs.declared.numbered.NumberedRule.{NumberedRule};
+ghost use Rattle.wire_packet.specs.declared.packet.GroupInst.{GroupInst};
+ghost use Rattle.net_laws.specs.Holding.{request_with, drop_request};
+ghost use Rattle.net_laws.specs.Parcels.{pack, parcel_of};
+ghost use Rattle.site_solution.specs.InTree.{is_in_tree};
+ghost use Rattle.site_solution.specs.InCode.{is_in_code};
+ghost use Rattle.site_solution.specs.Draws.{CanDraw};
+ghost use Rattle.migration.specs.Moves.{can_go};
+ghost use Rattle.migration.specs.Within.{leads_into};
+ghost use Rattle.migration.specs.Across.{can_join, IsMoveBetween, IsOneMoveBetween};
+
+use crate::leaving::leave_out;
+use crate::moving::goal_of;
+use chem_model::{AtomId, Memory};
+use env_store::Code;
+use loc_tree::{LocTree, tree_is_kept};
+use site_solution::{Effects, Site, site_is_kept};
+use std::alloc::Global;
+use wire_packet::{DecodeEnd, Packet, Parcel, Request, decode, encode};
+
+/// Whether the location of a request may come to the other site: neither the location nor a rule,
+/// channel or atom at it, the request itself left out, is held there, and each of them that the
+/// other site made is below its count.
+pub fn can_join(from: &Site, into: &Site, tree: &LocTree, atom: &AtomId) -> bool
+    requires { IsSome (request_with atom.now from.now.requests) }
+    ensures { result ≡ can_join atom.now from.now into.now }
+{
+    let request = from.asked(atom);
+    into.apart(from, tree, &request.loc, atom)
+}
+
+// The packet as it is read from the bytes that are sent.
+fn sent(alloc: Global, packet: &Packet) -> Result<Packet, Memory>
+    ensures { IfOk result (λ read. read ≡ packet.now) }
+{
+    let bytes = encode(alloc, packet)?;
+    match decode(alloc, bytes.as_slice()) {
+        Ok(read) => Ok(read),
+        Err(DecodeEnd::Memory) => Err(Memory),
+        Err(DecodeEnd::Bad { .. }) => unreachable!(),
+    }
+}
+
+// What a location takes along, all that stands there but the request by which it moves, as it is
+// read from the bytes that are sent.
+fn carried(alloc: Global, from: &Site, request: &Request) -> Result<Parcel, Memory>
+    requires { request_with request.now.id from.now.requests ≡ Some request.now }
+    ensures { IfOk result (λ parcel.
+        parcel ≡ parcel_of (pack request.now.loc (drop_request request.now.id from.now))) }
+{
+    let packed = from.pack(alloc, &request.loc)?;
+    let packet = Packet::Parcel(leave_out(packed, request.id));
+    match sent(alloc, &packet)? {
+        Packet::Parcel(parcel) => Ok(parcel),
+        Packet::Message(_) => unreachable!(),
+    }
+}
+
+/// Meets a request to go to a location that the other site hosts. The location leaves with all that
+/// stands there but the request, is encoded, decoded and taken in, and the continuation is poured
+/// there. It is one event of each solution of which the two sites are parts, beside any others.
+/// Where there is no memory, nothing changes.
+pub fn move_between(
+    alloc: Global,
+    from: &mut Site,
+    into: &mut Site,
+    tree: &mut LocTree,
+    code: &Code,
+    atom: &AtomId,
+) -> Result<Effects, Memory>
+    requires from_tree { is_in_tree tree.old from.old ≡ true }
+    requires into_tree { is_in_tree tree.old into.old ≡ true }
+    requires from_code { is_in_code code.now tree.old from.old ≡ true }
+    requires into_code { is_in_code code.now tree.old into.old ≡ true }
+    requires can_draw { CanDraw tree.old into.old }
+    requires ready { can_go tree.old atom.now from.old ≡ true }
+    requires hosted { leads_into atom.now from.old into.old ≡ true }
+    requires joins { can_join atom.now from.old into.old ≡ true }
+    ensures ok { IfOk result (λ e. IsMoveBetween code.now.seen atom.now tree.old from.old into.old
+        tree.new from.new into.new e) }
+    ensures one_event { IfOk result (λ e. (rules_of : GroupInst → List NumberedRule)
+        → IsOneMoveBetween rules_of code.now.seen atom.now tree.old from.old into.old
+        from.new into.new e) }
+    ensures err_from { OnErr result (from.new ≡ from.old) }
+    ensures err_into { OnErr result (into.new ≡ into.old) }
+    ensures err_tree { OnErr result (tree.new ≡ tree.old) }
+{
+    site_is_kept(from);
+    site_is_kept(into);
+    tree_is_kept(tree);
+    let request = from.asked(atom);
+    let (target, cont) = goal_of(request.ask);
+    let parcel = carried(alloc, from, &request)?;
+    let effects = into.receive(alloc, code, tree, &code.seen, &parcel, &request.loc, cont)?;
+    from.remove(&request.loc);
+    tree.rehost(&request.loc, &target);
+    Ok(effects)
+}
