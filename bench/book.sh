@@ -1,0 +1,154 @@
+#!/usr/bin/env bash
+# Measures the book of a run: prints what an event takes on a few texts, as a run grows and as more stands in it. Where
+# valgrind is there, in machine instructions, which don't hang on what else the machine does: those of a run up to the
+# later event less those of a run up to the earlier one, by the events between them. And in nanoseconds of processor
+# time, from the same two runs; these are rough where the two are close.
+# A row that takes longer than the seconds given (default 60) is printed as such, and the longer rows of its kind are
+# left out.
+# A measure and no test.
+set -eu
+root=$(cd "$(dirname "$0")/.." && pwd)
+limit=${1:-60}
+work=$(mktemp -d)
+trap 'rm -rf "$work"' EXIT
+
+# builds the program where it is missing or old; another one may be named
+if [ -z "${JOIN_PROGRAM:-}" ]; then
+    "$root/join" alone --budget 0 <"$root/examples/first.join" >/dev/null || true
+    JOIN_PROGRAM=$root/crates/join_main/out/join_main
+fi
+
+# ran STATUS: whether a run ended as one that its budget ends, with status 5, or as one that took too long, with 124
+ran() {
+    case $1 in
+    5) ;;
+    124) return 1 ;;
+    *)
+        echo "a run ended with status $1" >&2
+        exit 1
+        ;;
+    esac
+}
+
+# instructions BUDGET: how many the text in the file takes
+instructions() {
+    local status=0
+    timeout "$limit" valgrind --tool=callgrind --callgrind-out-file=/dev/null "$JOIN_PROGRAM" alone --budget "$1" \
+        <"$work/text" >/dev/null 2>"$work/said" || status=$?
+    ran "$status" || return 1
+    awk '/Collected/ { print $NF }' "$work/said"
+}
+
+# nanoseconds BUDGET: of processor time
+nanoseconds() {
+    local status=0 TIMEFORMAT='%U %S'
+    {
+        time timeout "$limit" "$JOIN_PROGRAM" alone --budget "$1" <"$work/text" >/dev/null
+    } 2>"$work/said" || status=$?
+    ran "$status" || return 1
+    awk 'END { printf "%d\n", ($1 + $2) * 1e9 }' "$work/said"
+}
+
+# each FROM TO BEFORE AFTER: by the events between
+each() {
+    awk -v from="$1" -v to="$2" -v before="$3" -v after="$4" \
+        'BEGIN { printf "%d", (after - before) / (to - from) }'
+}
+
+# events NAME FROM TO LONG: what an event takes between these two, of the text on standard input; the time up to the
+# longer one. Fails where that took too long.
+events() {
+    local name=$1 from=$2 to=$3 long=$4 before after line=
+    cat >"$work/text"
+    if command -v valgrind >/dev/null; then
+        if before=$(instructions "$from") && after=$(instructions "$to"); then
+            line="$(each "$from" "$to" "$before" "$after") instructions, "
+        else
+            echo "$name: more than $limit seconds"
+            return 1
+        fi
+    fi
+    if before=$(nanoseconds "$from") && after=$(nanoseconds "$long"); then
+        echo "$name: $line$(each "$from" "$long" "$before" "$after") ns an event"
+    else
+        echo "$name: ${line}more than $limit seconds for $long events"
+        return 1
+    fi
+}
+
+# waiting COUNT: an endless reaction beside so many messages that no rule takes
+waiting() {
+    printf 'site s [ c(x) => c(x) and idle() | never() => 0 : c(s)'
+    for ((i = 0; i < $1; i++)); do printf ' | idle()'; done
+    printf ' ]\n'
+}
+
+# queued COUNT: an endless reaction with so many messages in its queue
+queued() {
+    printf 'site s [ c(x) => c(x) : c(s)'
+    for ((i = 1; i < $1; i++)); do printf ' | c(s)'; done
+    printf ' ]\n'
+}
+
+# tour COUNT: an agent that goes round so many sites
+tour() {
+    local i
+    printf 'site s0 [ agent [ k0() => go(s0, k1)'
+    for ((i = 1; i < $1; i++)); do printf ' and k%d() => go(s%d, k%d)' "$i" "$i" $(((i + 1) % $1)); done
+    printf ' : k1() ] : 0 ]\n'
+    for ((i = 1; i < $1; i++)); do printf 'site s%d [ none : 0 ]\n' "$i"; done
+}
+
+events 'an endless reaction' 1000 3000 1000000 <<<'site s [ c(x) => c(x) : c(s) ]' || true
+events 'an endless reaction after 100,000 events' 100000 102000 1000000 <<<'site s [ c(x) => c(x) : c(s) ]' || true
+events 'a ping-pong of two sites' 1000 3000 1000000 <<'TEXT' || true
+site a [ ping(x) => pong(x) : ping(a) ]
+site b [ pong(x) => ping(x) : 0 ]
+TEXT
+events 'producers and consumers' 1000 3000 200000 <<'TEXT' || true
+site s [
+  make(p) | room() => make(p) | item(p) and
+  take(c) | item(p) | lamp() => take(c) | room() | lamp()
+  : make(s) | make(s) | take(s) | take(s) | lamp() | room() | room() | room() | room()
+]
+TEXT
+events 'a tour of 64 sites' 1000 2000 100000 < <(tour 64) || true
+for count in 200 2000 20000 60000; do
+    events "an endless reaction, $count messages waiting" 20 40 1000 < <(waiting "$count") || break
+done
+for count in 200 2000 20000 60000; do
+    events "an endless reaction, $count messages in its queue" 20 40 1000 < <(queued "$count") || break
+done
+# an agent is born, reacts, moves, reacts, halts, its death is seen, and that reacts: 7 events
+for count in 100 500 1000 5000 10000; do
+    events "agents, $count born so far" $((7 * count)) $((7 * count + 70)) $((7 * count + 700)) <<'TEXT' || break
+site home [
+  born() =>
+    def agent [ starts() => go(away, there) and there() => halt() : starts() ]
+    and seen() => born()
+    in fail(agent, seen)
+  : born()
+]
+site away [ none : 0 ]
+TEXT
+done
+for count in 800 2000 8000; do
+    events "an applet server, $count events so far" "$count" $((count + 80)) $((count + 800)) <<'TEXT' || break
+site server [
+  want(place, k) =>
+    def memo [
+      holds(x) | get(r) => holds(x) | r(x) and
+      holds(x) | set(y, r) => holds(y) | r() and
+      here() => k(get, set)
+      : holds(blank) | go(place, here)
+    ] in 0 and
+  blank() => 0
+  : 0
+]
+site client [
+  again() => want(client, use) and
+  use(get, set) => def written() => get(show) and show(x) => again() in set(again, written)
+  : again()
+]
+TEXT
+done
