@@ -1,15 +1,18 @@
 // The search for the event that comes first, over the plain lists.
-ghost use Rattle.std.specs.Prelude.{◌≡◌, ◌<◌, ◌^◌, length, true, IfOk, IsTrue, ◌↔◌, None, OnErr};
+ghost use Rattle.std.specs.Prelude.{◌≡◌, ◌<◌, ◌^◌, ◌&&◌, ◌↔◌, length, true, IfOk, IsTrue, OnErr};
+ghost use Rattle.std.specs.Prelude.{None};
 ghost use Rattle.std.specs.List.{list_all};
 ghost use Rattle.std.specs.Option.{option_copied};
 ghost use Rattle.chem_model.specs.Sound.{IsSound};
 ghost use Rattle.trace_history.specs.First.{turns, less};
+ghost use Rattle.trace_history.specs.Heard.{are_told};
 ghost use Rattle.trace_history.specs.Search.{IsFirstOf, beats, receives, atom_before};
 ghost use Rattle.trace_history.specs.Search.{is_met, AreLeast, is_ready, turn};
 ghost use Rattle.trace_history.specs.Search.{rule_before, can_act, request_before};
 ghost use Rattle.trace_history.specs.Search.{event_of, IsReaction, IsMeeting, IsFound};
 
 use crate::book::Found;
+use crate::heard::{hear_all, may_be_met};
 use chem_commit::{Guesses, can_detect, can_go, is_live, root_of};
 use chem_model::{
     AtomId, Atoms, Event, Items, Loc, Memory, Numbered, NumberedAtom, NumberedRule, Pat, Pats,
@@ -141,8 +144,12 @@ fn is_earlier_rule(
     }
 }
 
-/// The first of the rules that are ready.
-fn first_rule<'a>(numbered: &'a Numbered, guesses: &Guesses, from: u32) -> Option<&'a NumberedRule>
+/// The first of the rules that are ready, where these are few.
+fn first_of_few<'a>(
+    numbered: &'a Numbered,
+    guesses: &Guesses,
+    from: u32,
+) -> Option<&'a NumberedRule>
     requires { IsSound numbered.now }
     ensures { IsFirstOf (is_ready numbered.now) (rule_before numbered.now from) numbered.now.rules
         (option_copied result) }
@@ -156,6 +163,96 @@ fn first_rule<'a>(numbered: &'a Numbered, guesses: &Guesses, from: u32) -> Optio
         }
     }
     first
+}
+
+/// Whether a rule is ready and comes before the one that was found so far, where this table has the
+/// channels of all messages.
+fn is_better(
+    numbered: &Numbered,
+    guesses: &Guesses,
+    size: u64,
+    heard: &[bool],
+    from: u32,
+    rule: &NumberedRule,
+    first: Option<&NumberedRule>,
+) -> bool
+    requires sound { IsSound numbered.now }
+    requires size { 0 < size }
+    requires told { are_told size heard.now numbered.now.atoms ≡ true }
+    ensures { result ≡ (beats (rule_before numbered.now from) rule.now (option_copied first.entry)
+        && is_ready numbered.now rule.now) }
+{
+    if !may_be_met(size, heard, &rule.pats) {
+        return false;
+    }
+    is_earlier_rule(numbered, guesses, from, rule, first) && is_ready(numbered, guesses, rule)
+}
+
+/// The first of the rules that are ready, by a table of the channels that have a message.
+fn first_of_many<'a>(
+    numbered: &'a Numbered,
+    guesses: &Guesses,
+    size: u64,
+    heard: &mut [bool],
+    from: u32,
+) -> Option<&'a NumberedRule>
+    requires sound { IsSound numbered.now }
+    requires size { 0 < size }
+    ensures { IsFirstOf (is_ready numbered.now) (rule_before numbered.now from) numbered.now.rules
+        (option_copied result) }
+{
+    hear_all(size, heard, &numbered.atoms);
+    let mut first: Option<&NumberedRule> = None;
+    for rule in numbered.rules.as_slice() {
+        if is_better(numbered, guesses, size, heard, from, rule, first) {
+            first = Some(rule);
+        }
+    }
+    first
+}
+
+/// The first of the rules that are ready, by a small table.
+fn first_of_some<'a>(
+    numbered: &'a Numbered,
+    guesses: &Guesses,
+    from: u32,
+) -> Option<&'a NumberedRule>
+    requires { IsSound numbered.now }
+    ensures { IsFirstOf (is_ready numbered.now) (rule_before numbered.now from) numbered.now.rules
+        (option_copied result) }
+{
+    let mut heard = [false; 1024];
+    first_of_many(numbered, guesses, 1024, &mut heard, from)
+}
+
+/// The first of the rules that are ready, by a large table.
+fn first_of_all<'a>(
+    numbered: &'a Numbered,
+    guesses: &Guesses,
+    from: u32,
+) -> Option<&'a NumberedRule>
+    requires { IsSound numbered.now }
+    ensures { IsFirstOf (is_ready numbered.now) (rule_before numbered.now from) numbered.now.rules
+        (option_copied result) }
+{
+    let mut heard = [false; 65_536];
+    first_of_many(numbered, guesses, 65_536, &mut heard, from)
+}
+
+/// The first of the rules that are ready.
+fn first_rule<'a>(numbered: &'a Numbered, guesses: &Guesses, from: u32) -> Option<&'a NumberedRule>
+    requires { IsSound numbered.now }
+    ensures { IsFirstOf (is_ready numbered.now) (rule_before numbered.now from) numbered.now.rules
+        (option_copied result) }
+{
+    let count = numbered.rules.len();
+    if count < 16 {
+        first_of_few(numbered, guesses, from)
+    } else if count < 256 {
+        first_of_some(numbered, guesses, from)
+    } else {
+        first_of_all(numbered, guesses, from)
+    }
 }
 
 /// Whether this is a request that can be met.
