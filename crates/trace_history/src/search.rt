@@ -144,7 +144,7 @@ fn is_earlier_rule(
     }
 }
 
-/// The first of the rules that are ready, where these are few.
+/// The first of the rules that are ready, where there are few rules.
 fn first_of_few<'a>(
     numbered: &'a Numbered,
     guesses: &Guesses,
@@ -189,7 +189,7 @@ fn is_better(
 }
 
 /// The first of the rules that are ready, by a table of the channels that have a message.
-fn first_of_many<'a>(
+fn first_heard<'a>(
     numbered: &'a Numbered,
     guesses: &Guesses,
     size: u64,
@@ -211,8 +211,8 @@ fn first_of_many<'a>(
     first
 }
 
-/// The first of the rules that are ready, by a small table.
-fn first_of_some<'a>(
+/// The first of the rules that are ready, where there are few messages: by a small table.
+fn first_by_small_table<'a>(
     numbered: &'a Numbered,
     guesses: &Guesses,
     from: u32,
@@ -222,11 +222,11 @@ fn first_of_some<'a>(
         (option_copied result) }
 {
     let mut heard = [false; 1024];
-    first_of_many(numbered, guesses, 1024, &mut heard, from)
+    first_heard(numbered, guesses, 1024, &mut heard, from)
 }
 
 /// The first of the rules that are ready, by a large table.
-fn first_of_all<'a>(
+fn first_by_large_table<'a>(
     numbered: &'a Numbered,
     guesses: &Guesses,
     from: u32,
@@ -236,7 +236,7 @@ fn first_of_all<'a>(
         (option_copied result) }
 {
     let mut heard = [false; 65_536];
-    first_of_many(numbered, guesses, 65_536, &mut heard, from)
+    first_heard(numbered, guesses, 65_536, &mut heard, from)
 }
 
 /// The first of the rules that are ready.
@@ -245,13 +245,12 @@ fn first_rule<'a>(numbered: &'a Numbered, guesses: &Guesses, from: u32) -> Optio
     ensures { IsFirstOf (is_ready numbered.now) (rule_before numbered.now from) numbered.now.rules
         (option_copied result) }
 {
-    let count = numbered.rules.len();
-    if count < 16 {
+    if numbered.rules.len() < 16 {
         first_of_few(numbered, guesses, from)
-    } else if count < 256 {
-        first_of_some(numbered, guesses, from)
+    } else if numbered.atoms.len() < 128 {
+        first_by_small_table(numbered, guesses, from)
     } else {
-        first_of_all(numbered, guesses, from)
+        first_by_large_table(numbered, guesses, from)
     }
 }
 
