@@ -1,6 +1,6 @@
 -- Where the locations of a list differ, an entry that has a location is the one that is found.
 use Rattle.std.proofs.Common.{◌≡◌, ◌<◌, ◌≤◌, ℕ, zero, suc, ◌+◌, List, [], ◌∷◌, length, get_or, drop, Bool, true, false, cond, refl, ap, sym, ◌∙◌, subst, arith}
-use Rattle.std.specs.Prelude.{Some, None}
+use Rattle.std.specs.Prelude.{Option, Some, None}
 use Rattle.std.proofs.lemmas.List.{get_or_default}
 use Rattle.chem_model.specs.declared.name.Loc.{Loc}
 use Rattle.chem_model.specs.declared.event.RuleId.{RuleId}
@@ -9,15 +9,16 @@ use Rattle.chem_model.specs.declared.numbered.NumberedRule.{NumberedRule}
 use Rattle.chem_model.specs.declared.numbered.Numbered.{Numbered}
 use Rattle.chem_model.specs.Bag.{one, bag}
 use Rattle.chem_model.specs.NewNames.{coded_pair}
-use Rattle.chem_model.specs.Solution.{same_loc, is_there}
+use Rattle.chem_model.specs.Solution.{Standing, same_loc, is_there, host_of, or_itself, root}
 use Rattle.chem_model.specs.Numbered.{standing, place_pairs, rule_pairs}
 use Rattle.chem_model.specs.Poured.{standing_of}
 use Rattle.chem_model.specs.Apply.{same_rule, rule_at}
+use Rattle.chem_model.specs.Opening.{root_of}
 use Rattle.chem_model.specs.Sound.{IsSound}
 use Rattle.chem_laws.proofs.Bags.{one_self}
 use Rattle.chem_laws.proofs.Within.{same_loc_is}
 use Rattle.chem_laws.proofs.Taking.{same_rule_is, rule_pair_found}
-use Rattle.chem_laws.proofs.Places.{place_pair_found}
+use Rattle.chem_laws.proofs.Places.{place_pair_found, root_loc}
 use Rattle.chem_commit.specs.Differ.{PlacesDiffer, RulesDiffer}
 
 pub places_differ : (n : Numbered) → IsSound n → PlacesDiffer n.places
@@ -69,3 +70,20 @@ found_rule (x ∷ xs) d (suc j) r i h e s =
 
 pub found_rule_in : (rules zs : List NumberedRule) → zs ≡ rules → RulesDiffer rules → (j : ℕ) (r : NumberedRule) (i : RuleId) → j < length zs → r ≡ get_or zs j r → same_rule r.id i ≡ true → Some r ≡ rule_at rules i
 found_rule_in rules zs is d j r i h e s = found_rule rules d j r i (subst (λ (xs : List NumberedRule). j < length xs) is h) (subst (λ (xs : List NumberedRule). r ≡ get_or xs j r) is e) s
+
+-- ---- a location with the number 0 is a root, or isn't there
+
+pub root_itself : (n : Numbered) → IsSound n → (l : Loc) → l.k ≡ 0 → l ≡ root (standing n.places) l
+root_itself n sound l k = go (is_there (standing n.places l)) refl
+  where
+    hostless : (o : Option Standing) → is_there o ≡ false → or_itself (host_of o) l ≡ l
+    hostless None e = refl
+    hostless (Some s) e = cc
+
+    go : (t : Bool) → is_there (standing n.places l) ≡ t → l ≡ root (standing n.places) l
+    go false e = sym (hostless (standing n.places l) e)
+    go true e =
+        let counted : 0 < bag coded_pair (place_pairs n.places) (l.site, l.k) = place_pair_found n.places l e in
+        let low = (sound.below (l.site, l.k) (omega (arith, counted))).0 in
+        let none = (sound.roots l.site low).1 in
+        sym (ap (λ (q : Loc). or_itself (host_of (standing n.places q)) l) (sym (root_loc l l.site k refl)) ∙ ap (λ o. or_itself o l) none)

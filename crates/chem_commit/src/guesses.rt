@@ -1,6 +1,6 @@
 // Where locations and rules stand in their lists: guesses, each of which is tested where it is
 // used. A location that no guess tells is looked for from the newest on.
-ghost use Rattle.std.specs.Prelude.{◌≡◌, ◌<◌, ◌^◌, ◌&&◌, IfSome, Some, is_some};
+ghost use Rattle.std.specs.Prelude.{◌≡◌, ◌<◌, ◌^◌, ◌&&◌, IfSome, Some, is_some, not};
 ghost use Rattle.std.specs.Option.{option_copied};
 ghost use Rattle.chem_model.specs.Solution.{host_of, is_there, is_marked, root, dead, live};
 ghost use Rattle.chem_model.specs.Numbered.{standing};
@@ -123,14 +123,14 @@ pub fn note(alloc: Global, guesses: &mut Guesses, solution: &Numbered) -> Result
 }
 
 /// The entry of a location, where it stands at this place of the list.
-fn tried(places: &PlacedList, index: usize, at: Loc) -> Option<Placed>
+fn tried(places: &PlacedList, index: usize, at: Loc) -> Option<&Placed>
     requires { PlacesDiffer places.now }
-    ensures { IfSome result (λ placed. standing_of (Some placed) ≡ standing places.now at) }
+    ensures { IfSome result (λ placed. standing_of (Some placed.now) ≡ standing places.now at) }
 {
     match places.as_slice().get(index) {
         Some(placed) => {
             if same_loc(placed.loc, at) {
-                Some(*placed)
+                Some(placed)
             } else {
                 None
             }
@@ -140,9 +140,9 @@ fn tried(places: &PlacedList, index: usize, at: Loc) -> Option<Placed>
 }
 
 /// The entry of a location, where a guess tells it.
-fn guessed(guesses: &Guesses, places: &PlacedList, at: Loc) -> Option<Placed>
+fn guessed<'a>(guesses: &Guesses, places: &'a PlacedList, at: Loc) -> Option<&'a Placed>
     requires { PlacesDiffer places.now }
-    ensures { IfSome result (λ placed. standing_of (Some placed) ≡ standing places.now at) }
+    ensures { IfSome result (λ placed. standing_of (Some placed.now) ≡ standing places.now at) }
 {
     let table = guesses.places.slots.as_slice();
     let slots = table.len();
@@ -165,15 +165,15 @@ fn guessed(guesses: &Guesses, places: &PlacedList, at: Loc) -> Option<Placed>
 }
 
 /// The entry of a location, looked for from the newest on.
-fn newest(places: &PlacedList, at: Loc) -> Option<Placed>
+fn newest(places: &PlacedList, at: Loc) -> Option<&Placed>
     requires { PlacesDiffer places.now }
-    ensures { standing_of result ≡ standing places.now at }
+    ensures { standing_of (option_copied result) ≡ standing places.now at }
 {
     let entries = places.as_slice();
     let mut left = entries.len();
     while left > 0 {
         left -= 1;
-        let entry = entries[left];
+        let entry = &entries[left];
         if same_loc(entry.loc, at) {
             return Some(entry);
         }
@@ -181,10 +181,10 @@ fn newest(places: &PlacedList, at: Loc) -> Option<Placed>
     None
 }
 
-/// The entry of a location. The roots stand first, in the order of their sites.
-pub fn place_at(solution: &Numbered, guesses: &Guesses, at: Loc) -> Option<Placed>
+/// The entry of a location, by what is guessed. The roots stand first, in the order of their sites.
+fn far_place<'a>(solution: &'a Numbered, guesses: &Guesses, at: Loc) -> Option<&'a Placed>
     requires { IsSound solution.now }
-    ensures { standing_of result ≡ standing solution.now.places at }
+    ensures { standing_of (option_copied result) ≡ standing solution.now.places at }
 {
     match tried(&solution.places, at.site as usize, at) {
         Some(placed) => Some(placed),
@@ -192,6 +192,18 @@ pub fn place_at(solution: &Numbered, guesses: &Guesses, at: Loc) -> Option<Place
             Some(placed) => Some(placed),
             None => newest(&solution.places, at),
         },
+    }
+}
+
+/// The entry of a location. Where there are few, nothing is guessed.
+fn place_at<'a>(solution: &'a Numbered, guesses: &Guesses, at: Loc) -> Option<&'a Placed>
+    requires { IsSound solution.now }
+    ensures { standing_of (option_copied result) ≡ standing solution.now.places at }
+{
+    if solution.places.len() < 8 {
+        newest(&solution.places, at)
+    } else {
+        far_place(solution, guesses, at)
     }
 }
 
@@ -262,11 +274,15 @@ pub(crate) fn find_rule<'a>(
     }
 }
 
-/// The root of a location: its host, or itself where it has none.
+/// The root of a location: its host, or itself where it has none, as one with the number 0.
+#[tactic(auto, using(crate::proofs::Founds::root_itself))]
 pub fn root_of(solution: &Numbered, guesses: &Guesses, at: Loc) -> Loc
     requires { IsSound solution.now }
     ensures { result ≡ root (standing solution.now.places) at }
 {
+    if at.k == 0 {
+        return at;
+    }
     match place_at(solution, guesses, at) {
         Some(placed) => match placed.host {
             Some(host) => host,
@@ -301,26 +317,42 @@ pub fn is_live(solution: &Numbered, guesses: &Guesses, at: Loc) -> bool
     }
 }
 
+/// Whether this is a live location with a host.
+fn is_guest(solution: &Numbered, guesses: &Guesses, at: Loc) -> bool
+    requires { IsSound solution.now }
+    ensures { result ≡ (live (standing solution.now.places) at
+        && is_some (host_of (standing solution.now.places at))) }
+{
+    match place_at(solution, guesses, at) {
+        Some(placed) => match placed.host {
+            Some(host) => !placed.marked && !is_marked(solution, guesses, host),
+            None => false,
+        },
+        None => false,
+    }
+}
+
+/// Whether this is a live root.
+fn is_open(solution: &Numbered, guesses: &Guesses, to: Loc) -> bool
+    requires { IsSound solution.now }
+    ensures { result ≡ (live (standing solution.now.places) to
+        && not (is_some (host_of (standing solution.now.places to)))) }
+{
+    match place_at(solution, guesses, to) {
+        Some(placed) => match placed.host {
+            Some(_) => false,
+            None => !placed.marked,
+        },
+        None => false,
+    }
+}
+
 /// Whether a location can move: a live location with a host may go to a live root.
 pub fn can_go(solution: &Numbered, guesses: &Guesses, at: Loc, to: Loc) -> bool
     requires { IsSound solution.now }
     ensures { result ≡ can_go solution.now at to }
 {
-    is_live(solution, guesses, at)
-        && has_host(solution, guesses, at)
-        && is_live(solution, guesses, to)
-        && !has_host(solution, guesses, to)
-}
-
-/// Whether a location has a host, so that it is no root.
-fn has_host(solution: &Numbered, guesses: &Guesses, at: Loc) -> bool
-    requires { IsSound solution.now }
-    ensures { result ≡ is_some (host_of (standing solution.now.places at)) }
-{
-    match place_at(solution, guesses, at) {
-        Some(placed) => placed.host.is_some(),
-        None => false,
-    }
+    is_guest(solution, guesses, at) && is_open(solution, guesses, to)
 }
 
 /// Whether a location is there and dead.

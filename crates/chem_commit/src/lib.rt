@@ -7,5 +7,5 @@ mod guesses;
 mod make;
 mod take;
 
-pub use guesses::{Guesses, can_detect, can_go, is_live, note, place_at, root_of};
+pub use guesses::{Guesses, can_detect, can_go, is_live, note, root_of};
 pub use make::make_event;

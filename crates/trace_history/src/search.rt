@@ -81,7 +81,7 @@ fn least_messages(alloc: Global, numbered: &Numbered, at: Loc, pats: &Pats) -> R
     requires { list_all (is_met numbered.now.atoms at) pats.now ≡ true }
     ensures { IfOk result (λ took. AreLeast numbered.now.atoms at pats.now took) }
 {
-    let mut took = Items::new(alloc);
+    let mut took = Items::from_vec(Vec::with_capacity(alloc, pats.len())?);
     for pat in pats.as_slice() {
         match least_message(numbered, at, pat) {
             Some(atom) => took.push(atom.id)?,
