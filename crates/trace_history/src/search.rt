@@ -239,15 +239,18 @@ fn first_by_large_table<'a>(
     first_heard(numbered, guesses, 65_536, &mut heard, from)
 }
 
-/// The first of the rules that are ready.
+/// The first of the rules that are ready. A table is made where there are many rules, or few
+/// messages to put into it.
 fn first_rule<'a>(numbered: &'a Numbered, guesses: &Guesses, from: u32) -> Option<&'a NumberedRule>
     requires { IsSound numbered.now }
     ensures { IsFirstOf (is_ready numbered.now) (rule_before numbered.now from) numbered.now.rules
         (option_copied result) }
 {
-    if numbered.rules.len() < 16 {
+    let rules = numbered.rules.len();
+    let atoms = numbered.atoms.len();
+    if rules < 4 || (rules < 64 && atoms >= 32) {
         first_of_few(numbered, guesses, from)
-    } else if numbered.atoms.len() < 128 {
+    } else if atoms < 128 {
         first_by_small_table(numbered, guesses, from)
     } else {
         first_by_large_table(numbered, guesses, from)
