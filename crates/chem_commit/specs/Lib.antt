@@ -1,2 +1,3 @@
 pub mod Replaces
 pub mod Parts
+pub mod Differ

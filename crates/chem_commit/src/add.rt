@@ -1,9 +1,20 @@
 // What was made, added at the ends of the lists.
-ghost use Rattle.std.specs.Prelude.{◌≡◌, OnOk, OnErr};
+ghost use Rattle.std.specs.Prelude.{◌≡◌, ◌++◌, OnOk, OnErr};
 ghost use Rattle.chem_model.specs.Pour.{add_made};
 ghost use Rattle.chem_commit.specs.Parts.{appended, cut, Keeps};
 
-use chem_model::{Made, Memory, Numbered};
+use chem_model::{Items, Made, Memory, Numbered};
+
+/// Moves the members of the other list to the end, where there are any.
+fn move_to_end<T: Drop>(list: &mut Items<T>, more: &mut Items<T>) -> Result<(), Memory>
+    ensures ok { OnOk result (list.new ≡ list.old ++ more.old) }
+    ensures err { OnErr result (list.new ≡ list.old) }
+{
+    if more.is_empty() {
+        return Ok(());
+    }
+    list.append(more)
+}
 
 /// Moves what was made to the ends of the lists. On want of memory each list still begins with what
 /// it held.
@@ -11,11 +22,11 @@ fn append(solution: &mut Numbered, made: &mut Made) -> Result<(), Memory>
     ensures ok { OnOk result (solution.new ≡ appended solution.old made.old) }
     ensures err { OnErr result (Keeps solution.old solution.new) }
 {
-    solution.places.append(&mut made.births)?;
-    solution.named.append(&mut made.named)?;
-    solution.rules.append(&mut made.rules)?;
-    solution.atoms.append(&mut made.atoms)?;
-    solution.trace.append(&mut made.outs)?;
+    move_to_end(&mut solution.places, &mut made.births)?;
+    move_to_end(&mut solution.named, &mut made.named)?;
+    move_to_end(&mut solution.rules, &mut made.rules)?;
+    move_to_end(&mut solution.atoms, &mut made.atoms)?;
+    move_to_end(&mut solution.trace, &mut made.outs)?;
     Ok(())
 }
 

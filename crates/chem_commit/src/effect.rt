@@ -7,15 +7,15 @@ ghost use Rattle.chem_model.specs.Pour.{pour as made_by};
 ghost use Rattle.chem_model.specs.Apply.{rule_at, atom_at, without, without_all, react_rule};
 ghost use Rattle.chem_model.specs.Apply.{with_atom, move_to, move_atom, halt_atom, detect_of};
 ghost use Rattle.chem_model.specs.Apply.{detect_atom};
+ghost use Rattle.chem_model.specs.Sound.{IsSound};
 ghost use Rattle.chem_commit.specs.Parts.{poured, moved, halted};
 
+use crate::guesses::{Guesses, can_detect, can_go, find_rule, is_live, root_of};
 use chem_model::{
     AtomId, Atoms, Items, Loc, Made, Memory, Numbered, NumberedAtom, NumberedRule, ProcNode, Ref,
     RuleId,
 };
-use chem_plain::{
-    atom_at, can_detect, can_go, continuation, location_of, made_at, received_all, rule_at,
-};
+use chem_plain::{atom_at, continuation, location_of, made_at, received_all};
 use std::alloc::Global;
 
 /// What an event pours at a location, and the root above, at whose site it is made.
@@ -46,20 +46,22 @@ fn continued(
 fn reaction_of(
     alloc: Global,
     solution: &Numbered,
+    guesses: &Guesses,
     rule: &NumberedRule,
     took: &Atoms,
 ) -> Result<Option<Effect>, Memory>
+    requires { IsSound solution.now }
     ensures { IfOk result
         (λ effect. poured (record solution.now { atoms = without_all took.now solution.now.atoms })
         effect ≡ react_rule solution.now took.now (Some rule.now)) }
 {
-    if !solution.is_live(rule.loc) {
+    if !is_live(solution, guesses, rule.loc) {
         return Ok(None);
     }
     match received_all(alloc, &solution.atoms, rule.loc, &rule.pats, took)? {
         Some(names) => {
             let at = rule.loc;
-            let root = solution.root(at);
+            let root = root_of(solution, guesses, at);
             let made = made_at(alloc, solution, &names, root, at, &rule.body)?;
             Ok(Some(Effect { at, root, made }))
         }
@@ -72,15 +74,17 @@ fn reaction_of(
 pub(crate) fn reaction(
     alloc: Global,
     solution: &Numbered,
+    guesses: &Guesses,
     id: RuleId,
     took: &Atoms,
 ) -> Result<Option<Effect>, Memory>
+    requires { IsSound solution.now }
     ensures { IfOk result
         (λ effect. poured (record solution.now { atoms = without_all took.now solution.now.atoms })
         effect ≡ react_rule solution.now took.now (rule_at solution.now.rules id)) }
 {
-    match rule_at(solution, id) {
-        Some(rule) => reaction_of(alloc, solution, rule, took),
+    match find_rule(solution, guesses, id) {
+        Some(rule) => reaction_of(alloc, solution, guesses, rule, took),
         None => Ok(None),
     }
 }
@@ -88,15 +92,17 @@ pub(crate) fn reaction(
 fn move_to(
     alloc: Global,
     solution: &Numbered,
+    guesses: &Guesses,
     id: AtomId,
     at: Loc,
     cont: Ref,
     to: Loc,
 ) -> Result<Option<Effect>, Memory>
+    requires { IsSound solution.now }
     ensures { IfOk result
         (λ effect. moved solution.now id effect ≡ move_to solution.now id at cont to) }
 {
-    if !can_go(solution, at, to) {
+    if !can_go(solution, guesses, at, to) {
         return Ok(None);
     }
     let made = continued(alloc, solution, to, at, cont)?;
@@ -106,15 +112,17 @@ fn move_to(
 fn move_of(
     alloc: Global,
     solution: &Numbered,
+    guesses: &Guesses,
     id: AtomId,
     atom: &NumberedAtom,
 ) -> Result<Option<Effect>, Memory>
+    requires { IsSound solution.now }
     ensures { IfOk result (λ effect. moved solution.now id effect
         ≡ move_atom solution.now id atom.now.loc atom.now.term) }
 {
     match atom.term.node() {
         ProcNode::Go { target, cont } => match location_of(*target) {
-            Some(to) => move_to(alloc, solution, id, atom.loc, *cont, to),
+            Some(to) => move_to(alloc, solution, guesses, id, atom.loc, *cont, to),
             None => Ok(None),
         },
         _ => Ok(None),
@@ -126,23 +134,26 @@ fn move_of(
 pub(crate) fn departure(
     alloc: Global,
     solution: &Numbered,
+    guesses: &Guesses,
     id: AtomId,
 ) -> Result<Option<Effect>, Memory>
+    requires { IsSound solution.now }
     ensures { IfOk result (λ effect. moved solution.now id effect
         ≡ with_atom (atom_at solution.now.atoms id) (move_atom solution.now id)) }
 {
     match atom_at(&solution.atoms, id) {
-        Some(atom) => move_of(alloc, solution, id, atom),
+        Some(atom) => move_of(alloc, solution, guesses, id, atom),
         None => Ok(None),
     }
 }
 
-fn halt_of(solution: &Numbered, id: AtomId, atom: &NumberedAtom) -> Option<Loc>
+fn halt_of(solution: &Numbered, guesses: &Guesses, id: AtomId, atom: &NumberedAtom) -> Option<Loc>
+    requires { IsSound solution.now }
     ensures { halted solution.now id result ≡ halt_atom solution.now id atom.now.loc atom.now.term }
 {
     match atom.term.node() {
         ProcNode::Halt => {
-            if solution.is_live(atom.loc) {
+            if is_live(solution, guesses, atom.loc) {
                 Some(atom.loc)
             } else {
                 None
@@ -154,12 +165,13 @@ fn halt_of(solution: &Numbered, id: AtomId, atom: &NumberedAtom) -> Option<Loc>
 
 /// The location that the request to halt with this number marks. None where it isn't there or can't
 /// be met.
-pub(crate) fn failing(solution: &Numbered, id: AtomId) -> Option<Loc>
+pub(crate) fn failing(solution: &Numbered, guesses: &Guesses, id: AtomId) -> Option<Loc>
+    requires { IsSound solution.now }
     ensures { halted solution.now id result
         ≡ with_atom (atom_at solution.now.atoms id) (halt_atom solution.now id) }
 {
     match atom_at(&solution.atoms, id) {
-        Some(atom) => halt_of(solution, id, atom),
+        Some(atom) => halt_of(solution, guesses, id, atom),
         None => None,
     }
 }
@@ -167,19 +179,21 @@ pub(crate) fn failing(solution: &Numbered, id: AtomId) -> Option<Loc>
 fn detect_of(
     alloc: Global,
     solution: &Numbered,
+    guesses: &Guesses,
     id: AtomId,
     at: Loc,
     cont: Ref,
     of: Loc,
 ) -> Result<Option<Effect>, Memory>
+    requires { IsSound solution.now }
     ensures { IfOk result
         (λ effect. poured (record solution.now { atoms = without id solution.now.atoms }) effect
         ≡ detect_of solution.now id at cont of) }
 {
-    if !can_detect(solution, at, of) {
+    if !can_detect(solution, guesses, at, of) {
         return Ok(None);
     }
-    let root = solution.root(at);
+    let root = root_of(solution, guesses, at);
     let made = continued(alloc, solution, root, at, cont)?;
     Ok(Some(Effect { at, root, made }))
 }
@@ -187,16 +201,18 @@ fn detect_of(
 fn detection_of(
     alloc: Global,
     solution: &Numbered,
+    guesses: &Guesses,
     id: AtomId,
     atom: &NumberedAtom,
 ) -> Result<Option<Effect>, Memory>
+    requires { IsSound solution.now }
     ensures { IfOk result
         (λ effect. poured (record solution.now { atoms = without id solution.now.atoms }) effect
         ≡ detect_atom solution.now id atom.now.loc atom.now.term) }
 {
     match atom.term.node() {
         ProcNode::Fail { target, cont } => match location_of(*target) {
-            Some(of) => detect_of(alloc, solution, id, atom.loc, *cont, of),
+            Some(of) => detect_of(alloc, solution, guesses, id, atom.loc, *cont, of),
             None => Ok(None),
         },
         _ => Ok(None),
@@ -208,14 +224,16 @@ fn detection_of(
 pub(crate) fn detection(
     alloc: Global,
     solution: &Numbered,
+    guesses: &Guesses,
     id: AtomId,
 ) -> Result<Option<Effect>, Memory>
+    requires { IsSound solution.now }
     ensures { IfOk result
         (λ effect. poured (record solution.now { atoms = without id solution.now.atoms }) effect
         ≡ with_atom (atom_at solution.now.atoms id) (detect_atom solution.now id)) }
 {
     match atom_at(&solution.atoms, id) {
-        Some(atom) => detection_of(alloc, solution, id, atom),
+        Some(atom) => detection_of(alloc, solution, guesses, id, atom),
         None => Ok(None),
     }
 }

@@ -3,7 +3,9 @@
 
 mod add;
 mod effect;
+mod guesses;
 mod make;
 mod take;
 
+pub use guesses::{Guesses, can_detect, can_go, is_live, note, root_of};
 pub use make::make_event;

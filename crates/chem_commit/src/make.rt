@@ -2,22 +2,31 @@
 ghost use Rattle.std.specs.Prelude.{◌≡◌, IfOk, OnErr, true};
 ghost use Rattle.chem_model.specs.Apply.{rule_at, atom_at, react_rule, with_atom, move_atom};
 ghost use Rattle.chem_model.specs.Apply.{halt_atom, detect_atom, apply};
+ghost use Rattle.chem_model.specs.Sound.{IsSound};
 ghost use Rattle.chem_commit.specs.Replaces.{Replaces, takes_memory};
 
 use crate::add::add;
 use crate::effect::{departure, detection, failing, reaction};
+use crate::guesses::Guesses;
 use crate::take::{set_host, set_mark, take_out, take_out_all};
 use chem_model::{AtomId, Atoms, Event, Memory, Numbered, RuleId};
 use std::alloc::Global;
 
 /// The messages go, and what the rule pours is there.
-fn react(alloc: Global, solution: &mut Numbered, id: RuleId, took: &Atoms) -> Result<bool, Memory>
+fn react(
+    alloc: Global,
+    solution: &mut Numbered,
+    guesses: &Guesses,
+    id: RuleId,
+    took: &Atoms,
+) -> Result<bool, Memory>
+    requires { IsSound solution.old }
     ensures done { IfOk result
         (λ made. Replaces (react_rule solution.old took.now (rule_at solution.old.rules id))
         solution.old made solution.new) }
     ensures err { OnErr result (solution.new ≡ solution.old) }
 {
-    match reaction(alloc, solution, id, took)? {
+    match reaction(alloc, solution, guesses, id, took)? {
         Some(effect) => {
             let count = solution.atoms.len();
             add(solution, effect.root.site, effect.made)?;
@@ -29,13 +38,19 @@ fn react(alloc: Global, solution: &mut Numbered, id: RuleId, took: &Atoms) -> Re
 }
 
 /// The request goes, its location is under another root, and its continuation is poured there.
-fn depart(alloc: Global, solution: &mut Numbered, id: AtomId) -> Result<bool, Memory>
+fn depart(
+    alloc: Global,
+    solution: &mut Numbered,
+    guesses: &Guesses,
+    id: AtomId,
+) -> Result<bool, Memory>
+    requires { IsSound solution.old }
     ensures done { IfOk result
         (λ made. Replaces (with_atom (atom_at solution.old.atoms id) (move_atom solution.old id))
         solution.old made solution.new) }
     ensures err { OnErr result (solution.new ≡ solution.old) }
 {
-    match departure(alloc, solution, id)? {
+    match departure(alloc, solution, guesses, id)? {
         Some(effect) => {
             let atoms = solution.atoms.len();
             let places = solution.places.len();
@@ -49,11 +64,12 @@ fn depart(alloc: Global, solution: &mut Numbered, id: AtomId) -> Result<bool, Me
 }
 
 /// The request goes, and its location is marked.
-fn halt(solution: &mut Numbered, id: AtomId) -> bool
+fn halt(solution: &mut Numbered, guesses: &Guesses, id: AtomId) -> bool
+    requires { IsSound solution.old }
     ensures { Replaces (with_atom (atom_at solution.old.atoms id) (halt_atom solution.old id))
         solution.old result solution.new }
 {
-    match failing(solution, id) {
+    match failing(solution, guesses, id) {
         Some(at) => {
             let count = solution.atoms.len();
             take_out(&mut solution.atoms, count, id);
@@ -65,13 +81,19 @@ fn halt(solution: &mut Numbered, id: AtomId) -> bool
 }
 
 /// The request goes, and its continuation is poured at its location.
-fn detect(alloc: Global, solution: &mut Numbered, id: AtomId) -> Result<bool, Memory>
+fn detect(
+    alloc: Global,
+    solution: &mut Numbered,
+    guesses: &Guesses,
+    id: AtomId,
+) -> Result<bool, Memory>
+    requires { IsSound solution.old }
     ensures done { IfOk result
         (λ made. Replaces (with_atom (atom_at solution.old.atoms id) (detect_atom solution.old id))
         solution.old made solution.new) }
     ensures err { OnErr result (solution.new ≡ solution.old) }
 {
-    match detection(alloc, solution, id)? {
+    match detection(alloc, solution, guesses, id)? {
         Some(effect) => {
             let count = solution.atoms.len();
             add(solution, effect.root.site, effect.made)?;
@@ -84,19 +106,25 @@ fn detect(alloc: Global, solution: &mut Numbered, id: AtomId) -> Result<bool, Me
 
 /// Makes an event in place where it is possible, and answers whether it was. Where it isn't
 /// possible, and on want of memory, nothing changes. A halt takes no memory.
-pub fn make_event(alloc: Global, solution: &mut Numbered, event: &Event) -> Result<bool, Memory>
+pub fn make_event(
+    alloc: Global,
+    solution: &mut Numbered,
+    guesses: &Guesses,
+    event: &Event,
+) -> Result<bool, Memory>
+    requires { IsSound solution.old }
     ensures done { IfOk result
         (λ made. Replaces (apply solution.old event.now) solution.old made solution.new) }
     ensures err { OnErr result (solution.new ≡ solution.old) }
     ensures memory { OnErr result (takes_memory event.now ≡ true) }
 {
     match event {
-        Event::React { rule, took } => react(alloc, solution, *rule, took),
-        Event::Move { atom } => depart(alloc, solution, *atom),
+        Event::React { rule, took } => react(alloc, solution, guesses, *rule, took),
+        Event::Move { atom } => depart(alloc, solution, guesses, *atom),
         Event::Halt { atom } => {
-            let made = halt(solution, *atom);
+            let made = halt(solution, guesses, *atom);
             Ok(made)
         }
-        Event::Detect { atom } => detect(alloc, solution, *atom),
+        Event::Detect { atom } => detect(alloc, solution, guesses, *atom),
     }
 }

@@ -7,3 +7,4 @@ pub mod OneFirst
 pub mod SomeFirst
 pub mod Replays
 pub mod Quiets
+pub mod Hearing

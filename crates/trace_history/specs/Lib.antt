@@ -2,3 +2,4 @@ pub mod Kept
 pub mod First
 pub mod Book
 pub mod Search
+pub mod Heard

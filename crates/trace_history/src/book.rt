@@ -11,7 +11,7 @@ ghost use Rattle.trace_history.specs.Book.{Commits, IsAStart, IsAReduction, OnSo
 ghost use Rattle.trace_history.specs.Book.{IsStuck, IsQuiet, Finds, Replays};
 
 use crate::search::{first_event, is_stuck};
-use chem_commit::make_event;
+use chem_commit::{Guesses, make_event, note};
 use chem_laws::{event_is_a_reduction, opening_is_a_start, replay_is_a_run, stuck_is_quiet};
 use chem_model::{Event, Items, Journal, Memory, Name, Naming, Numbered, Outs, Program};
 use chem_plain::{is_enabled, opening};
@@ -62,6 +62,7 @@ pub struct Book {
     program: Program,
     journal: Journal,
     solution: Numbered,
+    guesses: Guesses,
 }
 
 impl Model for Book {
@@ -89,10 +90,13 @@ impl Book {
         let _ = &program.tops;
         let program = program.copy(alloc)?;
         let solution = opening(alloc, &program)?;
+        let mut guesses = Guesses::new(alloc);
+        note(alloc, &mut guesses, &solution)?;
         Ok(Book {
             program,
             journal: Items::new(alloc),
             solution,
+            guesses,
         })
     }
 
@@ -107,10 +111,11 @@ impl Book {
     {
         self.is_sound();
         event_is_a_reduction();
+        note(alloc, &mut self.guesses, &self.solution)?;
         let place = self.journal.len();
         let copy = event.copy(alloc)?;
         self.journal.push(copy)?;
-        match make_event(alloc, &mut self.solution, event) {
+        match make_event(alloc, &mut self.solution, &self.guesses, event) {
             Ok(true) => Ok(Commit::Place(place as u64)),
             Ok(false) => {
                 self.journal.truncate(place);
@@ -137,7 +142,7 @@ impl Book {
     {
         self.is_sound();
         stuck_is_quiet();
-        is_stuck(&self.solution)
+        is_stuck(&self.solution, &self.guesses)
     }
 
     /// The event that comes first, where the site `from` is looked at first, and its site. None
@@ -150,7 +155,7 @@ impl Book {
         ensures memory { OnErr result (IsStuck self.now → ⊥) }
     {
         self.is_sound();
-        first_event(alloc, &self.solution, from)
+        first_event(alloc, &self.solution, &self.guesses, from)
     }
 
     /// The events since the opening.

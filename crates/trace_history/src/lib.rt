@@ -2,6 +2,7 @@
 #![tactic(auto)]
 
 mod book;
+mod heard;
 mod search;
 
 pub use book::{Book, Commit, Found};

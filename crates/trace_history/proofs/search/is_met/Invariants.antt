@@ -1,6 +1,9 @@
-use Rattle.std.proofs.Common.{◌≡◌, drop}
+use Rattle.std.proofs.Common.{◌≡◌, ◌≤◌, length, drop, false}
 use Rattle.trace_history.specs.Search.{is_met}
 use Rattle.trace_history.proofs.search.is_met.Given as goal
 
-abbrev pub invariant-loop-atom : goal.invariant-loop-atom
-invariant-loop-atom l = is_met (drop l.atom-index l.atom-items) l.at l.pat ≡ is_met l.atom-items l.at l.pat
+abbrev pub decreases-loop-left : goal.decreases-loop-left
+decreases-loop-left l = l.left
+
+abbrev pub invariant-loop-left : goal.invariant-loop-left
+invariant-loop-left l = (l.left ≤ length l.atoms) × (is_met (drop l.left l.atoms) l.at l.pat ≡ false)
