@@ -2,6 +2,7 @@ pub mod Levels
 pub mod Masks
 pub mod Guards
 pub mod Best
+pub mod Fires
 pub mod Counting
 pub mod Events
 pub mod Quiet
