@@ -10,3 +10,4 @@ pub mod Fitting
 pub mod Reactions
 pub mod Openings
 pub mod OpeningFit
+pub mod OpeningFresh
