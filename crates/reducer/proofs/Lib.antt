@@ -2,6 +2,7 @@ pub mod Levels
 pub mod Masks
 pub mod Guards
 pub mod Best
+pub mod Fires
 pub mod Counting
 pub mod Events
 pub mod Quiet
@@ -9,3 +10,4 @@ pub mod Fitting
 pub mod Reactions
 pub mod Openings
 pub mod OpeningFit
+pub mod OpeningFresh

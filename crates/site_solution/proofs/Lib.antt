@@ -32,3 +32,5 @@ pub mod Removed
 pub mod Parting
 pub mod Carrying
 pub mod Receiving
+pub mod Staying
+pub mod Arriving

@@ -24,3 +24,5 @@ pub mod Carried
 pub mod Leave
 pub mod Stored
 pub mod Possible
+pub mod Staying
+pub mod Arriving

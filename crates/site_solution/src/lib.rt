@@ -10,6 +10,7 @@ mod commit;
 mod effects;
 mod finding;
 mod forgetting;
+mod laws;
 mod more;
 mod packing;
 mod parcels;
@@ -23,5 +24,6 @@ mod told;
 mod walking;
 
 pub use effects::Effects;
+pub use laws::{births_keep_others, same_numbers_keep};
 pub use site::{Site, site_is_kept};
 pub use walking::message_is_there;

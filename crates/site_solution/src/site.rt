@@ -28,7 +28,12 @@ ghost use Rattle.net_laws.specs.Parcels.{pack, parcel_of, remove, stuck_but};
 ghost use Rattle.site_solution.specs.Apart.{are_separate, is_apart};
 ghost use Rattle.site_solution.specs.Parted.{is_parted};
 ghost use Rattle.site_solution.specs.Counted.{times, waiting_in};
+ghost use Rattle.site_solution.specs.Rising.{AreAsked};
 ghost use Rattle.site_solution.specs.More.{CanAdd, added};
+ghost use Rattle.chem_model.specs.Solution.{same_loc};
+ghost use Rattle.env_store.specs.CodeParts.{CodeParts};
+ghost use Rattle.loc_tree.specs.Tree.{Tree};
+ghost use Rattle.site_solution.specs.Staying.{AgreeBut, StillFits};
 
 use crate::apart::{
     groups_are_apart, is_separate, queued_are_apart, requests_are_apart, stuck_are_apart,
@@ -474,9 +479,13 @@ impl Site {
     }
 
     /// Drops a location with all that stands at it: exactly what `pack` gives of it. It takes no
-    /// memory.
+    /// memory. What the tests say of the site they say still, also where the tree has given the
+    /// location, which is no root, to another site.
     pub fn remove(&mut self, loc: &Loc)
-        ensures { self.new ≡ remove loc.now self.old }
+        ensures is { self.new ≡ remove loc.now self.old }
+        ensures keeps { (c : CodeParts) (t u : Tree) → AgreeBut loc.now t u
+            → same_loc loc.now (root_of self.old.number) ≡ false
+            → StillFits c t self.old u self.new }
     {
         drop_groups(&mut self.groups, &mut self.spots, *loc);
         drop_stuck(&mut self.stuck, *loc);
@@ -494,15 +503,17 @@ fn drop_stuck(stuck: &mut Vec<Waiting>, loc: Loc)
 
 /// All that a site holds stands at locations that it hosts, a queue holds messages on its channel
 /// with its count, no group could take a stuck message, no two groups share a channel, channels and
-/// rules have numbers of 64 bits, the ids of waiting messages and requests are all different, and
-/// fewer than 2^32 messages wait. It does nothing.
+/// rules have numbers of 64 bits, the ids of waiting messages and requests are all different, those
+/// of requests rise, and there are fewer than 2^32 messages and as few requests. It does nothing.
 pub fn site_is_kept(site: &Site)
     ensures kept { IsKept site.now }
     ensures numbers { Each HasNumbers (told_in site.now.groups) }
     ensures once { (i : AtomId) → times i site.now ≤ 1 }
     ensures few_waiting { waiting_in site.now < 2 ^ 32 }
+    ensures asked { AreAsked site.now.requests }
 {
     let _number = site.number;
+    let _requests = site.requests.as_slice();
 }
 
 fn tops_are_there(tree: &LocTree, tops: &[Loc]) -> bool
