@@ -6,6 +6,7 @@ pub mod Fires
 pub mod Counting
 pub mod Events
 pub mod Quiet
+pub mod Least
 pub mod Fitting
 pub mod Reactions
 pub mod Openings

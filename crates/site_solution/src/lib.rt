@@ -6,7 +6,9 @@
 
 mod apart;
 mod asked;
+mod choosing;
 mod commit;
+mod covering;
 mod effects;
 mod finding;
 mod forgetting;
@@ -23,6 +25,7 @@ mod tests;
 mod told;
 mod walking;
 
+pub use choosing::Search;
 pub use effects::Effects;
 pub use laws::{births_keep_others, same_numbers_keep};
 pub use site::{Site, site_is_kept};

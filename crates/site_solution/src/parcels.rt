@@ -122,7 +122,7 @@ impl Site {
     {
         site_is_kept(self);
         let more = carried(alloc, code, parcel, self.made())?;
-        self.add_all(alloc, &[parcel.loc], more, 0, &[])
+        self.add_all(alloc, Some(code), &[parcel.loc], more, 0, &[])
     }
 
     /// Takes in a location, and then pours there the continuation of the request that brought it.
@@ -156,7 +156,7 @@ impl Site {
         let (made, sorted) = continued(alloc, tree, counts, self, loc, cont)?;
         let before = carried(alloc, code, parcel, made.next)?;
         let (more, sends) = beside(before, sorted)?;
-        self.add_all(alloc, &[*loc], more, 0, &[])?;
+        self.add_all(alloc, Some(code), &[*loc], more, 0, &[])?;
         Ok(Effects {
             sends,
             outs: made.outs,

@@ -24,6 +24,7 @@ ghost use Rattle.site_solution.specs.Draws.{all_drawn, CanDraw};
 ghost use Rattle.site_solution.specs.InTree.{has_number, is_in_tree};
 ghost use Rattle.site_solution.specs.Held.{queues_of, queue_of, without_front, inst_in, has_atom};
 ghost use Rattle.site_solution.specs.Held.{taken_at};
+ghost use Rattle.site_solution.specs.Guards.{Tells};
 ghost use Rattle.net_laws.specs.Parcels.{pack, parcel_of, remove, stuck_but};
 ghost use Rattle.site_solution.specs.Apart.{are_separate, is_apart};
 ghost use Rattle.site_solution.specs.Parted.{is_parted};
@@ -39,6 +40,8 @@ use crate::apart::{
     groups_are_apart, is_separate, queued_are_apart, requests_are_apart, stuck_are_apart,
 };
 use crate::asked::Asked;
+use crate::choosing::{Search, first_fired};
+use crate::covering::{Covering, agrees, learn, no_covering, refresh};
 use crate::finding::{find, no_spots, push_back, settle};
 use crate::forgetting::drop_groups;
 use crate::more::{More, add_groups, make_room, new_group, take_fronts, told_by};
@@ -72,6 +75,7 @@ pub struct Site {
     locs: Places,
     groups: Groups<Told, Msg>,
     spots: Spots,
+    covering: Covering,
     stuck: Vec<Waiting>,
     requests: Asked,
 }
@@ -101,6 +105,7 @@ impl Site {
             locs,
             groups: Groups::new(alloc),
             spots: no_spots(alloc),
+            covering: no_covering(alloc),
             stuck: Vec::new(alloc),
             requests: Asked::new(alloc),
         })
@@ -224,7 +229,14 @@ impl Site {
             return Err((msg, Memory));
         }
         match find(&self.groups, &self.spots, &msg) {
-            Some(spot) => push_back(&mut self.groups, spot.group, spot.chan, msg),
+            Some(spot) => push_back(
+                &mut self.groups,
+                &self.spots,
+                &mut self.covering,
+                spot.group,
+                spot.chan,
+                msg,
+            ),
             None => keep(&mut self.stuck, *loc, msg),
         }
     }
@@ -238,11 +250,16 @@ impl Site {
         ensures err { OnErr result (self.new ≡ self.old) }
     {
         let told = told_by(alloc, code, group)?;
-        self.add(alloc, told)
+        self.add(alloc, Some(code), told)
     }
 
-    // Lays a group of which this is told.
-    pub(crate) fn add(&mut self, alloc: Global, told: Told) -> Result<(), Memory>
+    // Lays a group of which this is told. The code tells the masks of its guards.
+    pub(crate) fn add(
+        &mut self,
+        alloc: Global,
+        code: Option<&Code>,
+        told: Told,
+    ) -> Result<(), Memory>
         requires { CanLay told self.old }
         ensures ok { OnOk result (self.new ≡ lay told self.old) }
         ensures err { OnErr result (self.new ≡ self.old) }
@@ -255,14 +272,16 @@ impl Site {
             waiting: Vec::new(alloc),
             requests: Vec::new(alloc),
         };
-        self.add_all(alloc, &[], more, 0, &[])
+        self.add_all(alloc, code, &[], more, 0, &[])
     }
 
     // Drops the fronts of these queues of a group in turn, where there are any, and adds locations,
-    // groups, messages and requests. Where there is no memory for all of it, nothing changes.
+    // groups, messages and requests. Where there is no memory for all of it, nothing changes. The
+    // code tells the masks of the groups' guards.
     pub(crate) fn add_all(
         &mut self,
         alloc: Global,
+        code: Option<&Code>,
         locs: &[Loc],
         more: More,
         group: u32,
@@ -281,6 +300,7 @@ impl Site {
         }
         self.locs.reserve(locs.len())?;
         self.requests.reserve(more.requests.len())?;
+        learn(&mut self.covering, alloc, code, &more.groups);
         let again = make_room(
             alloc,
             &mut self.groups,
@@ -297,11 +317,32 @@ impl Site {
         self.made = next;
         self.locs.add_all(locs);
         self.requests.add_all(&requests);
-        take_fronts(&mut self.groups, group as usize, chans);
-        add_groups(&mut self.groups, &mut self.spots, groups);
-        settle(&mut self.groups, &self.spots, &mut self.stuck, again);
-        settle(&mut self.groups, &self.spots, &mut self.stuck, waiting);
+        let rows = &mut self.groups;
+        let covering = &mut self.covering;
+        take_fronts(rows, &self.spots, covering, group as usize, chans);
+        add_groups(rows, &mut self.spots, covering, groups);
+        settle(rows, &self.spots, covering, &mut self.stuck, again);
+        settle(rows, &self.spots, covering, &mut self.stuck, waiting);
         Ok(())
+    }
+
+    /// The covered guard of a live location that goes first: that of the least rule, and among
+    /// groups of one rule that of the first group. It goes along an index, which may not be kept:
+    /// where a level came with other masks than before or than the code has, or where there was no
+    /// memory for a key, nothing is known.
+    pub fn least_covered(&self, code: &Code, tree: &LocTree) -> Search
+        ensures { Tells code.now tree.now self.now.groups result }
+    {
+        if !agrees(&self.covering, code) {
+            return Search::Unknown;
+        }
+        match first_fired(&self.groups, &self.spots, code, tree, &self.covering.keys) {
+            Some(found) => Search::Found {
+                group: found.group,
+                guard: found.guard,
+            },
+            None => Search::Nothing,
+        }
     }
 
     /// Drops the front of the queue of one of a group's channels.
@@ -311,6 +352,12 @@ impl Site {
             → self.new ≡ with_queues self.old group g (without_front g.queues chan) }
     {
         self.groups.take_front(group as usize, chan);
+        refresh(
+            &mut self.covering,
+            &self.groups,
+            &self.spots,
+            group as usize,
+        );
     }
 
     /// Hosts a location.
@@ -487,7 +534,7 @@ impl Site {
             → same_loc loc.now (root_of self.old.number) ≡ false
             → StillFits c t self.old u self.new }
     {
-        drop_groups(&mut self.groups, &mut self.spots, *loc);
+        drop_groups(&mut self.groups, &mut self.spots, &mut self.covering, *loc);
         drop_stuck(&mut self.stuck, *loc);
         self.requests.drop_at(*loc);
         self.locs.remove(*loc);
