@@ -1,18 +1,14 @@
 -- A detection is one event.
-use Rattle.std.proofs.Common.{◌≡◌, ℕ, Bool, true, false, cond, List, [], Option, Some, None, refl, sym, ap, subst, ◌∙◌}
+use Rattle.std.proofs.Common.{◌≡◌, ℕ, true, false, List, [], Option, Some, None, refl, sym, ap, subst, ◌∙◌}
 use Rattle.std.specs.Prelude.{is_some, ◌&&◌}
-use Rattle.std.proofs.lemmas.Bool.{and_parts, and_left}
+use Rattle.std.proofs.lemmas.Bool.{and_parts}
 use Rattle.chem_model.specs.declared.name.Loc.{Loc}
 use Rattle.chem_model.specs.declared.name.Name.{Name}
 use Rattle.chem_model.specs.declared.name.Name.TheVariants as name
 use Rattle.chem_model.specs.declared.event.AtomId.{AtomId}
-use Rattle.chem_model.specs.declared.event.Event.{Event}
 use Rattle.chem_model.specs.declared.event.Event.TheVariants as event
 use Rattle.chem_model.specs.declared.numbered.NumberedRule.{NumberedRule}
-use Rattle.chem_model.specs.declared.numbered.NumberedAtom.{NumberedAtom}
-use Rattle.chem_model.specs.declared.numbered.Numbered.{Numbered}
 use Rattle.chem_model.specs.declared.numbered.Made.{Made}
-use Rattle.chem_model.specs.Bag.{Bag}
 use Rattle.wire_packet.specs.declared.packet.Ask.{Ask}
 use Rattle.wire_packet.specs.declared.packet.Ask.TheVariants as request
 use Rattle.wire_packet.specs.declared.packet.GroupInst.{GroupInst}
@@ -22,7 +18,6 @@ use Rattle.net_laws.specs.Site.{Site}
 use Rattle.net_laws.specs.Kept.{IsKept}
 use Rattle.net_laws.specs.Holding.{request_with, drop_request}
 use Rattle.net_laws.specs.Meeting.{continuation_made, sent_here}
-use Rattle.net_laws.specs.Parts.{IsPart}
 use Rattle.net_laws.proofs.Meeting.{detection_is_one_event}
 use Rattle.site_solution.specs.Answers.{Answers}
 use Rattle.router.specs.Happening.{Happens}
@@ -30,8 +25,8 @@ use Rattle.site_solution.specs.InTree.{name_stands, ask_stands, request_stands, 
 use Rattle.site_solution.specs.declared.effects.Effects.{Effects}
 use Rattle.site_solution.proofs.Possible.{some_cond}
 use Rattle.router.proofs.Sending.{asked_here, happens}
-use Rattle.site_solution.proofs.Together.{IsInTree, in_tree_parts, number_here, request_id, request_passes}
-use Rattle.failure.specs.Deaths.{has_died, is_told, sees_death, dead_for}
+use Rattle.site_solution.proofs.Together.{in_tree_parts, number_here, request_id, request_passes}
+use Rattle.failure.specs.Deaths.{is_told, sees_death, dead_for}
 use Rattle.failure.specs.Detects.{IsDetection, IsOneDetection}
 
 -- what a request tells that sees a death

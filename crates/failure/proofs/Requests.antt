@@ -30,7 +30,9 @@ use Rattle.site_solution.specs.InTree.{is_in_tree}
 use Rattle.site_solution.specs.InCode.{is_in_code}
 use Rattle.site_solution.specs.Draws.{CanDraw}
 use Rattle.site_solution.specs.Possible.{Foretells}
+use Rattle.site_solution.specs.Staying.{StillFits}
 use Rattle.site_solution.proofs.Possible.{request_found, some_cond}
+use Rattle.site_solution.proofs.Staying.{same_numbers}
 use Rattle.site_solution.proofs.Together.{in_tree_parts, in_tree_from, drawn_parts, drawn_from, drop_in_tree, drop_drawn, request_id, numbers_same, code_same, fresh_same, places_same}
 use Rattle.failure.specs.Halts.{is_halt, is_ready, can_halt, IsOneHalt}
 use Rattle.failure.specs.Deaths.{has_died, is_told, sees_death, dead_for}
@@ -108,3 +110,7 @@ module _ (t : Tree) (s : Site) (i : AtomId) (l : Loc) where
 
   pub halt_draws : CanDraw t s → CanDraw (with_mark t l) (drop_request i s)
   halt_draws h = record { few = h.few; drawn = drawn_from (drop_request i s) (drop_drawn i s (drawn_parts s h.drawn)); fresh = fresh_same t (with_mark t l) (places_same t (with_mark t l) same) s.number s.made h.fresh }
+
+-- a mark changes no number
+pub halt_others : (t : Tree) (l : Loc) (c : CodeParts) (s : Site) → StillFits c t s (with_mark t l) s
+halt_others t l c s = same_numbers c t (with_mark t l) s (λ x. sym (mark_number t l x))

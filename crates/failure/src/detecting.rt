@@ -3,7 +3,9 @@ ghost use Rattle.chem_model.specs.declared.name.Name.{Name};
 ghost use Rattle.chem_model.specs.declared.numbered.NumberedRule.{NumberedRule};
 ghost use Rattle.wire_packet.specs.declared.packet.Ask.TheVariants as request;
 ghost use Rattle.wire_packet.specs.declared.packet.GroupInst.{GroupInst};
+ghost use Rattle.env_store.specs.CodeParts.{CodeParts};
 ghost use Rattle.site_solution.specs.InTree.{is_in_tree};
+ghost use Rattle.site_solution.specs.InCode.{is_in_code};
 ghost use Rattle.site_solution.specs.Draws.{CanDraw};
 ghost use Rattle.site_solution.specs.Pours.{HasEmitted};
 ghost use Rattle.failure.specs.Deaths.{dead_for};
@@ -44,6 +46,8 @@ pub fn detect(
     ensures one_event { IfOk result (λ e. (rules_of : GroupInst → List NumberedRule)
         → IsOneDetection rules_of counts.now atom.now tree.now site.old site.new e) }
     ensures keeps { IfOk result (λ _. HasEmitted tree.now site.new) }
+    ensures in_code { IfOk result (λ _. (code : CodeParts)
+        → is_in_code code tree.now site.old ≡ true → is_in_code code tree.now site.new ≡ true) }
     ensures err { OnErr result (site.new ≡ site.old) }
 {
     site_is_kept(site);

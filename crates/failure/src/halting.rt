@@ -8,6 +8,8 @@ ghost use Rattle.site_solution.specs.InTree.{is_in_tree};
 ghost use Rattle.site_solution.specs.InCode.{is_in_code};
 ghost use Rattle.site_solution.specs.Draws.{CanDraw};
 ghost use Rattle.site_solution.specs.Possible.{Foretells};
+ghost use Rattle.net_laws.specs.Site.{Site as site_of_net};
+ghost use Rattle.site_solution.specs.Staying.{StillFits};
 ghost use Rattle.failure.specs.Halts.{is_ready, can_halt, IsHalt, IsOneHalt};
 
 use chem_model::{AtomId, Event};
@@ -39,7 +41,8 @@ pub fn halt_ready(site: &Site, tree: &LocTree, atom: &AtomId) -> bool
 }
 
 /// Meets a request to halt: its location is marked, and the request goes. It is one event of each
-/// solution of which the site is a part, beside any others.
+/// solution of which the site is a part, beside any others. What the tests say of other sites they
+/// say still.
 pub fn halt(tree: &mut LocTree, site: &mut Site, atom: &AtomId) -> Event
     requires in_tree { is_in_tree tree.old site.old ≡ true }
     requires ready { can_halt tree.old atom.now site.old ≡ true }
@@ -51,6 +54,8 @@ pub fn halt(tree: &mut LocTree, site: &mut Site, atom: &AtomId) -> Event
     ensures in_code { (code : CodeParts) → is_in_code code tree.old site.old ≡ true
         → is_in_code code tree.new site.new ≡ true }
     ensures draws { CanDraw tree.old site.old → CanDraw tree.new site.new }
+    ensures others_keep { (code : CodeParts) (other : site_of_net)
+        → StillFits code tree.old other tree.new other }
 {
     site_is_kept(site);
     let request = site.asked(atom);

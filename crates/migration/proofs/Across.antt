@@ -1,41 +1,36 @@
 -- A move from one site to another is one event.
-use Rattle.std.proofs.Common.{◌≡◌, ℕ, ◌+◌, Bool, true, false, cond, List, [], ◌∷◌, ◌++◌, Option, Some, None, refl, sym, ap, subst, ◌∙◌}
-use Rattle.std.specs.Prelude.{is_some, ◌||◌}
+use Rattle.std.proofs.Common.{◌≡◌, ℕ, Bool, true, false, cond, List, [], ◌∷◌, ◌++◌, Some, refl, sym, ap, subst, ◌∙◌}
+use Rattle.std.specs.Prelude.{◌||◌}
 use Rattle.std.specs.Option.{option_map}
 use Rattle.std.proofs.lemmas.Bool.{or_right}
 use Rattle.chem_model.specs.declared.name.Loc.{Loc}
 use Rattle.chem_model.specs.declared.name.Name.{Name}
 use Rattle.chem_model.specs.declared.name.Name.TheVariants as name
 use Rattle.chem_model.specs.declared.event.AtomId.{AtomId}
-use Rattle.chem_model.specs.declared.event.Event.TheVariants as event
 use Rattle.chem_model.specs.declared.event.Out.{Out}
 use Rattle.chem_model.specs.declared.numbered.NumberedRule.{NumberedRule}
-use Rattle.chem_model.specs.declared.numbered.NumberedAtom.{NumberedAtom}
-use Rattle.chem_model.specs.declared.numbered.Numbered.{Numbered}
 use Rattle.chem_model.specs.declared.numbered.Made.{Made}
-use Rattle.chem_model.specs.Bag.{Bag}
 use Rattle.chem_model.specs.Solution.{same_loc}
 use Rattle.wire_packet.specs.declared.packet.Ask.TheVariants as request
 use Rattle.wire_packet.specs.declared.packet.GroupInst.{GroupInst}
 use Rattle.wire_packet.specs.declared.packet.Request.{Request}
-use Rattle.loc_tree.specs.declared.tree.Spot.{Spot}
 use Rattle.loc_tree.specs.Tree.{Tree, spot, number_in, renumbered, can_move, with_number}
 use Rattle.loc_tree.proofs.Spots.{same_loc_refl}
 use Rattle.net_laws.specs.Site.{Site, told_in}
-use Rattle.net_laws.specs.Net.{Addressed, among}
+use Rattle.net_laws.specs.Net.{among}
 use Rattle.net_laws.specs.Net.{Effects as effects_of}
 use Rattle.net_laws.specs.Kept.{IsKept, AreApart}
 use Rattle.net_laws.specs.Holding.{request_with, drop_request}
 use Rattle.net_laws.specs.Meeting.{continuation_made, sent_here}
 use Rattle.net_laws.specs.Parcels.{Load, pack, remove, take_in}
 use Rattle.net_laws.specs.Posting.{Outcome}
-use Rattle.net_laws.specs.Parts.{AreParts, MoveOf}
+use Rattle.net_laws.specs.Parts.{MoveOf}
 use Rattle.net_laws.proofs.Calls.{apart_both, apart_there, all_elsewhere}
 use Rattle.net_laws.proofs.Meeting.{move_between_is_one_event}
 use Rattle.net_laws.proofs.Parcels.{dropped, packed, taken_in}
 use Rattle.net_laws.proofs.Posting.{among_append}
 use Rattle.net_laws.proofs.Trees.{number_spot}
-use Rattle.site_solution.specs.Answers.{AreFlights, Answers}
+use Rattle.site_solution.specs.Answers.{Answers}
 use Rattle.site_solution.specs.InTree.{is_in_tree}
 use Rattle.site_solution.specs.declared.effects.Effects.{Effects}
 use Rattle.site_solution.proofs.Dropping.{sent_tree}

@@ -1,15 +1,15 @@
 -- What is packed may come to a site where the test of joining says so.
-use Rattle.std.proofs.Common.{◌≡◌, ℕ, ◌+◌, ◌<◌, ◌≤◌, ◌^◌, Bool, true, false, cond, List, [], ◌∷◌, ◌++◌, Some, refl, sym, ap, subst, ◌∙◌, arith}
-use Rattle.std.specs.Prelude.{◌&&◌, ◌||◌, ◌==◌, not, nat_lt}
+use Rattle.std.proofs.Common.{◌≡◌, ℕ, ◌+◌, ◌≤◌, Bool, true, false, cond, List, [], ◌∷◌, ◌++◌, Some, refl, ap, subst, ◌∙◌, arith}
+use Rattle.std.specs.Prelude.{◌&&◌, ◌||◌, not}
 use Rattle.std.specs.List.{list_all}
-use Rattle.std.proofs.lemmas.Bool.{and_parts, not-true, ltb-true}
+use Rattle.std.proofs.lemmas.Bool.{and_parts, and_from, not-true}
 use Rattle.std.proofs.lemmas.Bool.Decides.{nat_tests}
 use Rattle.chem_model.specs.declared.name.Loc.{Loc}
 use Rattle.chem_model.specs.declared.event.AtomId.{AtomId}
 use Rattle.chem_model.specs.Apply.{same_atom}
 use Rattle.chem_model.specs.Each.{Each}
 use Rattle.chem_model.specs.Solution.{same_loc}
-use Rattle.chem_laws.proofs.Taking.{same_atom_is, same_atom_refl}
+use Rattle.chem_laws.proofs.Taking.{same_atom_is}
 use Rattle.wire_packet.specs.MessageFacts.{MessageParts}
 use Rattle.wire_packet.specs.declared.packet.Waiting.{Waiting}
 use Rattle.wire_packet.specs.declared.packet.Request.{Request}
@@ -22,17 +22,18 @@ use Rattle.net_laws.specs.Parcels.{groups_at, stuck_at, requests_at, in_queue, i
 use Rattle.net_laws.specs.ByCode.{told_by}
 use Rattle.env_store.specs.CodeParts.{CodeParts}
 use Rattle.wire_packet.specs.ParcelFacts.{ParcelParts}
-use Rattle.net_laws.proofs.Calls.{apart_both, apart_there, all_elsewhere, each_at}
-use Rattle.net_laws.proofs.Parcels.{packed}
+use Rattle.net_laws.proofs.Calls.{each_at}
 use Rattle.site_solution.specs.CanLay.{HasNumbers}
 use Rattle.site_solution.specs.Draws.{is_drawn, message_drawn, group_drawn, told_drawn, all_drawn, CanDraw}
 use Rattle.site_solution.specs.Held.{has_atom}
 use Rattle.site_solution.specs.Counted.{over_queue, over_queues, over_groups, over_stuck, over_waiting, is_id, id_of, over_requests, times}
 use Rattle.site_solution.specs.InCode.{is_in_code}
-use Rattle.site_solution.specs.Parcels.{CanTakeIn, CanReceive}
-use Rattle.site_solution.specs.Apart.{told_apart, atom_apart, is_apart}
+use Rattle.site_solution.specs.Parcels.{CanReceive}
+use Rattle.site_solution.specs.Apart.{are_separate, told_apart, atom_apart, is_apart}
+use Rattle.site_solution.specs.Arriving.{load_drawn}
+use Rattle.site_solution.proofs.AllHold.{all-weaker}
 use Rattle.site_solution.proofs.Counting.{absent-times, request-less}
-use Rattle.site_solution.proofs.Together.{AreDrawn, drawn_parts, request_id}
+use Rattle.site_solution.proofs.Together.{drawn_parts, request_id}
 use Rattle.migration.proofs.Between.{pack_less, carried}
 use Rattle.migration.proofs.Across.{packed_apart}
 
@@ -159,6 +160,8 @@ next_is_new s h =
 -- what the test says
 record IsApart (s : Site) (but : AtomId) (p : Load) : Type 0 where
   away : among s.locs p.loc ≡ false
+  drawn : is_drawn s.number s.made p.loc.site p.loc.k ≡ true
+  groups : list_all (told_apart s) p.groups ≡ true
   waiting : list_all (λ (w : Waiting). atom_apart s but w.msg.id) p.waiting ≡ true
   requests : list_all (λ (q : Request). atom_apart s but q.id) p.requests ≡ true
 
@@ -173,7 +176,7 @@ apart_parts s but p h =
     let second = and_parts here drawn first.0 in
     let third = and_parts groups (waiting && requests) first.1 in
     let fourth = and_parts waiting requests third.1 in
-    record { away = not-true (among s.locs p.loc) second.0; waiting = fourth.0; requests = fourth.1 }
+    record { away = not-true (among s.locs p.loc) second.0; drawn = second.1; groups = third.0; waiting = fourth.0; requests = fourth.1 }
 
 module _ (from into : Site) (l : Loc) (i : AtomId) (q : Request) (at : q.loc ≡ l) (there : request_with i from.requests ≡ Some q) (apart : is_apart into i (pack l from) ≡ true)
     (once_from : (j : AtomId) → times j from ≤ 1) (once_into : (j : AtomId) → times j into ≤ 1) where
@@ -198,6 +201,52 @@ module _ (from into : Site) (l : Loc) (i : AtomId) (q : Request) (at : q.loc ≡
 
   none_comes : (j : AtomId) → atom_apart into i j ≡ false → times_in j load ≡ 0
   none_comes j fails = omega (arith, less j, none_packed j fails)
+
+  -- so what comes has numbers below the count, where the site made it
+  atom_drawn : (j : AtomId) → atom_apart into i j ≡ true → is_id i j ≡ 0 → is_drawn into.number into.made j.site j.k ≡ true
+  atom_drawn j passes other = go (same_atom j i) other passes
+    where
+      drawn : Bool
+      drawn = is_drawn into.number into.made j.site j.k
+
+      go : (a : Bool) → cond {A = ℕ} a 1 0 ≡ 0 → a || (not (has_atom j into) && drawn) ≡ true → drawn ≡ true
+      go true e h = absurd (omega arith)
+      go false e h = (and_parts (not (has_atom j into)) drawn h).1
+
+  waits_drawn : (ws : List Waiting) → over_stuck (id_of i) ws ≡ 0 → list_all (λ (w : Waiting). atom_apart into i w.msg.id) ws ≡ true → list_all (λ (w : Waiting). message_drawn into.number into.made w.msg) ws ≡ true
+  waits_drawn [] none h = refl
+  waits_drawn (w ∷ ws) none h =
+      let both = and_parts (atom_apart into i w.msg.id) (list_all (λ (v : Waiting). atom_apart into i v.msg.id) ws) h in
+      and_from (message_drawn into.number into.made w.msg) (list_all (λ (v : Waiting). message_drawn into.number into.made v.msg) ws) (atom_drawn w.msg.id both.0 (omega arith)) (waits_drawn ws (omega arith) both.1)
+
+  asks_drawn : (qs : List Request) → over_requests i qs ≡ 0 → list_all (λ (x : Request). atom_apart into i x.id) qs ≡ true → list_all (λ (x : Request). is_drawn into.number into.made x.id.site x.id.k) qs ≡ true
+  asks_drawn [] none h = refl
+  asks_drawn (x ∷ qs) none h =
+      let both = and_parts (atom_apart into i x.id) (list_all (λ (y : Request). atom_apart into i y.id) qs) h in
+      and_from (is_drawn into.number into.made x.id.site x.id.k) (list_all (λ (y : Request). is_drawn into.number into.made y.id.site y.id.k) qs) (atom_drawn x.id both.0 (omega arith)) (asks_drawn qs (omega arith) both.1)
+
+  all_less : (p : Request → Bool) (qs : List Request) → list_all p qs ≡ true → list_all p (without_request i qs) ≡ true
+  all_less p [] h = refl
+  all_less p (x ∷ qs) h =
+      let both = and_parts (p x) (list_all p qs) h in
+      go (same_atom x.id i) both.1 (and_from (p x) (list_all p (without_request i qs)) both.0 (all_less p qs both.1))
+    where
+      go : (b : Bool) → list_all p qs ≡ true → list_all p (x ∷ without_request i qs) ≡ true → list_all p (cond b qs (x ∷ without_request i qs)) ≡ true
+      go true f g = f
+      go false f g = g
+
+  told_are_drawn : (ds : List Told) → list_all (told_apart into) ds ≡ true → list_all (told_drawn into.number into.made) ds ≡ true
+  told_are_drawn ds h = all-weaker (told_apart into) (told_drawn into.number into.made) ds (λ d e. (and_parts (told_drawn into.number into.made d) (list_all (are_separate d) (told_in into.groups)) e).0) h
+
+  pub comes_drawn : load_drawn into.number into.made load ≡ true
+  comes_drawn =
+      let asked : list_all (λ (x : Request). atom_apart into i x.id) load.requests ≡ true = ap (λ (p : Load). list_all (λ (x : Request). atom_apart into i x.id) p.requests) (pack_less l i q at from there) ∙ all_less (λ (x : Request). atom_apart into i x.id) (requests_at l from.requests) is.requests in
+      let groups = list_all (told_drawn into.number into.made) load.groups in
+      let waits = list_all (λ (w : Waiting). message_drawn into.number into.made w.msg) load.waiting in
+      let asks = list_all (λ (x : Request). is_drawn into.number into.made x.id.site x.id.k) load.requests in
+      and_from (is_drawn into.number into.made l.site l.k) (groups && (waits && asks)) is.drawn
+      (and_from groups (waits && asks) (told_are_drawn load.groups is.groups)
+      (and_from waits asks (waits_drawn load.waiting (omega (arith, request_left)) is.waiting) (asks_drawn load.requests (omega (arith, request_left)) asked)))
 
   left_then : (j : AtomId) → same_atom j i ≡ true → times_in j load ≡ 0
   left_then j same = ap (λ (k : AtomId). times_in k load) (same_atom_is j i same) ∙ request_left

@@ -5,3 +5,4 @@ pub mod Between
 pub mod Across
 pub mod Sent
 pub mod Joining
+pub mod Keeping

@@ -1,6 +1,5 @@
 -- What is sent is read as it was.
-use Rattle.std.proofs.Common.{◌≡◌, Result, Ok, Err, List, [], Some, inl, inr, sym, ap, subst, ◌∙◌}
-use Rattle.chem_model.specs.declared.event.AtomId.{AtomId}
+use Rattle.std.proofs.Common.{◌≡◌, Result, Ok, Err, Some, inl, inr, sym, ap, ◌∙◌}
 use Rattle.wire_packet.specs.Codec.{IsOrMemory}
 use Rattle.wire_packet.specs.ParcelFacts.{ParcelParts}
 use Rattle.wire_packet.specs.declared.fault.DecodeEnd.{DecodeEnd}
@@ -10,7 +9,7 @@ use Rattle.wire_packet.specs.declared.parcel.Packet.{Packet}
 use Rattle.wire_packet.specs.declared.parcel.Packet.TheVariants as packet
 use Rattle.net_laws.specs.Site.{Site}
 use Rattle.net_laws.specs.Holding.{request_with, without_request, drop_request}
-use Rattle.net_laws.specs.Parcels.{Load, pack, parcel_of}
+use Rattle.net_laws.specs.Parcels.{pack, parcel_of}
 use Rattle.migration.proofs.Between.{pack_less}
 use Rattle.std.proofs.Common.{ℕ}
 

@@ -1,5 +1,5 @@
 -- A move within a site is one event.
-use Rattle.std.proofs.Common.{◌≡◌, ℕ, Bool, true, false, List, [], Option, Some, None, refl, sym, ap, subst, ◌∙◌}
+use Rattle.std.proofs.Common.{◌≡◌, ℕ, true, List, [], Option, Some, None, refl, sym, ap, subst, ◌∙◌}
 use Rattle.std.specs.Prelude.{is_some, ◌&&◌, not}
 use Rattle.std.proofs.lemmas.Bool.{and_parts}
 use Rattle.chem_model.specs.declared.name.Loc.{Loc}
@@ -8,14 +8,12 @@ use Rattle.chem_model.specs.declared.name.Name.TheVariants as name
 use Rattle.chem_model.specs.declared.event.AtomId.{AtomId}
 use Rattle.chem_model.specs.declared.event.Event.TheVariants as event
 use Rattle.chem_model.specs.declared.numbered.NumberedRule.{NumberedRule}
-use Rattle.chem_model.specs.declared.numbered.NumberedAtom.{NumberedAtom}
-use Rattle.chem_model.specs.declared.numbered.Numbered.{Numbered}
 use Rattle.chem_model.specs.declared.numbered.Made.{Made}
-use Rattle.chem_model.specs.Bag.{Bag}
 use Rattle.wire_packet.specs.declared.packet.Ask.{Ask}
 use Rattle.wire_packet.specs.declared.packet.Ask.TheVariants as request
 use Rattle.wire_packet.specs.declared.packet.GroupInst.{GroupInst}
 use Rattle.wire_packet.specs.declared.packet.Request.{Request}
+use Rattle.env_store.specs.CodeParts.{CodeParts}
 use Rattle.loc_tree.specs.Tree.{Tree, spot, number_in, is_root, is_alive, can_move, with_number}
 use Rattle.loc_tree.specs.Places.{IsTree}
 use Rattle.loc_tree.proofs.Alive.{own_number}
@@ -24,18 +22,19 @@ use Rattle.net_laws.specs.Net.{among}
 use Rattle.net_laws.specs.Kept.{IsKept}
 use Rattle.net_laws.specs.Holding.{request_with, drop_request}
 use Rattle.net_laws.specs.Meeting.{continuation_made, sent_here}
-use Rattle.net_laws.specs.Parts.{IsPart}
 use Rattle.net_laws.proofs.Meeting.{move_within_is_one_event}
 use Rattle.net_laws.proofs.Trees.{number_kept}
 use Rattle.site_solution.specs.Answers.{Answers}
 use Rattle.router.specs.Happening.{Happens}
 use Rattle.site_solution.specs.InTree.{name_stands, ask_stands, request_stands, is_in_tree}
 use Rattle.site_solution.specs.Pours.{HasEmitted}
+use Rattle.site_solution.specs.Staying.{StillFits}
+use Rattle.site_solution.proofs.Staying.{same_numbers}
 use Rattle.site_solution.specs.declared.effects.Effects.{Effects}
 use Rattle.router.proofs.Sending.{asked_here, happens}
 use Rattle.site_solution.proofs.Together.{in_tree_parts, in_tree_from, number_here, request_id, request_passes, numbers_same, fresh_same, places_same}
-use Rattle.migration.specs.Moves.{has_goal, may_go, goes, is_ready, can_go}
-use Rattle.migration.specs.Within.{names_one_of, goes_to_one_of, leads_to_one_of, leads_into, IsMoveWithin, IsOneMove}
+use Rattle.migration.specs.Moves.{has_goal, goes, is_ready, can_go}
+use Rattle.migration.specs.Within.{goes_to_one_of, leads_to_one_of, leads_into, IsMoveWithin, IsOneMove}
 
 -- ---- what a request tells whose location may move
 
@@ -131,3 +130,8 @@ module _ (seen : List ℕ) (t : Tree) (s : Site) (i : AtomId) (q : Request) (b :
           drawn = h.drawn;
           fresh = fresh_same t u (places_same t u same) v.number v.made h.fresh;
         })
+
+    pub within_others : (c : CodeParts) (v : Site) → StillFits c t v moved v
+    within_others c v =
+        let u : Tree = with_number t q.loc s.number in
+        subst (λ (w : Tree). StillFits c t v w v) (sym same_number) (same_numbers c t u v (λ x. sym (number_kept t q.loc s.number hosted x)))

@@ -2,11 +2,14 @@
 ghost use Rattle.std.specs.Prelude.{◌≡◌, List, true, Some, IfOk, OnErr, IsSome};
 ghost use Rattle.chem_model.specs.declared.numbered.NumberedRule.{NumberedRule};
 ghost use Rattle.wire_packet.specs.declared.packet.GroupInst.{GroupInst};
+ghost use Rattle.env_store.specs.CodeParts.{CodeParts};
+ghost use Rattle.net_laws.specs.Site.{Site as site_of_net};
 ghost use Rattle.net_laws.specs.Holding.{request_with, drop_request};
 ghost use Rattle.net_laws.specs.Parcels.{pack, parcel_of};
 ghost use Rattle.site_solution.specs.InTree.{is_in_tree};
 ghost use Rattle.site_solution.specs.InCode.{is_in_code};
 ghost use Rattle.site_solution.specs.Draws.{CanDraw};
+ghost use Rattle.site_solution.specs.Staying.{StillFits, HasReceived};
 ghost use Rattle.migration.specs.Moves.{can_go};
 ghost use Rattle.migration.specs.Within.{leads_into};
 ghost use Rattle.migration.specs.Across.{can_join, IsMoveBetween, IsOneMoveBetween};
@@ -61,7 +64,8 @@ fn carried(alloc: Global, from: &Site, request: &Request) -> Result<Parcel, Memo
 /// Meets a request to go to a location that the other site hosts. The location leaves with all that
 /// stands there but the request, is encoded, decoded and taken in, and the continuation is poured
 /// there. It is one event of each solution of which the two sites are parts, beside any others.
-/// Where there is no memory, nothing changes.
+/// Where there is no memory, nothing changes. Of both sites and of all others holds again what the
+/// tests say; only the count of the site that takes the location in may have reached 2^63.
 pub fn move_between(
     alloc: Global,
     from: &mut Site,
@@ -83,6 +87,11 @@ pub fn move_between(
     ensures one_event { IfOk result (λ e. (rules_of : GroupInst → List NumberedRule)
         → IsOneMoveBetween rules_of code.now.seen atom.now tree.old from.old into.old
         from.new into.new e) }
+    ensures from_keeps { IfOk result (λ _.
+        StillFits code.now tree.old from.old tree.new from.new) }
+    ensures into_keeps { IfOk result (λ _. HasReceived code.now tree.new into.new) }
+    ensures others_keep { IfOk result (λ _. (c : CodeParts) (other : site_of_net)
+        → (other.number ≡ from.old.number → ⊥) → StillFits c tree.old other tree.new other) }
     ensures err_from { OnErr result (from.new ≡ from.old) }
     ensures err_into { OnErr result (into.new ≡ into.old) }
     ensures err_tree { OnErr result (tree.new ≡ tree.old) }

@@ -3,9 +3,13 @@ ghost use Rattle.chem_model.specs.declared.name.Name.TheVariants as name;
 ghost use Rattle.chem_model.specs.declared.numbered.NumberedRule.{NumberedRule};
 ghost use Rattle.wire_packet.specs.declared.packet.Ask.TheVariants as request;
 ghost use Rattle.wire_packet.specs.declared.packet.GroupInst.{GroupInst};
+ghost use Rattle.env_store.specs.CodeParts.{CodeParts};
+ghost use Rattle.net_laws.specs.Site.{Site as site_of_net};
 ghost use Rattle.site_solution.specs.InTree.{is_in_tree};
+ghost use Rattle.site_solution.specs.InCode.{is_in_code};
 ghost use Rattle.site_solution.specs.Draws.{CanDraw};
 ghost use Rattle.site_solution.specs.Pours.{HasEmitted};
+ghost use Rattle.site_solution.specs.Staying.{StillFits};
 ghost use Rattle.migration.specs.Moves.{has_goal, can_go};
 ghost use Rattle.migration.specs.Within.{leads_into, IsMoveWithin, IsOneMove};
 
@@ -30,7 +34,8 @@ pub(crate) fn goal_of(ask: Ask) -> (Loc, Name)
 }
 
 /// Meets a request to go to a location that its own site hosts: the request goes, and its
-/// continuation is poured where it stood. Where there is no memory, nothing changes.
+/// continuation is poured where it stood. Where there is no memory, nothing changes. What the tests
+/// say of other sites they say still.
 pub fn move_within(
     alloc: Global,
     site: &mut Site,
@@ -47,6 +52,10 @@ pub fn move_within(
     ensures one_event { IfOk result (λ e. (rules_of : GroupInst → List NumberedRule)
         → IsOneMove rules_of counts.now atom.now tree.old site.old tree.new site.new e) }
     ensures keeps { IfOk result (λ _. HasEmitted tree.new site.new) }
+    ensures in_code { IfOk result (λ _. (code : CodeParts)
+        → is_in_code code tree.old site.old ≡ true → is_in_code code tree.new site.new ≡ true) }
+    ensures others_keep { IfOk result (λ _. (code : CodeParts) (other : site_of_net)
+        → StillFits code tree.old other tree.new other) }
     ensures err { OnErr result (site.new ≡ site.old) }
     ensures err_tree { OnErr result (tree.new ≡ tree.old) }
 {

@@ -51,7 +51,7 @@ found_rule (q ∷ rs) r h =
     ]
 
 -- a request that is found is held
-held_request : (qs : List Request) (a : AtomId) (q : Request) → request_with a qs ≡ Some q → 0 < request_atoms qs (request_atom q)
+pub held_request : (qs : List Request) (a : AtomId) (q : Request) → request_with a qs ≡ Some q → 0 < request_atoms qs (request_atom q)
 held_request [] a q e = cc
 held_request (x ∷ qs) a q e = go (same_atom x.id a) (held_request qs a q) e
   where

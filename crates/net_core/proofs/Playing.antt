@@ -19,7 +19,7 @@ use Rattle.net_core.proofs.Leading.{acts_lead}
 use Rattle.net_core.proofs.Rising.{all_more, counts_rise}
 
 -- each choice is one event or none
-one_leads : (c : CodeParts) (net new : Net) (o : Option Event) → IsCode c → Does c net o new → IsLedFrom net o new c
+pub one_leads : (c : CodeParts) (net new : Net) (o : Option Event) → IsCode c → Does c net o new → IsLedFrom net o new c
 one_leads c net new o kept (react i j k e _ does) = (acts_lead c net new kept).0 i j k e does
 one_leads c net new o kept (deliver f _ does) = (acts_lead c net new kept).1 f does
 one_leads c net new o kept (halt a _ does) = (acts_lead c net new kept).2 a does
@@ -37,11 +37,11 @@ lists_replay c net end es kept (carries _ mid _ _ does more) p n ok is stands ru
     lists_replay c mid end es kept more p n ok is step.leads step.runs
 
 -- how many numbers a choice may draw
-abbrev rise : Option Event → ℕ
+abbrev pub rise : Option Event → ℕ
 rise None = 0
 rise (Some e) = 1048576
 
-one_rises : (c : CodeParts) (net new : Net) (o : Option Event) (most : ℕ) → Rises c net new → Does c net o new → AllMade most net → AllMade (most + rise o) new
+pub one_rises : (c : CodeParts) (net new : Net) (o : Option Event) (most : ℕ) → Rises c net new → Does c net o new → AllMade most net → AllMade (most + rise o) new
 one_rises c net new o most rises (react i j k e _ does) all = rises.reacts i j k most e does all
 one_rises c net new o most rises (deliver f _ does) all = all_more most (most + 0) (omega arith) new.sites (rises.delivers f most does all)
 one_rises c net new o most rises (halt a _ does) all = all_more most (most + 1048576) (omega arith) new.sites (rises.halts a most does all)

@@ -1,9 +1,27 @@
 //! A network of sites on one thread.
 #![tactic(auto)]
 
+mod choice;
+mod delivering;
+mod events;
+mod handing;
 mod laws;
+mod meeting;
+mod net;
+mod opening;
+mod parts;
+mod pieces;
+mod reacting;
+mod scheduling;
+mod searching;
+mod tracing;
 
+pub use choice::Choice;
 pub use laws::{
     acts_lead, counts_rise, deliveries_fall, lists_replay, none_enabled_is_quiet, opened_play,
     reactions_bear_new,
+};
+pub use net::Net;
+pub use scheduling::{
+    acts_are_one, one_schedule_of_rounds, rounds_replay, schedules_of_rounds_are_one,
 };

@@ -2,10 +2,13 @@ pub mod Levels
 pub mod Masks
 pub mod Guards
 pub mod Best
+pub mod Fires
 pub mod Counting
 pub mod Events
 pub mod Quiet
+pub mod Least
 pub mod Fitting
 pub mod Reactions
 pub mod Openings
 pub mod OpeningFit
+pub mod OpeningFresh

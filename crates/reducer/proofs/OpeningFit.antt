@@ -21,6 +21,7 @@ use Rattle.env_store.specs.Reading.{IsCodeOf, locs_in}
 use Rattle.env_store.specs.Running.{loc_at}
 use Rattle.loc_tree.specs.declared.tree.Spot.{Spot}
 use Rattle.loc_tree.specs.Tree.{Tree, spot, number_in}
+use Rattle.loc_tree.specs.Tree.{IsFresh as IsTreeFresh}
 use Rattle.net_laws.specs.Site.{Told, told_in, Group, Site}
 use Rattle.net_laws.specs.Net.{among, with_births}
 use Rattle.net_laws.specs.Parcels.{all_told}
@@ -78,6 +79,18 @@ new_among t (x ∷ xs) l e none = go (is_some (spot t x)) refl (either_true (sam
     go false c (inl same) later = ap (λ b. b || among (not_in t xs) l) same
     go false c (inr h) later = or_last (same_loc x l) (among (not_in t xs) l) (later h)
 
+among_new : (t : Tree) (ls : List Loc) (l : Loc) → among (not_in t ls) l ≡ true → among ls l ≡ true
+among_new t [] l e = e
+among_new t (x ∷ xs) l e = go (is_some (spot t x)) e (among_new t xs l)
+  where
+    go : (b : Bool) → among (cond b (not_in t xs) (x ∷ not_in t xs)) l ≡ true → (among (not_in t xs) l ≡ true → among xs l ≡ true) → same_loc x l || among xs l ≡ true
+    go true h ih = or_last (same_loc x l) (among xs l) (ih h)
+    go false h ih = first (same_loc x l) h ih
+      where
+        first : (u : Bool) → u || among (not_in t xs) l ≡ true → (among (not_in t xs) l ≡ true → among xs l ≡ true) → u || among xs l ≡ true
+        first true f g = refl
+        first false f g = g f
+
 -- ---- site-level locations
 
 all_of : {X : Type 0} (p : X → Bool) (xs : List X) → ((x : X) → Contains xs x → p x ≡ true) → list_all p xs ≡ true
@@ -109,11 +122,23 @@ born_site i k n (b ∷ bs) l born e =
       | inr later ↦ born_site i (b.k + 1) n bs l born.1 later
     ]
 
+born_low : (i k n : ℕ) (bs : List Loc) → AreBorn i k n bs → k ≤ n
+born_low i k n [] born = born
+born_low i k n (b ∷ bs) born = omega (arith, born.0.1, born_low i (b.k + 1) n bs born.1)
+
+born_below : (i k n : ℕ) (bs : List Loc) (l : Loc) → AreBorn i k n bs → among bs l ≡ true → l.k < n
+born_below i k n [] l born e = absurd (cc)
+born_below i k n (b ∷ bs) l born e =
+    elim (either_true (same_loc b l) (among bs l) e) [
+      | inl same ↦ (let number : b.k ≡ l.k = ap (λ (x : Loc). x.k) (same_loc_is b l same) in omega (arith, born_low i (b.k + 1) n bs born.1))
+      | inr later ↦ born_below i (b.k + 1) n bs l born.1 later
+    ]
+
 some_there : (o : Option Spot) (i : ℕ) → number_in o ≡ Some i → is_some o ≡ true
 some_there None i e = cc
 some_there (Some s) i e = refl
 
-module _ (c : CodeParts) (t : Tree) (i : ℕ) (r : Run) (tops : HasTops c t i) (root_is : Contains c.tops (root_of i)) (run : IsRun c i (loc_at i 0) [] 1 r) where
+module _ (c : CodeParts) (t : Tree) (i : ℕ) (r : Run) (tops : HasTops c t i) (root_is : Contains c.tops (root_of i)) (low : (l : Loc) → l.site ≡ i → Contains c.tops l → l.k < r.next) (run : IsRun c i (loc_at i 0) [] 1 r) where
   abbrev new : List Loc
   new = not_in t r.births
 
@@ -212,12 +237,29 @@ module _ (c : CodeParts) (t : Tree) (i : ℕ) (r : Run) (tops : HasTops c t i) (
         let at : all_drawn (record site { number = i; made = r.next }) ≡ true = all-drawn-of (record site { number = i; made = r.next }) (subst (λ (ls : List Loc). list_all (λ (x : Loc). is_drawn i r.next x.site x.k) ls ≡ true) (sym come.locs) locs_drawn) (record { groups = drawn.groups; stuck = drawn.stuck; requests = drawn.requests }) in
         subst (λ (k : ℕ). all_drawn (record site { number = k; made = site.made }) ≡ true) number (subst (λ (n : ℕ). all_drawn (record site { number = i; made = n }) ≡ true) made at)
 
+    -- no location that the site made has a number that it is still to draw
+    none_made : (j : ℕ) → r.next ≤ j → spot after (record { site = i; k = j }) ≡ None
+    none_made j later =
+        let l : Loc = record { site = i; k = j } in
+        spot_after l ∙ ap (λ (b : Bool). cond b (Some (record { number = i; marked = false })) (spot t l)) (not_new (among new l) refl) ∙ not_there (is_some (spot t l)) refl
+      where
+        not_new : (b : Bool) → among new (record { site = i; k = j }) ≡ b → b ≡ false
+        not_new false e = refl
+        not_new true e = absurd (let below = born_below i 1 r.next r.births (record { site = i; k = j }) run.births (among_new t r.births (record { site = i; k = j }) e) in omega arith)
+
+        not_there : (b : Bool) → is_some (spot t (record { site = i; k = j })) ≡ b → spot t (record { site = i; k = j }) ≡ None
+        not_there false e = none_of (spot t (record { site = i; k = j })) e
+        not_there true e = absurd (let below = low (record { site = i; k = j }) refl (tops.no_others (record { site = i; k = j }) refl e) in omega arith)
+
+    fresh_site : IsTreeFresh after site.number site.made
+    fresh_site = subst (λ (k : ℕ). IsTreeFresh after k site.made) (sym come.number) (subst (λ (n : ℕ). IsTreeFresh after i n) (sym come.made) none_made)
+
     pub opened_fit : IsOpenedFit c after site
-    opened_fit = record { there = in_tree_site; coded = in_code_site; drawn = drawn_site; few = omega (arith, come.made, run.below) }
+    opened_fit = record { there = in_tree_site; coded = in_code_site; drawn = drawn_site; few = omega (arith, come.made, run.below); fresh = fresh_site }
 
 -- the site that is answered, with the births that are
-pub fit_of : (c : CodeParts) (t : Tree) (i : ℕ) (r : Run) (s site : Site) (made : Effects) (births : List Loc) → HasTops c t i → Contains c.tops (root_of i) → s ≡ bare i → IsRun c i (loc_at i 0) [] 1 r → IsLeft c t s r site made → births ≡ not_in t made.births → IsOpenedFit c (with_births t i births) site
-fit_of c t i r s site made births tops root_is same run left new =
+pub fit_of : (c : CodeParts) (t : Tree) (i : ℕ) (r : Run) (s site : Site) (made : Effects) (births : List Loc) → HasTops c t i → Contains c.tops (root_of i) → ((l : Loc) → l.site ≡ i → Contains c.tops l → l.k < r.next) → s ≡ bare i → IsRun c i (loc_at i 0) [] 1 r → IsLeft c t s r site made → births ≡ not_in t made.births → IsOpenedFit c (with_births t i births) site
+fit_of c t i r s site made births tops root_is low same run left new =
     let at : IsLeft c t (bare i) r site made = subst (λ (u : Site). IsLeft c t u r site made) same left in
     let own : births ≡ not_in t r.births = new ∙ ap (not_in t) at.births in
-    subst (λ (bs : List Loc). IsOpenedFit c (with_births t i bs) site) (sym own) (opened_fit c t i r tops root_is run site at.site)
+    subst (λ (bs : List Loc). IsOpenedFit c (with_births t i bs) site) (sym own) (opened_fit c t i r tops root_is low run site at.site)

@@ -7,7 +7,7 @@ use Rattle.env_store.specs.declared.code.SiteCode.{SiteCode}
 use Rattle.env_store.specs.CodeParts.{CodeParts}
 use Rattle.env_store.specs.Reading.{IsCodeOf}
 use Rattle.env_store.specs.Running.{site_made}
-use Rattle.loc_tree.specs.Tree.{Tree, spot}
+use Rattle.loc_tree.specs.Tree.{Tree, spot, IsFresh}
 use Rattle.net_laws.specs.Site.{Site}
 use Rattle.net_laws.specs.Opened.{opened_by, not_in}
 use Rattle.site_solution.specs.InTree.{is_in_tree}
@@ -29,12 +29,14 @@ pub record HasTops (c : CodeParts) (t : Tree) (i : ℕ) : Type 0 where
       (l : Loc) → l.site ≡ i → is_some (spot t l) ≡ true → Contains c.tops l
 
 -- all that the site holds and names is in the tree, its groups are of the code's levels, all that
--- it made and holds has a number below its count, and that is below 2^63
+-- it made and holds has a number below its count, and so has each location of the tree that it
+-- made; and the count is below 2^63
 pub record IsOpenedFit (c : CodeParts) (t : Tree) (s : Site) : Type 0 where
   pub there : is_in_tree t s ≡ true
   pub coded : is_in_code c t s ≡ true
   pub drawn : all_drawn s ≡ true
   pub few : s.made < 2 ^ 63
+  pub fresh : IsFresh t s.number s.made
 
 -- the site is the one that hosts its root alone and then all that its code makes, and the effects
 -- are those of that run; of its births they have those that the tree doesn't have

@@ -18,7 +18,7 @@ use crate::pick::Pick;
 use chem_model::RuleId;
 use env_store::Code;
 use loc_tree::LocTree;
-use site_solution::{Site, site_is_kept};
+use site_solution::{Search, Site, site_is_kept};
 
 // A pick that may fire, and its rule.
 #[derive(Clone, Copy)]
@@ -101,6 +101,38 @@ fn better(best: Option<Found>, offer: Option<Found>) -> Option<Found>
     }
 }
 
+// The best offer of all groups, by a walk over them.
+fn scan(site: &Site, code: &Code, tree: &LocTree) -> Option<Pick>
+    requires tree { IsTrue (is_in_tree tree.now site.now) }
+    requires code { IsTrue (is_in_code code.now tree.now site.now) }
+    ensures none { IfNone result (NoneFires code.now tree.now site.now) }
+    ensures some { IfSome result (IsReady code.now tree.now site.now) }
+{
+    let mut best: Option<Found> = None;
+    for group in 0..site.groups() {
+        best = better(best, offer(site, code, tree, group));
+    }
+    match best {
+        Some(found) => Some(found.pick),
+        None => None,
+    }
+}
+
+// What goes first, by the site's index of covered guards, and where that isn't kept for this code
+// by a walk over all groups.
+fn first_of(site: &Site, code: &Code, tree: &LocTree) -> Option<Pick>
+    requires tree { IsTrue (is_in_tree tree.now site.now) }
+    requires code { IsTrue (is_in_code code.now tree.now site.now) }
+    ensures none { IfNone result (NoneFires code.now tree.now site.now) }
+    ensures some { IfSome result (IsReady code.now tree.now site.now) }
+{
+    match site.least_covered(code, tree) {
+        Search::Unknown => scan(site, code, tree),
+        Search::Nothing => None,
+        Search::Found { group, guard } => Some(Pick { group, guard }),
+    }
+}
+
 /// The covered guard of a live location with the least rule, and among groups of one rule that of
 /// the first: none exactly where no guard of a live location is covered.
 pub fn ready(site: &Site, code: &Code, tree: &LocTree) -> Option<Pick>
@@ -111,12 +143,5 @@ pub fn ready(site: &Site, code: &Code, tree: &LocTree) -> Option<Pick>
     ensures quiet { IfNone result (NoRuleReacts code.now tree.now site.now) }
 {
     code_is_kept(code);
-    let mut best: Option<Found> = None;
-    for group in 0..site.groups() {
-        best = better(best, offer(site, code, tree, group));
-    }
-    match best {
-        Some(found) => Some(found.pick),
-        None => None,
-    }
+    first_of(site, code, tree)
 }

@@ -3,6 +3,7 @@
 
 mod choosing;
 mod counts;
+mod firing;
 mod laws;
 mod naming;
 mod opened;
@@ -12,6 +13,7 @@ mod reacting;
 
 pub use choosing::ready;
 pub use counts::{births, sends};
+pub use firing::may_fire;
 pub use laws::reaction_is_one_event;
 pub use naming::event_of;
 pub use opened::opening;

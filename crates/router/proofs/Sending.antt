@@ -1,5 +1,5 @@
 -- A request whose continuation is sent, and which is dropped then.
-use Rattle.std.proofs.Common.{◌≡◌, ℕ, ◌≤◌, Bool, true, false, List, [], ◌∷◌, Some, refl, sym, ap, subst, ◌∙◌, arith}
+use Rattle.std.proofs.Common.{◌≡◌, ℕ, ◌≤◌, Bool, true, false, cond, List, [], ◌∷◌, Option, Some, None, refl, sym, ap, subst, ◌∙◌, arith}
 use Rattle.std.specs.Prelude.{is_some, ◌||◌}
 use Rattle.chem_model.specs.declared.name.Loc.{Loc}
 use Rattle.chem_model.specs.declared.name.Name.{Name}
@@ -12,27 +12,30 @@ use Rattle.chem_model.specs.declared.numbered.NumberedAtom.{NumberedAtom}
 use Rattle.chem_model.specs.declared.numbered.Numbered.{Numbered}
 use Rattle.chem_model.specs.declared.numbered.Made.{Made}
 use Rattle.chem_model.specs.Bag.{Bag}
+use Rattle.wire_packet.specs.MessageFacts.{MessageParts}
 use Rattle.wire_packet.specs.declared.packet.GroupInst.{GroupInst}
 use Rattle.wire_packet.specs.declared.packet.Request.{Request}
+use Rattle.env_store.specs.CodeParts.{CodeParts}
 use Rattle.loc_tree.specs.Tree.{Tree, spot}
-use Rattle.net_laws.specs.Site.{Site}
-use Rattle.net_laws.specs.Net.{Addressed, among}
+use Rattle.net_laws.specs.Site.{Told, Group, told_in, Site}
+use Rattle.net_laws.specs.Net.{Addressed, among, address}
 use Rattle.net_laws.specs.Net.{Effects as effects_of}
 use Rattle.net_laws.specs.Kept.{IsKept}
 use Rattle.net_laws.specs.Choices.{effects}
-use Rattle.net_laws.specs.Holding.{request_with, drop_request}
+use Rattle.net_laws.specs.Holding.{queued_up, or_later, in_groups, put_in, put, host_all, request_with, drop_request}
 use Rattle.net_laws.specs.Meeting.{continuation_made, sent_here}
-use Rattle.net_laws.specs.Posting.{Outcome}
+use Rattle.net_laws.specs.Posting.{Posted, a_message, a_request, posted_of, Outcome, post, post_all}
 use Rattle.net_laws.specs.Parts.{GoesOn}
 use Rattle.site_solution.specs.Answers.{Answers}
 use Rattle.site_solution.specs.Draws.{CanDraw}
 use Rattle.router.specs.Happening.{Happens}
 use Rattle.site_solution.specs.InTree.{name_stands, is_in_tree}
+use Rattle.site_solution.specs.InCode.{is_in_code}
 use Rattle.site_solution.specs.Named.{name_in, in_reach}
 use Rattle.site_solution.specs.Pours.{CanEmit, HasEmitted}
 use Rattle.site_solution.specs.declared.effects.Effects.{Effects}
 use Rattle.site_solution.proofs.Dropping.{without, sent_drop, sent_requests}
-use Rattle.site_solution.proofs.Together.{in_tree_parts, in_tree_from, drawn_parts, drawn_from, drop_in_tree, drop_drawn, request_has}
+use Rattle.site_solution.proofs.Together.{in_tree_parts, in_tree_from, drawn_parts, drawn_from, drop_in_tree, drop_drawn, request_has, told_in_code}
 
 -- ---- a continuation may be sent
 
@@ -47,6 +50,36 @@ can_emit t s cont there draws stands = record { all_there = there; can_draw = dr
 pub asked_here : (s : Site) (i : AtomId) (q : Request) → IsKept s → request_with i s.requests ≡ Some q → among s.locs q.loc ≡ true
 asked_here s i q kept there = request_has (λ (r : Request). among s.locs r.loc ≡ true) s.requests i q kept.requests_here there
 
+-- ---- the groups stay as they were told
+
+told_queued : (gs : List Group) (m : MessageParts) (new : List Group) → in_groups gs m ≡ Some new → told_in new ≡ told_in gs
+told_queued [] m new e = absurd (cc)
+told_queued (g ∷ gs) m new e = go (queued_up g.told.inst 0 g.told.counts g.queues m) (in_groups gs m) (told_queued gs m) e
+  where
+    go : (o : Option (List (List MessageParts))) (later : Option (List Group)) → ((hs : List Group) → later ≡ Some hs → told_in hs ≡ told_in gs) → or_later g o later gs ≡ Some new → told_in new ≡ g.told ∷ told_in gs
+    go (Some qs) later ih f = let is : record g { queues = qs } ∷ gs ≡ new = cc in ap told_in (sym is)
+    go None None ih f = absurd (cc)
+    go None (Some hs) ih f = let is : g ∷ hs ≡ new = cc in ap told_in (sym is) ∙ ap (λ (ds : List Told). g.told ∷ ds) (ih hs refl)
+
+put_told : (l : Loc) (m : MessageParts) (s : Site) → told_in (put l m s).groups ≡ told_in s.groups
+put_told l m s = go (in_groups s.groups m) (told_queued s.groups m)
+  where
+    go : (o : Option (List Group)) → ((hs : List Group) → o ≡ Some hs → told_in hs ≡ told_in s.groups) → told_in (put_in o l m s).groups ≡ told_in s.groups
+    go None is = refl
+    go (Some hs) is = is hs refl
+
+post_told : (t : Tree) (p : Posted) (s : Site) → told_in (post t p s).site.groups ≡ told_in s.groups
+post_told t (a_request q) s = refl
+post_told t (a_message l m) s = go (among s.locs l)
+  where
+    go : (b : Bool) → told_in (cond {A = Outcome} b (record { site = put l m s; sends = [] }) (record { site = s; sends = record { target = address t l; msg = m } ∷ [] })).site.groups ≡ told_in s.groups
+    go true = put_told l m s
+    go false = refl
+
+post_all_told : (t : Tree) (ps : List Posted) (s : Site) → told_in (post_all t ps s).site.groups ≡ told_in s.groups
+post_all_told t [] s = refl
+post_all_told t (p ∷ ps) s = post_all_told t ps (post t p s).site ∙ post_told t p s
+
 -- ---- what it leaves
 
 module _ (seen : List ℕ) (number : ℕ) (l : Loc) (k : ℕ) (cont : Name) (t : Tree) (s new : Site) (e : Effects)
@@ -56,6 +89,12 @@ module _ (seen : List ℕ) (number : ℕ) (l : Loc) (k : ℕ) (cont : Name) (t :
   still_asked i h =
       let same : new.requests ≡ s.requests = ap (λ (v : Site). v.requests) answers.site ∙ sent_requests seen number l k cont t s in
       ap (λ (qs : List Request). is_some (request_with i qs)) same ∙ h
+
+  -- its groups are of the code's levels, where they were
+  pub sent_in_code : (c : CodeParts) → is_in_code c t s ≡ true → is_in_code c t new ≡ true
+  sent_in_code c h =
+      let a : Made = continuation_made seen number l k cont in
+      told_in_code c t s new (ap (λ (v : Site). told_in v.groups) answers.site ∙ post_all_told t (posted_of a.atoms) (host_all [] (record s { made = a.next }))) h
 
   -- and is as well dropped before
   pub sent_then_dropped : (i : AtomId) → Answers (sent_here t (continuation_made seen number l k cont) (drop_request i s)) (continuation_made seen number l k cont).outs [] (drop_request i new) e

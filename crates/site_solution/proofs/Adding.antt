@@ -1,5 +1,5 @@
 -- What comes to a site, all at once.
-use Rattle.std.proofs.Common.{◌≡◌, ℕ, ◌+◌, ◌≤◌, ◌<◌, ◌^◌, List, [], ◌∷◌, ◌++◌, length, Option, Some, None, Bool, true, false, refl, sym, ap, ◌∙◌, subst, arith}
+use Rattle.std.proofs.Common.{◌≡◌, ℕ, ◌+◌, ◌≤◌, ◌<◌, ◌^◌, List, [], ◌∷◌, ◌++◌, length, Option, Some, None, Bool, true, false, refl, sym, ap, ◌∙◌, subst, arith, append-nil}
 use Rattle.chem_model.specs.declared.name.Loc.{Loc}
 use Rattle.chem_model.specs.declared.event.AtomId.{AtomId}
 use Rattle.chem_model.specs.Each.{Each}
@@ -27,14 +27,11 @@ use Rattle.site_solution.specs.declared.more.More.{More}
 use Rattle.site_solution.specs.New.{told_of_new, gone_at, IsNewGroup}
 use Rattle.site_solution.specs.More.{IsRestacked, some_of, lays, CanAdd, IsAt, added}
 use Rattle.site_solution.specs.Stored.{seen, IsStored}
+use Rattle.site_solution.specs.Covered.{IsCovering}
 use Rattle.site_solution.proofs.Counting.{put_all-sum, lay_all-sum, request-more}
 use Rattle.site_solution.proofs.Fronts.{AreGone, are-gone, taken-is, taken-nothing}
 use Rattle.site_solution.proofs.LaidAll.{MayLay, laid-all}
 use Rattle.site_solution.proofs.Amounts.{stuck-many}
-
-append-nil : {X : Type 0} (xs : List X) → xs ++ [] ≡ xs
-append-nil [] = refl
-append-nil (x ∷ xs) = ap (λ ys. x ∷ ys) (append-nil xs)
 
 -- ---- requests
 
@@ -92,10 +89,10 @@ pub as-whole : (a : Inside) → IsStored a → IsWhole (seen a)
 as-whole a h = record { kept = h.kept; once = h.once; few_waiting = h.few_waiting; numbers = h.numbers }
 
 -- a site that is seen as one that keeps these facts
-pub whole-stored : (a : Inside) (s : Site) → seen a ≡ s → IsWhole s → IsIndex a.spots (groups_of a.groups.groups) → length a.groups.groups < 2 ^ 32 → IsStored a
-whole-stored a s is whole index few =
+pub whole-stored : (a : Inside) (s : Site) → seen a ≡ s → IsWhole s → IsIndex a.spots (groups_of a.groups.groups) → length a.groups.groups < 2 ^ 32 → IsCovering a.covering a.spots.serials.items (groups_of a.groups.groups) → IsStored a
+whole-stored a s is whole index few covering =
     let it = subst IsWhole (sym is) whole in
-    record { kept = it.kept; once = it.once; few_waiting = it.few_waiting; index = index; numbers = it.numbers; few = few }
+    record { kept = it.kept; once = it.once; few_waiting = it.few_waiting; index = index; numbers = it.numbers; few = few; covering = covering }
 
 -- what comes, to the site without the fronts
 pub record MayAdd (ls : List Loc) (m : More) (s : Site) : Type 0 where
@@ -258,12 +255,12 @@ done-is a b ls m j cs taken laid once again kept first may d =
     same-fields : (n n' k k' : ℕ) (xs xs' : List Loc) (gs : List Group) (ws : List Waiting) (rs rs' : List Request) → n ≡ n' → k ≡ k' → xs ≡ xs' → rs ≡ rs' → ◌≡◌ {A = Site} (record { number = n; made = k; locs = xs; groups = gs; stuck = ws; requests = rs }) (record { number = n'; made = k'; locs = xs'; groups = gs; stuck = ws; requests = rs' })
     same-fields n n' k k' xs xs' gs ws rs rs' e f g h = λ i. record { number = e i; made = f i; locs = g i; groups = gs; stuck = ws; requests = h i }
 
-pub done-stored : (a b : Inside) (ls : List Loc) (m : More) (j : ℕ) (cs : List ℕ) → IsStored a → CanAdd ls m (seen a) → waiting_in (seen a) + length m.waiting.items < 2 ^ 32 → seen b ≡ added ls m (taken_at j cs (seen a)) → IsIndex b.spots (groups_of b.groups.groups) → length b.groups.groups < 2 ^ 32 → IsStored b
-done-stored a b ls m j cs h can room is index few =
+pub done-stored : (a b : Inside) (ls : List Loc) (m : More) (j : ℕ) (cs : List ℕ) → IsStored a → CanAdd ls m (seen a) → waiting_in (seen a) + length m.waiting.items < 2 ^ 32 → seen b ≡ added ls m (taken_at j cs (seen a)) → IsIndex b.spots (groups_of b.groups.groups) → length b.groups.groups < 2 ^ 32 → IsCovering b.covering b.spots.serials.items (groups_of b.groups.groups) → IsStored b
+done-stored a b ls m j cs h can room is index few covering =
     let gone = are-gone (seen a) j cs h.kept in
     let may = gone-may ls m (seen a) (gone_at j cs (groups_of a.groups.groups)) (record { can = can; whole = as-whole a h; room = room }) gone in
     let s : Site = record (seen a) { groups = gone_at j cs (groups_of a.groups.groups) } in
-    whole-stored b (added ls m s) (is ∙ ap (added ls m) (taken-is j cs (seen a))) (added-is ls m s may) index few
+    whole-stored b (added ls m s) (is ∙ ap (added ls m) (taken-is j cs (seen a))) (added-is ls m s may) index few covering
 
 pub may-done : (a : Inside) (ls : List Loc) (m : More) (j : ℕ) (cs : List ℕ) → IsStored a → CanAdd ls m (seen a) → waiting_in (seen a) + length m.waiting.items < 2 ^ 32 → MayAdd ls m (record (seen a) { groups = gone_at j cs (groups_of a.groups.groups) })
 may-done a ls m j cs h can room = gone-may ls m (seen a) (gone_at j cs (groups_of a.groups.groups)) (record { can = can; whole = as-whole a h; room = room }) (are-gone (seen a) j cs h.kept)

@@ -66,7 +66,7 @@ pub as-asked : (a : Inside) → IsStored a → AreAsked a a.requests.items
 as-asked a h = record { kept = h.kept; once = h.once }
 
 pub asked-stored : (a : Inside) (new : Pending) → IsStored a → AreAsked a new.items → IsStored (record a { requests = new })
-asked-stored a new h are = record { kept = are.kept; once = are.once; few_waiting = h.few_waiting; index = h.index; numbers = h.numbers; few = h.few }
+asked-stored a new h are = record { kept = are.kept; once = are.once; few_waiting = h.few_waiting; index = h.index; numbers = h.numbers; few = h.few; covering = h.covering }
 
 pub ask-stored : (a : Inside) (q : Request) → IsStored a → among a.locs.locs q.loc ≡ true → has_atom q.id (seen a) ≡ false → AreAsked a (with_request q a.requests.items)
 ask-stored a q h here new = record {

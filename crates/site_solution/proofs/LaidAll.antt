@@ -1,5 +1,5 @@
 -- Groups laid one after another are what they are where all are added first, and what is stuck is put once.
-use Rattle.std.proofs.Common.{◌≡◌, List, [], ◌∷◌, ◌++◌, true, refl, sym, ap, ◌∙◌, subst}
+use Rattle.std.proofs.Common.{◌≡◌, List, [], ◌∷◌, ◌++◌, true, refl, sym, ap, ◌∙◌, subst, append-nil}
 use Rattle.chem_model.specs.declared.name.Loc.{Loc}
 use Rattle.chem_model.specs.Each.{Each}
 use Rattle.chem_laws.proofs.Lists.{Each-left}
@@ -16,10 +16,6 @@ use Rattle.site_solution.specs.Index.{new_groups}
 pub append-one : {X : Type 0} (xs : List X) (y : X) (ys : List X) → (xs ++ y ∷ []) ++ ys ≡ xs ++ y ∷ ys
 append-one [] y ys = refl
 append-one (x ∷ xs) y ys = ap (λ zs. x ∷ zs) (append-one xs y ys)
-
-append-nil : {X : Type 0} (xs : List X) → xs ++ [] ≡ xs
-append-nil [] = refl
-append-nil (x ∷ xs) = ap (λ zs. x ∷ zs) (append-nil xs)
 
 pub apart-left : (ds es : List Told) → AreApart (ds ++ es) → AreApart ds
 apart-left [] es h = tt

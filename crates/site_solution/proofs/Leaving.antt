@@ -1,5 +1,5 @@
 -- What a run made may come to a site, once it is sorted.
-use Rattle.std.proofs.Common.{◌≡◌, ℕ, ◌+◌, ◌≤◌, List, [], ◌∷◌, ◌++◌, Bool, true, false, cond, refl, sym, ap, ◌∙◌, subst, arith}
+use Rattle.std.proofs.Common.{◌≡◌, ℕ, ◌+◌, ◌≤◌, List, [], ◌∷◌, ◌++◌, Bool, true, false, cond, refl, sym, ap, ◌∙◌, subst, arith, append-nil}
 use Rattle.std.specs.Prelude.{◌||◌}
 use Rattle.chem_model.specs.declared.name.Loc.{Loc}
 use Rattle.chem_model.specs.declared.event.AtomId.{AtomId}
@@ -42,10 +42,6 @@ append-assoc (x ∷ xs) ys zs = ap (λ ws. x ∷ ws) (append-assoc xs ys zs)
 fewer-new : (xs ys bs : List Loc) → AreNew (xs ++ ys) bs → AreNew ys bs
 fewer-new xs ys [] h = tt
 fewer-new xs ys (b ∷ bs) h = (or-later (among xs b) (among ys b) (sym (among_append xs ys b) ∙ h.0), fewer-new xs (ys ++ b ∷ []) bs (subst (λ (ls : List Loc). AreNew ls bs) (append-assoc xs ys (b ∷ [])) h.1))
-
-append-nil : {X : Type 0} (xs : List X) → xs ++ [] ≡ xs
-append-nil [] = refl
-append-nil (x ∷ xs) = ap (λ ys. x ∷ ys) (append-nil xs)
 
 pub new-alone : (ls bs : List Loc) → AreNew ls bs → AreNew [] bs
 new-alone ls bs h = fewer-new ls [] bs (subst (λ (xs : List Loc). AreNew xs bs) (sym (append-nil ls)) h)

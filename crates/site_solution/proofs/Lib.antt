@@ -32,3 +32,7 @@ pub mod Removed
 pub mod Parting
 pub mod Carrying
 pub mod Receiving
+pub mod Noting
+pub mod Firing
+pub mod Staying
+pub mod Arriving

@@ -1,5 +1,5 @@
 -- What a site needs in order to pour holds of it again afterwards.
-use Rattle.std.proofs.Common.{◌≡◌, ℕ, ◌+◌, ◌≤◌, ◌^◌, List, [], ◌∷◌, ◌++◌, length, Option, Some, None, Bool, true, false, cond, refl, sym, ap, ◌∙◌, subst, arith, inl, inr, eq-eqb}
+use Rattle.std.proofs.Common.{◌≡◌, ℕ, ◌+◌, ◌≤◌, ◌^◌, List, [], ◌∷◌, ◌++◌, length, Option, Some, None, Bool, true, false, cond, refl, sym, ap, ◌∙◌, subst, arith, inl, inr, eq-eqb, append-nil}
 use Rattle.std.specs.Prelude.{◌&&◌, ◌||◌, ◌==◌, is_some, slice_get, zip}
 use Rattle.std.specs.List.{list_all}
 use Rattle.std.proofs.lemmas.Bool.{and_parts, or_left, or_right}
@@ -54,10 +54,6 @@ use Rattle.site_solution.proofs.Fronts.{AreGone, are-gone, taken-is}
 use Rattle.site_solution.proofs.Adding.{MayCome, HasCome, come-is}
 use Rattle.site_solution.proofs.Leaves.{drawn-later, drawn-new, drawn-parts, here-or_born, run-leaves}
 use Rattle.site_solution.proofs.AllHold.{all-both, all-weaker, holds-at, AllHold, gone-holds, come-holds, holds-weaker}
-
-append-nil : {X : Type 0} (xs : List X) → xs ++ [] ≡ xs
-append-nil [] = refl
-append-nil (x ∷ xs) = ap (λ ys. x ∷ ys) (append-nil xs)
 
 -- ---- what is posted
 

@@ -1,5 +1,5 @@
 -- What is posted, sorted from the left.
-use Rattle.std.proofs.Common.{◌≡◌, List, [], ◌∷◌, ◌++◌, true, false, cond, refl, sym, ap, ◌∙◌, subst}
+use Rattle.std.proofs.Common.{◌≡◌, List, [], ◌∷◌, ◌++◌, true, false, cond, refl, sym, ap, ◌∙◌, subst, append-nil}
 use Rattle.chem_model.specs.declared.name.Loc.{Loc}
 use Rattle.wire_packet.specs.MessageFacts.{MessageParts}
 use Rattle.wire_packet.specs.declared.packet.Flight.{Flight}
@@ -11,14 +11,7 @@ use Rattle.net_laws.specs.Posting.{Posted, a_message, a_request}
 use Rattle.site_solution.specs.Answers.{IsFlightOf, AreFlights}
 use Rattle.site_solution.specs.Split.{waits_in, asked_in, away_from}
 use Rattle.site_solution.specs.Leave.{Sorting}
-
-append-one : {X : Type 0} (xs : List X) (y : X) (ys : List X) → (xs ++ y ∷ []) ++ ys ≡ xs ++ y ∷ ys
-append-one [] y ys = refl
-append-one (x ∷ xs) y ys = ap (λ zs. x ∷ zs) (append-one xs y ys)
-
-append-nil : {X : Type 0} (xs : List X) → xs ++ [] ≡ xs
-append-nil [] = refl
-append-nil (x ∷ xs) = ap (λ ys. x ∷ ys) (append-nil xs)
+use Rattle.site_solution.proofs.LaidAll.{append-one}
 
 module _ (t : Tree) (ls : List Loc) (whole : List Posted) where
   pub sort-begin : Sorting t ls whole whole [] [] []

@@ -22,5 +22,10 @@ pub mod More
 pub mod Parcels
 pub mod Carried
 pub mod Leave
+pub mod Guards
+pub mod Covered
+pub mod Fired
 pub mod Stored
 pub mod Possible
+pub mod Staying
+pub mod Arriving

@@ -1,4 +1,4 @@
--- Requests in the order of their ids, as they lie. No public contract cites it.
+-- Requests in the order of their ids, as they lie. Public contracts cite `AreAsked` alone.
 use Rattle.std.specs.Prelude.{◌≡◌, ℕ, suc, ◌+◌, ◌<◌, ◌≤◌, ◌^◌, true, cond, List, [], ◌∷◌, length}
 use Rattle.chem_model.specs.declared.event.AtomId.{AtomId}
 use Rattle.wire_packet.specs.declared.packet.Request.{Request}

@@ -8,6 +8,7 @@ use Rattle.site_solution.specs.declared.site.Site.TheInside.{Inside}
 use Rattle.site_solution.specs.CanLay.{HasNumbers}
 use Rattle.site_solution.specs.Counted.{times, waiting_in}
 use Rattle.site_solution.specs.Index.{groups_of, IsIndex}
+use Rattle.site_solution.specs.Covered.{IsCovering}
 
 abbrev pub seen : Inside → Site
 seen a = record {
@@ -26,3 +27,4 @@ pub record IsStored (a : Inside) : Type 0 where
   pub index : IsIndex a.spots (groups_of a.groups.groups)
   pub numbers : Each HasNumbers (told_in (groups_of a.groups.groups))
   pub few : length a.groups.groups < 2 ^ 32
+  pub covering : IsCovering a.covering a.spots.serials.items (groups_of a.groups.groups)

@@ -114,10 +114,12 @@ pub(crate) fn places(alloc: Global, locs: &[Loc]) -> Result<Places, Memory>
 
 impl Site {
     // Drops the fronts of these queues of a group in turn, where there are any, and then leaves
-    // here what a run made, with these groups. Where there is no memory, nothing changes.
+    // here what a run made, with these groups, of which the code tells the masks. Where there is no
+    // memory, nothing changes.
     pub(crate) fn leave(
         &mut self,
         alloc: Global,
+        code: Option<&Code>,
         tree: &LocTree,
         run: &Run,
         groups: Vec<NewGroup>,
@@ -144,7 +146,7 @@ impl Site {
             waiting,
             requests,
         };
-        self.add_all(alloc, run.births.as_slice(), more, group, chans)?;
+        self.add_all(alloc, code, run.births.as_slice(), more, group, chans)?;
         Ok(flights)
     }
 
@@ -170,7 +172,7 @@ impl Site {
         ensures err { OnErr result (self.new ≡ self.old) }
     {
         let groups = new_groups(alloc, code, run.groups.as_slice())?;
-        let sends = self.leave(alloc, tree, &run, groups, group, chans)?;
+        let sends = self.leave(alloc, Some(code), tree, &run, groups, group, chans)?;
         Ok(Effects {
             sends,
             outs: run.outs,

@@ -9,10 +9,12 @@ ghost use Rattle.chem_model.specs.declared.name.Loc.{Loc};
 ghost use Rattle.net_laws.specs.Site.{Group, Site};
 ghost use Rattle.net_laws.specs.Kept.{AreApart};
 ghost use Rattle.net_laws.specs.Holding.{put_all, new_group};
+ghost use Rattle.site_solution.specs.Covered.{HasSerials, IsCovering};
 ghost use Rattle.site_solution.specs.Index.{key_of, is_one_of, holding};
 ghost use Rattle.site_solution.specs.Index.{groups_of, told_of, same_key, spot_of};
 ghost use Rattle.site_solution.specs.Index.{on_count, Rise, place_of, IsIndex, HasRoom};
 
+use crate::covering::{Covering, refresh};
 use crate::told::{Mark, Spot, Spots, Told};
 use chem_model::{AtomId, Loc, Memory, Name};
 use queue_cells::{Groups, Idle};
@@ -35,6 +37,7 @@ pub(crate) fn no_spots(alloc: Global) -> Spots
 pub(crate) fn reserve_spots(spots: &mut Spots, groups: usize, channels: usize) -> Result<(), Memory>
     ensures room { OnOk result (HasRoom spots.new groups channels) }
     ensures index { (gs : List Group) → IsIndex spots.old gs → IsIndex spots.new gs }
+    ensures serials { spots.new.serials.items ≡ spots.old.serials.items }
 {
     if groups as u64 >= u64::MAX - spots.next {
         return Err(Memory);
@@ -45,7 +48,7 @@ pub(crate) fn reserve_spots(spots: &mut Spots, groups: usize, channels: usize) -
 }
 
 // How many serials are below this one.
-fn place_of(serials: &[u64], serial: u64) -> usize
+pub(crate) fn place_of(serials: &[u64], serial: u64) -> usize
     requires { (least next : ℕ) × Rise least serials.now next }
     ensures { result ≡ place_of serial serials.now }
 {
@@ -88,23 +91,54 @@ pub(crate) fn find(groups: &Groups<Told, Msg>, spots: &Spots, msg: &Msg) -> Opti
     with_count(groups.told(spot.group), spot, msg.args.len())
 }
 
+// Appends a message to a queue. It takes no memory but for the index of covered guards.
+fn push_in(
+    groups: &mut Groups<Told, Msg>,
+    spots: &Spots,
+    covering: &mut Covering,
+    group: usize,
+    chan: u32,
+    msg: Msg,
+)
+    requires group { group < length groups.old.groups }
+    requires chan { chan < length (lists_at groups.old.groups group) }
+    requires room { 1 ≤ groups.old.spare }
+    requires serials { HasSerials spots.now (length groups.old.groups) }
+    requires covering { IsCovering covering.old spots.now.serials.items
+        (groups_of groups.old.groups) }
+    ensures groups { groups.new.groups ≡ with_last groups.old.groups group chan msg }
+    ensures spare { groups.new.spare + 1 ≡ groups.old.spare }
+    ensures covering { IsCovering covering.new spots.now.serials.items
+        (groups_of groups.new.groups) }
+{
+    groups.push_reserved(group, chan, msg);
+    refresh(covering, groups, spots, group);
+}
+
 // Appends a message to a queue, or hands it back where there is no memory.
 pub(crate) fn push_back(
     groups: &mut Groups<Told, Msg>,
+    spots: &Spots,
+    covering: &mut Covering,
     group: usize,
     chan: u32,
     msg: Msg,
 ) -> Result<(), (Msg, Memory)>
     requires group { group < length groups.old.groups }
     requires chan { chan < length (lists_at groups.old.groups group) }
+    requires serials { HasSerials spots.now (length groups.old.groups) }
+    requires covering { IsCovering covering.old spots.now.serials.items
+        (groups_of groups.old.groups) }
     ensures ok { OnOk result (groups.new.groups ≡ with_last groups.old.groups group chan msg) }
     ensures err { OnErr result (groups.new.groups ≡ groups.old.groups) }
     ensures back { IfErr result (λ back. back.0 ≡ msg) }
+    ensures covering { IsCovering covering.new spots.now.serials.items
+        (groups_of groups.new.groups) }
 {
     if groups.reserve(1).is_err() {
         return Err((msg, Memory));
     }
-    groups.push_reserved(group, chan, msg);
+    push_in(groups, spots, covering, group, chan, msg);
     Ok(())
 }
 
@@ -127,19 +161,24 @@ pub(crate) fn name_queues(spots: &mut Spots, first: AtomId, home: Loc, width: u3
 }
 
 // Puts messages once more, one after another: into their queues, or behind the others that are
-// stuck. It takes no memory.
+// stuck. It takes no memory but for the index of covered guards.
 pub(crate) fn settle(
     groups: &mut Groups<Told, Msg>,
     spots: &Spots,
+    covering: &mut Covering,
     stuck: &mut Vec<Waiting>,
     waiting: Vec<Waiting>,
 )
     requires index { IsIndex spots.now (groups_of groups.old.groups) }
+    requires covering { IsCovering covering.old spots.now.serials.items
+        (groups_of groups.old.groups) }
     requires room { length waiting.items ≤ groups.old.spare }
     requires fits { length waiting.items + length stuck.old.items ≤ vec_capacity stuck.old }
     ensures site { (s : Site) → put_all waiting.items (holding s groups.old.groups stuck.old.items)
         ≡ holding s groups.new.groups stuck.new.items }
     ensures index { IsIndex spots.now (groups_of groups.new.groups) }
+    ensures covering { IsCovering covering.new spots.now.serials.items
+        (groups_of groups.new.groups) }
     ensures many { length groups.new.groups ≡ length groups.old.groups }
     ensures spare { groups.old.spare ≤ groups.new.spare + length waiting.items }
     ensures capacity { vec_capacity stuck.new ≡ vec_capacity stuck.old }
@@ -148,17 +187,19 @@ pub(crate) fn settle(
     for one in waiting {
         if let Some(spot) = find(groups, spots, &one.msg) {
             let Waiting { loc: _, msg } = one;
-            groups.push_reserved(spot.group, spot.chan, msg);
+            push_in(groups, spots, covering, spot.group, spot.chan, msg);
         } else {
             stuck.push_reserved(one);
         }
     }
 }
 
-// Adds a group to come, and its queues to the index. It takes no memory.
+// Adds a group to come, and its queues to the index. It takes no memory but for the index of
+// covered guards.
 pub(crate) fn add_group(
     groups: &mut Groups<Told, Msg>,
     spots: &mut Spots,
+    covering: &mut Covering,
     idle: Idle<Told>,
     first: AtomId,
     home: Loc,
@@ -171,6 +212,8 @@ pub(crate) fn add_group(
     requires fits { first.k + width ≤ 2 ^ 64 }
     requires apart { AreApart (told_of groups.old.groups ++ idle.told ∷ []) }
     requires room { (1 ≤ groups.old.spare_groups) × HasRoom spots.old 1 width }
+    requires covering { IsCovering covering.old spots.old.serials.items
+        (groups_of groups.old.groups) }
     ensures groups { groups_of groups.new.groups
         ≡ groups_of groups.old.groups ++ new_group idle.told ∷ [] }
     ensures many { length groups.new.groups ≡ length groups.old.groups + 1 }
@@ -178,10 +221,14 @@ pub(crate) fn add_group(
     ensures spare_groups { groups.new.spare_groups + 1 ≡ groups.old.spare_groups }
     ensures index { IsIndex spots.new (groups_of groups.new.groups) }
     ensures left { (g c : ℕ) → HasRoom spots.old (g + 1) (c + width) → HasRoom spots.new g c }
+    ensures covering { IsCovering covering.new spots.new.serials.items
+        (groups_of groups.new.groups) }
 {
+    let group = groups.len();
     let serial = spots.next;
     groups.add_reserved(idle);
     name_queues(spots, first, home, width, serial);
     spots.serials.push_reserved(serial);
     spots.next = serial + 1;
+    refresh(covering, groups, spots, group);
 }

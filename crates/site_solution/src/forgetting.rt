@@ -8,8 +8,10 @@ ghost use Rattle.net_laws.specs.Parcels.{groups_but};
 ghost use Rattle.site_solution.specs.CanLay.{HasNumbers};
 ghost use Rattle.site_solution.specs.Index.{key_of, is_one_of, has_channel, same_key};
 ghost use Rattle.site_solution.specs.Index.{groups_of, told_of, IsIndex};
+ghost use Rattle.site_solution.specs.Covered.{IsCovering};
 ghost use Rattle.site_solution.specs.Forgotten.{has_any, serials_but};
 
+use crate::covering::{Covering, forget_keys};
 use crate::told::{Spots, Told};
 use chem_model::{AtomId, Loc, same_loc};
 use queue_cells::{Groups, Selects};
@@ -98,13 +100,23 @@ fn close_up(serials: &mut Vec<u64>, groups: &Groups<Told, Msg>, loc: Loc)
     serials.truncate(kept);
 }
 
-// Drops the groups of a location, and their queues from the index. It takes no memory.
-pub(crate) fn drop_groups(groups: &mut Groups<Told, Msg>, spots: &mut Spots, loc: Loc)
+// Drops the groups of a location, and their queues and guards from the indexes. It takes no memory.
+pub(crate) fn drop_groups(
+    groups: &mut Groups<Told, Msg>,
+    spots: &mut Spots,
+    covering: &mut Covering,
+    loc: Loc,
+)
     requires index { IsIndex spots.old (groups_of groups.old.groups) }
     requires numbers { Each HasNumbers (told_of groups.old.groups) }
+    requires covering { IsCovering covering.old spots.old.serials.items
+        (groups_of groups.old.groups) }
     ensures groups { groups_of groups.new.groups ≡ groups_but loc (groups_of groups.old.groups) }
     ensures index { IsIndex spots.new (groups_of groups.new.groups) }
+    ensures covering { IsCovering covering.new spots.new.serials.items
+        (groups_of groups.new.groups) }
 {
+    forget_keys(covering, groups, spots, loc);
     forget_groups(groups, spots, loc);
     close_up(&mut spots.serials, groups, loc);
     groups.remove_where(&At { loc });

@@ -6,10 +6,13 @@
 
 mod apart;
 mod asked;
+mod choosing;
 mod commit;
+mod covering;
 mod effects;
 mod finding;
 mod forgetting;
+mod laws;
 mod more;
 mod packing;
 mod parcels;
@@ -22,6 +25,8 @@ mod tests;
 mod told;
 mod walking;
 
+pub use choosing::Search;
 pub use effects::Effects;
+pub use laws::{births_keep_others, same_numbers_keep};
 pub use site::{Site, site_is_kept};
 pub use walking::message_is_there;

@@ -10,9 +10,11 @@ ghost use Rattle.net_laws.specs.Parcels.{all_told};
 ghost use Rattle.site_solution.specs.CanLay.{HasNumbers};
 ghost use Rattle.site_solution.specs.Index.{groups_of, told_of, new_groups};
 ghost use Rattle.site_solution.specs.Index.{IsIndex, HasRoom};
+ghost use Rattle.site_solution.specs.Covered.{HasSerials, IsCovering};
 ghost use Rattle.site_solution.specs.New.{told_of_new, widths, IsNewGroup, gone_at};
 ghost use Rattle.site_solution.specs.More.{IsRestacked, lays, HasRoomFor};
 
+use crate::covering::{Covering, refresh};
 use crate::finding::{add_group, reserve_spots};
 use crate::told::{NewGroup, Spots, Told};
 use chem_model::{Items, Memory, Nums};
@@ -62,6 +64,7 @@ pub(crate) fn new_group(alloc: Global, told: Told) -> Result<NewGroup, Memory>
 {
     let first = told.inst.chans;
     let home = told.inst.loc;
+    let level = told.inst.level;
     let width = told.counts.len() as u32;
     let idle = Idle::new(alloc, told, width)?;
     Ok(NewGroup {
@@ -69,6 +72,7 @@ pub(crate) fn new_group(alloc: Global, told: Told) -> Result<NewGroup, Memory>
         first,
         home,
         width,
+        level,
     })
 }
 
@@ -101,19 +105,29 @@ pub(crate) fn channels(groups: &[NewGroup]) -> Option<usize>
     Some(count)
 }
 
-// Adds groups to come, and their queues to the index. It takes no memory.
-pub(crate) fn add_groups(groups: &mut Groups<Told, Msg>, spots: &mut Spots, more: Vec<NewGroup>)
+// Adds groups to come, and their queues to the index. It takes no memory but for the index of
+// covered guards.
+pub(crate) fn add_groups(
+    groups: &mut Groups<Told, Msg>,
+    spots: &mut Spots,
+    covering: &mut Covering,
+    more: Vec<NewGroup>,
+)
     requires index { IsIndex spots.old (groups_of groups.old.groups) }
     requires new { Each IsNewGroup more.items }
     requires numbers { Each HasNumbers (told_of_new more.items) }
     requires apart { AreApart (told_of groups.old.groups ++ told_of_new more.items) }
     requires room { length more.items ≤ groups.old.spare_groups }
     requires spots { HasRoom spots.old (length more.items) (widths more.items) }
+    requires covering { IsCovering covering.old spots.old.serials.items
+        (groups_of groups.old.groups) }
     ensures groups { groups_of groups.new.groups
         ≡ groups_of groups.old.groups ++ new_groups (told_of_new more.items) }
     ensures many { length groups.new.groups ≡ length groups.old.groups + length more.items }
     ensures spare { groups.new.spare ≡ groups.old.spare }
     ensures index { IsIndex spots.new (groups_of groups.new.groups) }
+    ensures covering { IsCovering covering.new spots.new.serials.items
+        (groups_of groups.new.groups) }
 {
     for group in more {
         let NewGroup {
@@ -121,8 +135,9 @@ pub(crate) fn add_groups(groups: &mut Groups<Told, Msg>, spots: &mut Spots, more
             first,
             home,
             width,
+            level: _,
         } = group;
-        add_group(groups, spots, idle, first, home, width);
+        add_group(groups, spots, covering, idle, first, home, width);
     }
 }
 
@@ -144,16 +159,31 @@ fn take_one(groups: &mut Groups<Told, Msg>, group: usize, chan: u32)
 
 // Drops the front of each of these queues of a group in turn, where there is one. It takes no
 // memory.
-pub(crate) fn take_fronts(groups: &mut Groups<Told, Msg>, group: usize, chans: &[u32])
+pub(crate) fn take_fronts(
+    groups: &mut Groups<Told, Msg>,
+    spots: &Spots,
+    covering: &mut Covering,
+    group: usize,
+    chans: &[u32],
+)
+    requires serials { HasSerials spots.now (length groups.old.groups) }
+    requires covering { IsCovering covering.old spots.now.serials.items
+        (groups_of groups.old.groups) }
     ensures groups { groups_of groups.new.groups
         ≡ gone_at group chans.now (groups_of groups.old.groups) }
     ensures many { length groups.new.groups ≡ length groups.old.groups }
     ensures spare { groups.old.spare ≤ groups.new.spare }
     ensures spare_groups { groups.new.spare_groups ≡ groups.old.spare_groups }
+    ensures covering { IsCovering covering.new spots.now.serials.items
+        (groups_of groups.new.groups) }
 {
+    if chans.is_empty() {
+        return;
+    }
     for chan in chans {
         take_one(groups, group, *chan);
     }
+    refresh(covering, groups, spots, group);
 }
 
 // Makes room for more stuck messages. Where groups are laid, those that are stuck are handed out,
@@ -192,6 +222,7 @@ pub(crate) fn make_room(
     ensures groups { groups.new.groups ≡ groups.old.groups }
     ensures index { (gs : List Group) → IsIndex spots.old gs
         → IsIndex spots.new gs }
+    ensures serials { spots.new.serials.items ≡ spots.old.serials.items }
     ensures again { IfOk result (λ again. IsRestacked (lays more.now) stuck.old.items again.items
         stuck.new.items) }
     ensures room { IfOk result (λ again.

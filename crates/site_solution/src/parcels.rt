@@ -1,5 +1,6 @@
 // Locations that come from other sites.
-ghost use Rattle.std.specs.Prelude.{◌≡◌, ◌++◌, ◌∷◌, [], OnOk, OnErr, IfOk};
+ghost use Rattle.std.specs.Prelude.{◌≡◌, ◌++◌, ◌∷◌, [], true, OnOk, OnErr, IfOk};
+ghost use Rattle.loc_tree.specs.Tree.{Tree};
 ghost use Rattle.wire_packet.specs.ParcelFacts.{IsParcel};
 ghost use Rattle.env_store.specs.Running.{atom_ran};
 ghost use Rattle.net_laws.specs.Posting.{posted_of};
@@ -11,11 +12,16 @@ ghost use Rattle.net_laws.specs.Meeting.{continuation_made, sent_here};
 ghost use Rattle.site_solution.specs.Answers.{Answers};
 ghost use Rattle.site_solution.specs.Parcels.{CanTakeIn, CanReceive};
 ghost use Rattle.site_solution.specs.Carried.{IsCarried, IsBeside};
+ghost use Rattle.site_solution.specs.InTree.{name_stands, is_in_tree};
+ghost use Rattle.site_solution.specs.InCode.{is_in_code};
+ghost use Rattle.site_solution.specs.Draws.{CanDraw};
+ghost use Rattle.site_solution.specs.Staying.{AgreeBut, StillFits, HasReceived};
+ghost use Rattle.site_solution.specs.Arriving.{FitsInto};
 
 use crate::commit::{Sorted, places, sort_posts};
 use crate::effects::Effects;
 use crate::more::{More, new_groups};
-use crate::site::Site;
+use crate::site::{Site, site_is_kept};
 use chem_model::{Items, Loc, Memory, Name, Nums};
 use code_run::{Run, message};
 use env_store::Code;
@@ -103,18 +109,26 @@ fn continued(
 impl Site {
     /// Takes in a location with its groups, which are laid as the code tells of them, its messages
     /// in their order, and its requests. Where there is no memory for all of it, nothing changes.
+    /// What the tests say of the site they say still with the tree that gives it the location,
+    /// where that is so of what the parcel brings.
     pub fn take_in(&mut self, alloc: Global, code: &Code, parcel: &Parcel) -> Result<(), Memory>
         requires { CanTakeIn (load_of (told_by code.now) parcel.now) self.old }
         ensures ok { OnOk result (
             self.new ≡ take_in (load_of (told_by code.now) parcel.now) self.old) }
         ensures err { OnErr result (self.new ≡ self.old) }
+        ensures keeps { OnOk result ((t u : Tree) → AgreeBut parcel.now.loc t u
+            → FitsInto code.now u (load_of (told_by code.now) parcel.now) self.old
+            → StillFits code.now t self.old u self.new) }
     {
+        site_is_kept(self);
         let more = carried(alloc, code, parcel, self.made())?;
-        self.add_all(alloc, &[parcel.loc], more, 0, &[])
+        self.add_all(alloc, Some(code), &[parcel.loc], more, 0, &[])
     }
 
     /// Takes in a location, and then pours there the continuation of the request that brought it.
-    /// Where there is no memory for all of it, nothing changes.
+    /// Where there is no memory for all of it, nothing changes. All that a call needs of the site
+    /// holds of it with the tree that gives it the location, where it did before and the parcel
+    /// brings nothing against it; only its count may have reached 2^63.
     pub fn receive(
         &mut self,
         alloc: Global,
@@ -132,11 +146,17 @@ impl Site {
             let load = load_of (told_by code.now) parcel.now in
             Answers (sent_here tree.now a (take_in load self.old)) a.outs [] self.new e) }
         ensures err { OnErr result (self.new ≡ self.old) }
+        ensures keeps { IfOk result (λ _. (t u : Tree) → AgreeBut loc.now t u
+            → FitsInto code.now u (load_of (told_by code.now) parcel.now) self.old
+            → name_stands u cont ≡ true → is_in_tree t self.old ≡ true
+            → is_in_code code.now t self.old ≡ true → CanDraw t self.old
+            → HasReceived code.now u self.new) }
     {
+        site_is_kept(self);
         let (made, sorted) = continued(alloc, tree, counts, self, loc, cont)?;
         let before = carried(alloc, code, parcel, made.next)?;
         let (more, sends) = beside(before, sorted)?;
-        self.add_all(alloc, &[*loc], more, 0, &[])?;
+        self.add_all(alloc, Some(code), &[*loc], more, 0, &[])?;
         Ok(Effects {
             sends,
             outs: made.outs,

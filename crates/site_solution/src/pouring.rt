@@ -106,7 +106,7 @@ impl Site {
     {
         site_is_kept(self);
         let made = message(alloc, counts, self.number(), loc, on, args, self.made())?;
-        let sends = self.leave(alloc, tree, &made, Vec::new(alloc), 0, &[])?;
+        let sends = self.leave(alloc, None, tree, &made, Vec::new(alloc), 0, &[])?;
         Ok(Effects {
             sends,
             outs: made.outs,

@@ -24,16 +24,24 @@ ghost use Rattle.site_solution.specs.Draws.{all_drawn, CanDraw};
 ghost use Rattle.site_solution.specs.InTree.{has_number, is_in_tree};
 ghost use Rattle.site_solution.specs.Held.{queues_of, queue_of, without_front, inst_in, has_atom};
 ghost use Rattle.site_solution.specs.Held.{taken_at};
+ghost use Rattle.site_solution.specs.Guards.{Tells};
 ghost use Rattle.net_laws.specs.Parcels.{pack, parcel_of, remove, stuck_but};
 ghost use Rattle.site_solution.specs.Apart.{are_separate, is_apart};
 ghost use Rattle.site_solution.specs.Parted.{is_parted};
 ghost use Rattle.site_solution.specs.Counted.{times, waiting_in};
+ghost use Rattle.site_solution.specs.Rising.{AreAsked};
 ghost use Rattle.site_solution.specs.More.{CanAdd, added};
+ghost use Rattle.chem_model.specs.Solution.{same_loc};
+ghost use Rattle.env_store.specs.CodeParts.{CodeParts};
+ghost use Rattle.loc_tree.specs.Tree.{Tree};
+ghost use Rattle.site_solution.specs.Staying.{AgreeBut, StillFits};
 
 use crate::apart::{
     groups_are_apart, is_separate, queued_are_apart, requests_are_apart, stuck_are_apart,
 };
 use crate::asked::Asked;
+use crate::choosing::{Search, first_fired};
+use crate::covering::{Covering, agrees, learn, no_covering, refresh};
 use crate::finding::{find, no_spots, push_back, settle};
 use crate::forgetting::drop_groups;
 use crate::more::{More, add_groups, make_room, new_group, take_fronts, told_by};
@@ -67,6 +75,7 @@ pub struct Site {
     locs: Places,
     groups: Groups<Told, Msg>,
     spots: Spots,
+    covering: Covering,
     stuck: Vec<Waiting>,
     requests: Asked,
 }
@@ -96,6 +105,7 @@ impl Site {
             locs,
             groups: Groups::new(alloc),
             spots: no_spots(alloc),
+            covering: no_covering(alloc),
             stuck: Vec::new(alloc),
             requests: Asked::new(alloc),
         })
@@ -219,7 +229,14 @@ impl Site {
             return Err((msg, Memory));
         }
         match find(&self.groups, &self.spots, &msg) {
-            Some(spot) => push_back(&mut self.groups, spot.group, spot.chan, msg),
+            Some(spot) => push_back(
+                &mut self.groups,
+                &self.spots,
+                &mut self.covering,
+                spot.group,
+                spot.chan,
+                msg,
+            ),
             None => keep(&mut self.stuck, *loc, msg),
         }
     }
@@ -233,11 +250,16 @@ impl Site {
         ensures err { OnErr result (self.new ≡ self.old) }
     {
         let told = told_by(alloc, code, group)?;
-        self.add(alloc, told)
+        self.add(alloc, Some(code), told)
     }
 
-    // Lays a group of which this is told.
-    pub(crate) fn add(&mut self, alloc: Global, told: Told) -> Result<(), Memory>
+    // Lays a group of which this is told. The code tells the masks of its guards.
+    pub(crate) fn add(
+        &mut self,
+        alloc: Global,
+        code: Option<&Code>,
+        told: Told,
+    ) -> Result<(), Memory>
         requires { CanLay told self.old }
         ensures ok { OnOk result (self.new ≡ lay told self.old) }
         ensures err { OnErr result (self.new ≡ self.old) }
@@ -250,14 +272,16 @@ impl Site {
             waiting: Vec::new(alloc),
             requests: Vec::new(alloc),
         };
-        self.add_all(alloc, &[], more, 0, &[])
+        self.add_all(alloc, code, &[], more, 0, &[])
     }
 
     // Drops the fronts of these queues of a group in turn, where there are any, and adds locations,
-    // groups, messages and requests. Where there is no memory for all of it, nothing changes.
+    // groups, messages and requests. Where there is no memory for all of it, nothing changes. The
+    // code tells the masks of the groups' guards.
     pub(crate) fn add_all(
         &mut self,
         alloc: Global,
+        code: Option<&Code>,
         locs: &[Loc],
         more: More,
         group: u32,
@@ -276,6 +300,7 @@ impl Site {
         }
         self.locs.reserve(locs.len())?;
         self.requests.reserve(more.requests.len())?;
+        learn(&mut self.covering, alloc, code, &more.groups);
         let again = make_room(
             alloc,
             &mut self.groups,
@@ -292,11 +317,32 @@ impl Site {
         self.made = next;
         self.locs.add_all(locs);
         self.requests.add_all(&requests);
-        take_fronts(&mut self.groups, group as usize, chans);
-        add_groups(&mut self.groups, &mut self.spots, groups);
-        settle(&mut self.groups, &self.spots, &mut self.stuck, again);
-        settle(&mut self.groups, &self.spots, &mut self.stuck, waiting);
+        let rows = &mut self.groups;
+        let covering = &mut self.covering;
+        take_fronts(rows, &self.spots, covering, group as usize, chans);
+        add_groups(rows, &mut self.spots, covering, groups);
+        settle(rows, &self.spots, covering, &mut self.stuck, again);
+        settle(rows, &self.spots, covering, &mut self.stuck, waiting);
         Ok(())
+    }
+
+    /// The covered guard of a live location that goes first: that of the least rule, and among
+    /// groups of one rule that of the first group. It goes along an index, which may not be kept:
+    /// where a level came with other masks than before or than the code has, or where there was no
+    /// memory for a key, nothing is known.
+    pub fn least_covered(&self, code: &Code, tree: &LocTree) -> Search
+        ensures { Tells code.now tree.now self.now.groups result }
+    {
+        if !agrees(&self.covering, code) {
+            return Search::Unknown;
+        }
+        match first_fired(&self.groups, &self.spots, code, tree, &self.covering.keys) {
+            Some(found) => Search::Found {
+                group: found.group,
+                guard: found.guard,
+            },
+            None => Search::Nothing,
+        }
     }
 
     /// Drops the front of the queue of one of a group's channels.
@@ -306,6 +352,12 @@ impl Site {
             → self.new ≡ with_queues self.old group g (without_front g.queues chan) }
     {
         self.groups.take_front(group as usize, chan);
+        refresh(
+            &mut self.covering,
+            &self.groups,
+            &self.spots,
+            group as usize,
+        );
     }
 
     /// Hosts a location.
@@ -474,11 +526,15 @@ impl Site {
     }
 
     /// Drops a location with all that stands at it: exactly what `pack` gives of it. It takes no
-    /// memory.
+    /// memory. What the tests say of the site they say still, also where the tree has given the
+    /// location, which is no root, to another site.
     pub fn remove(&mut self, loc: &Loc)
-        ensures { self.new ≡ remove loc.now self.old }
+        ensures is { self.new ≡ remove loc.now self.old }
+        ensures keeps { (c : CodeParts) (t u : Tree) → AgreeBut loc.now t u
+            → same_loc loc.now (root_of self.old.number) ≡ false
+            → StillFits c t self.old u self.new }
     {
-        drop_groups(&mut self.groups, &mut self.spots, *loc);
+        drop_groups(&mut self.groups, &mut self.spots, &mut self.covering, *loc);
         drop_stuck(&mut self.stuck, *loc);
         self.requests.drop_at(*loc);
         self.locs.remove(*loc);
@@ -494,15 +550,17 @@ fn drop_stuck(stuck: &mut Vec<Waiting>, loc: Loc)
 
 /// All that a site holds stands at locations that it hosts, a queue holds messages on its channel
 /// with its count, no group could take a stuck message, no two groups share a channel, channels and
-/// rules have numbers of 64 bits, the ids of waiting messages and requests are all different, and
-/// fewer than 2^32 messages wait. It does nothing.
+/// rules have numbers of 64 bits, the ids of waiting messages and requests are all different, those
+/// of requests rise, and there are fewer than 2^32 messages and as few requests. It does nothing.
 pub fn site_is_kept(site: &Site)
     ensures kept { IsKept site.now }
     ensures numbers { Each HasNumbers (told_in site.now.groups) }
     ensures once { (i : AtomId) → times i site.now ≤ 1 }
     ensures few_waiting { waiting_in site.now < 2 ^ 32 }
+    ensures asked { AreAsked site.now.requests }
 {
     let _number = site.number;
+    let _requests = site.requests.as_slice();
 }
 
 fn tops_are_there(tree: &LocTree, tops: &[Loc]) -> bool

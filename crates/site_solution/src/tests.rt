@@ -58,7 +58,7 @@ fn lay(rt: &impl Abort, alloc: Global, site: &mut Site) -> Result<(), Memory> {
     };
     assert!(rt; site.has(&told.inst.loc));
     assert!(rt; site.groups() == 0);
-    site.add(alloc, told)
+    site.add(alloc, None, told)
 }
 
 // The number of the front message, or none.

@@ -25,14 +25,15 @@ impl Model for Told {
     ghost view = { λ d. record { inst = d.inst; counts = d.counts; guards = d.guards } };
 }
 
-// A group to come, with the memory that it takes; its first channel, its location and how many
-// channels it has.
+// A group to come, with the memory that it takes; its first channel, its location, how many
+// channels it has, and its level.
 #[derive(Drop)]
 pub(crate) struct NewGroup {
     pub(crate) idle: Idle<Told>,
     pub(crate) first: AtomId,
     pub(crate) home: Loc,
     pub(crate) width: u32,
+    pub(crate) level: u32,
 }
 
 // A queue: the index of its group, and its channel in that group.

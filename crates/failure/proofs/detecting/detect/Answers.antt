@@ -1,8 +1,8 @@
-use Rattle.std.proofs.Common.{◌≡◌, List, [], sym, ap, subst, ◌∙◌, Some}
+use Rattle.std.proofs.Common.{List, [], sym, ap, subst, ◌∙◌}
 use Rattle.chem_model.specs.declared.name.Name.{Name}
 use Rattle.chem_model.specs.declared.numbered.Made.{Made}
 use Rattle.net_laws.specs.Site.{Site}
-use Rattle.net_laws.specs.Holding.{request_with, drop_request}
+use Rattle.net_laws.specs.Holding.{drop_request}
 use Rattle.net_laws.specs.Meeting.{continuation_made, sent_here}
 use Rattle.chem_model.specs.Pour.{pour}
 use Rattle.chem_model.specs.Opening.{root_of}
@@ -11,9 +11,9 @@ use Rattle.chem_model.specs.Reduction.{all_known}
 use Rattle.chem_model.specs.declared.name.Ref.TheVariants.{Known}
 use Rattle.site_solution.specs.Answers.{Answers}
 use Rattle.site_solution.specs.Pours.{CanEmit, HasEmitted}
-use Rattle.router.proofs.Sending.{asked_here, can_emit, still_asked, sent_then_dropped, emitted_dropped}
-use Rattle.failure.specs.Detects.{IsDetection, IsOneDetection}
-use Rattle.failure.proofs.Detections.{asked_there, what_it_sees, cont_stands, detection, one_detection}
+use Rattle.router.proofs.Sending.{asked_here, can_emit, still_asked, sent_in_code, sent_then_dropped, emitted_dropped}
+use Rattle.site_solution.specs.InCode.{is_in_code}
+use Rattle.failure.proofs.Detections.{asked_there, cont_stands, detection, one_detection}
 use Rattle.failure.proofs.detecting.detect.Goals as goal
 
 pub emit-requires-clause-here : goal.emit-requires-clause-here
@@ -53,3 +53,11 @@ returns-clause-one_event c = λ rules_of.
 
 pub returns-clause-keeps : goal.returns-clause-keeps
 returns-clause-keeps c = subst (λ (v : Site). HasEmitted c.args.tree.now v) (sym c.drop_request.ensures) (emitted_dropped c.args.tree.now c.emit.new.self c.args.atom.now c.in_ok-effects.ensures.keeps)
+
+pub returns-clause-in_code : goal.returns-clause-in_code
+returns-clause-in_code c = λ code h.
+    let s : Site = c.args.site.now in
+    let no_args : List Name → Made = λ (args : List Name). pour c.args.counts.now s.number (root_of s.number) [] c.asked-request.result.loc s.made (Msg (Known c.continuation-cont.result) (all_known args)) in
+    let sent = subst (λ (args : List Name). Answers (sent_here c.args.tree.now (no_args args) s) (no_args args).outs [] c.emit.new.self c.in_ok-effects.effects) c.new-args.ensures c.in_ok-effects.ensures.ok in
+    ap (is_in_code code c.args.tree.now) c.drop_request.ensures
+    ∙ sent_in_code c.args.counts.now s.number c.asked-request.result.loc s.made c.continuation-cont.result c.args.tree.now s c.emit.new.self c.in_ok-effects.effects sent code h

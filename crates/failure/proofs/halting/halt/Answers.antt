@@ -6,7 +6,8 @@ use Rattle.site_solution.specs.InTree.{is_in_tree}
 use Rattle.site_solution.specs.InCode.{is_in_code}
 use Rattle.site_solution.specs.Draws.{CanDraw}
 use Rattle.failure.specs.Halts.{IsOneHalt}
-use Rattle.failure.proofs.Requests.{one_halt, halt_in_tree, halt_in_code, halt_draws}
+use Rattle.site_solution.specs.Staying.{StillFits}
+use Rattle.failure.proofs.Requests.{one_halt, halt_in_tree, halt_in_code, halt_draws, halt_others}
 use Rattle.failure.proofs.halting.halt.Goals as goal
 
 pub returns-clause-one_event : goal.returns-clause-one_event
@@ -30,3 +31,7 @@ returns-clause-draws c = λ h.
     subst (λ (v : Site). CanDraw c.kill.new.self v) (sym c.drop_request.ensures)
     (subst (λ (u : Tree). CanDraw u (drop_request c.args.atom.now c.args.site.now)) (sym c.kill.ensures.tree)
     (halt_draws c.args.tree.now c.args.site.now c.args.atom.now c.asked-request.result.loc h))
+
+pub returns-clause-others_keep : goal.returns-clause-others_keep
+returns-clause-others_keep c = λ code other.
+    subst (λ (u : Tree). StillFits code c.args.tree.now other u other) (sym c.kill.ensures.tree) (halt_others c.args.tree.now c.asked-request.result.loc code other)

@@ -1,4 +1,4 @@
-use Rattle.std.proofs.Common.{◌≡◌, ◌∙◌}
+use Rattle.std.proofs.Common.{◌∙◌}
 use Rattle.migration.proofs.Sent.{left_out, one_parcel}
 use Rattle.migration.proofs.carrying.carried.Goals as goal
 

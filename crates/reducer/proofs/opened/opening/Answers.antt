@@ -5,6 +5,7 @@ use Rattle.net_laws.specs.Opened.{not_in}
 use Rattle.reducer.specs.Opens.{IsOpenedFit}
 use Rattle.reducer.proofs.Openings.{opening_leaves, as_opens}
 use Rattle.reducer.proofs.OpeningFit.{root_top, opened_fit, fit_of}
+use Rattle.reducer.proofs.OpeningFresh.{tops_low}
 use Rattle.reducer.proofs.opened.opening.Goals as goal
 
 pub commit-requires : goal.commit-requires
@@ -18,5 +19,5 @@ returns-clause-ok c = λ site at.
 
 pub returns-clause-fit : goal.returns-clause-fit
 returns-clause-fit c = λ program tops.
-    fit_of c.args.code.now c.args.tree.now c.args.number c.in_ok-run.run' c.in_ok-site.site c.commit.new.self c.in_ok-made.made c.in_ok-births.births tops (root_top program.0 c.args.code.now c.args.number program.2 c.requires) c.in_ok-site.ensures c.in_ok-run.ensures.facts c.in_ok-made.ensures.ok
+    fit_of c.args.code.now c.args.tree.now c.args.number c.in_ok-run.run' c.in_ok-site.site c.commit.new.self c.in_ok-made.made c.in_ok-births.births tops (root_top program.0 c.args.code.now c.args.number program.2 c.requires) (tops_low program.0 c.args.code.now c.args.number program.1 c.code_is_kept.ensures program.2 c.requires c.in_ok-run.run' c.in_ok-run.ensures.run) c.in_ok-site.ensures c.in_ok-run.ensures.facts c.in_ok-made.ensures.ok
     (c.in_ok-births.ensures ∙ ap (not_in c.args.tree.now) c.as_slice.ensures.members)

@@ -4,6 +4,7 @@ use Rattle.std.specs.Vec.Iter.{into_iter_items}
 use Rattle.net_laws.specs.Site.{Site}
 use Rattle.net_laws.specs.Holding.{put_all}
 use Rattle.site_solution.specs.Index.{holding, groups_of, IsIndex}
+use Rattle.site_solution.specs.Covered.{IsCovering}
 use Rattle.site_solution.proofs.finding.settle.Given as goal
 
 abbrev pub invariant-loop-one : goal.invariant-loop-one
@@ -16,4 +17,5 @@ invariant-loop-one l = record {
   capacity : vec_capacity l.stuck ≡ vec_capacity l.fn.stuck;
   less : length l.stuck.items + length (into_iter_items l.one-iterator) ≤ length l.fn.stuck.items + length l.fn.waiting.items;
   fits : length (into_iter_items l.one-iterator) + length l.stuck.items ≤ vec_capacity l.stuck;
+  covering : IsCovering l.covering l.spots.serials.items (groups_of l.groups.groups);
 }

@@ -38,4 +38,5 @@ loop-group-preserved c =
       apart = apart-of-next qs c.add_group.new.groups.groups d (told_of_new rest) c.add_group.ensures.groups apart;
       room = omega (arith, many, inv.room, c.add_group.ensures.spare_groups);
       fits = c.add_group.ensures.left (length rest) (widths rest) (room-next c.loop-group.spots c.in-Some.group rest fits);
+      covering = c.add_group.ensures.covering;
     }

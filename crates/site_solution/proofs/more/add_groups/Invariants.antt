@@ -5,6 +5,7 @@ use Rattle.net_laws.specs.Kept.{AreApart}
 use Rattle.site_solution.specs.CanLay.{HasNumbers}
 use Rattle.site_solution.specs.Index.{groups_of, told_of, new_groups, IsIndex, HasRoom}
 use Rattle.site_solution.specs.New.{told_of_new, widths, IsNewGroup}
+use Rattle.site_solution.specs.Covered.{IsCovering}
 use Rattle.site_solution.proofs.more.add_groups.Given as goal
 
 abbrev pub invariant-loop-group : goal.invariant-loop-group
@@ -18,4 +19,5 @@ invariant-loop-group l = record {
   apart : AreApart (told_of l.groups.groups ++ told_of_new (into_iter_items l.group-iterator));
   room : length (into_iter_items l.group-iterator) ≤ l.groups.spare_groups;
   fits : HasRoom l.spots (length (into_iter_items l.group-iterator)) (widths (into_iter_items l.group-iterator));
+  covering : IsCovering l.covering l.spots.serials.items (groups_of l.groups.groups);
 }

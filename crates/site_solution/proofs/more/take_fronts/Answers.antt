@@ -1,9 +1,11 @@
-use Rattle.std.proofs.Common.{◌≡◌, ◌+◌, [], drop, sym, ap, ◌∙◌, arith}
+use Rattle.std.proofs.Common.{ℕ, subst, length, eqb-true, ◌≡◌, ◌+◌, [], drop, sym, ap, ◌∙◌, arith}
 use Rattle.site_solution.specs.Index.{groups_of}
 use Rattle.site_solution.specs.New.{gone_at}
 use Rattle.site_solution.proofs.Asking.{drop-here}
 use Rattle.site_solution.proofs.Walked.{drop-past}
 use Rattle.site_solution.proofs.Fronts.{gone-more, gone-nothing}
+use Rattle.site_solution.specs.Covered.{HasSerials}
+use Rattle.site_solution.proofs.Noting.{fronts-covering}
 use Rattle.site_solution.proofs.more.take_fronts.Goals as goal
 
 pub loop-chan-preserved : goal.loop-chan-preserved
@@ -15,6 +17,20 @@ loop-chan-preserved c =
       spare = omega (arith, c.take_one.ensures.spare, c.loop-chan.invariant.spare);
       spare_groups = c.take_one.ensures.spare_groups ∙ c.loop-chan.invariant.spare_groups;
     }
+
+pub returns-then-is_empty-clause-groups : goal.returns-then-is_empty-clause-groups
+returns-then-is_empty-clause-groups c =
+    let none : c.args.chans.now ≡ [] = drop-past c.args.chans.now 0 (omega (arith, eqb-true (length c.args.chans.now) 0 (sym c.if-is_empty.ensures))) in
+    sym (ap (λ cs. gone_at c.args.group cs (groups_of c.args.groups.now.groups)) none ∙ gone-nothing (groups_of c.args.groups.now.groups) c.args.group)
+
+pub refresh-requires-clause-serials : goal.refresh-requires-clause-serials
+refresh-requires-clause-serials c = subst (λ (n : ℕ). HasSerials c.args.spots.now n) (sym c.loop-chan.invariant.many) c.requires.serials
+
+pub refresh-requires-clause-others : goal.refresh-requires-clause-others
+refresh-requires-clause-others c =
+    let past : drop c.loop-chan.chan-index c.args.chans.now ≡ [] = drop-past c.args.chans.now c.loop-chan.chan-index (omega (arith, c.loop-chan-test.false)) in
+    let is = sym (ap (λ cs. gone_at c.args.group cs (groups_of c.loop-chan.groups.groups)) past ∙ gone-nothing (groups_of c.loop-chan.groups.groups) c.args.group) ∙ c.loop-chan.invariant.done in
+    fronts-covering c.args.covering.now c.args.spots.now.serials.items (groups_of c.args.groups.now.groups) (groups_of c.loop-chan.groups.groups) c.args.group c.args.chans.now is c.requires.covering
 
 pub returns-clause-groups : goal.returns-clause-groups
 returns-clause-groups c =

@@ -16,4 +16,5 @@ invariant_of-self c =
       index = h.index;
       numbers = h.numbers;
       few = h.few;
+      covering = h.covering;
     }

@@ -6,6 +6,7 @@ use Rattle.site_solution.proofs.Keeping.{either, on-success, AreStored, as-store
 use Rattle.site_solution.specs.Index.{Rows, told_of, spot_of, holding}
 use Rattle.net_laws.specs.Holding.{put}
 use Rattle.site_solution.specs.Stored.{seen}
+use Rattle.site_solution.proofs.Noting.{serials-known}
 use Rattle.site_solution.proofs.site.Site.put.Goals as goal
 
 pub push_back-requires-clause-group : goal.push_back-requires-clause-group
@@ -13,6 +14,9 @@ push_back-requires-clause-group c = (taken c.self.inside.spots c.self.inside.gro
 
 pub push_back-requires-clause-chan : goal.push_back-requires-clause-chan
 push_back-requires-clause-chan c = (taken c.self.inside.spots c.self.inside.groups.groups c.args.msg c.in-Some.spot c.self.invariant.index (sym c.find.ensures ∙ c.in-Some.is)).chan
+
+pub push_back-requires-clause-serials : goal.push_back-requires-clause-serials
+push_back-requires-clause-serials c = serials-known c.self.inside.spots c.self.inside.groups.groups c.self.invariant.index
 
 pub invariant_of-self : goal.invariant_of-self
 invariant_of-self c =
@@ -24,7 +28,7 @@ invariant_of-self c =
     let is = put-queued (seen c.self.inside) c.self.inside.groups.groups _ c.self.inside.stuck.items c.args.loc.now c.args.msg it.is in
     let done = put-stored c.self.inside c.args.loc.now c.args.msg _ c.self.inside.stuck.items c.self.invariant here c.requires.home new room it.index it.same is in
     let all = either (λ (qs : Rows). AreStored c.self.inside qs c.self.inside.stuck.items) c.push_back.result c.self.inside.groups.groups _ c.push_back.new.groups.groups c.push_back.ensures.ok c.push_back.ensures.err (as-stored c.self.inside c.self.invariant) done in
-    record { kept = all.kept; once = all.once; few_waiting = all.few_waiting; index = all.index; numbers = all.numbers; few = all.few }
+    record { kept = all.kept; once = all.once; few_waiting = all.few_waiting; index = all.index; numbers = all.numbers; few = all.few; covering = c.push_back.ensures.covering }
 
 pub invariant_of-self-in-None : goal.invariant_of-self-in-None
 invariant_of-self-in-None c =
@@ -37,7 +41,7 @@ invariant_of-self-in-None c =
     let is = put-stuck (seen c.self.inside) c.self.inside.groups.groups c.self.inside.stuck.items c.args.loc.now c.args.msg it in
     let done = put-stored c.self.inside c.args.loc.now c.args.msg c.self.inside.groups.groups _ c.self.invariant here c.requires.home new room c.self.invariant.index (λ _. told_of c.self.inside.groups.groups) is in
     let all = either (λ ws. AreStored c.self.inside c.self.inside.groups.groups ws) c.keep.result c.self.inside.stuck.items _ c.keep.new.stuck.items c.keep.ensures.ok c.keep.ensures.err (as-stored c.self.inside c.self.invariant) done in
-    record { kept = all.kept; once = all.once; few_waiting = all.few_waiting; index = all.index; numbers = all.numbers; few = all.few }
+    record { kept = all.kept; once = all.once; few_waiting = all.few_waiting; index = all.index; numbers = all.numbers; few = all.few; covering = c.self.invariant.covering }
 
 pub returns-in-Some-clause-ok : goal.returns-in-Some-clause-ok
 returns-in-Some-clause-ok c =

@@ -10,6 +10,7 @@ use Rattle.site_solution.specs.Split.{away_from}
 use Rattle.site_solution.specs.More.{CanAdd, added}
 use Rattle.site_solution.specs.Carried.{IsCarried}
 use Rattle.site_solution.proofs.Receiving.{received-can, received-is, continued, beside-sorted}
+use Rattle.site_solution.proofs.Arriving.{received_fits}
 use Rattle.site_solution.proofs.site.Site.receive.Goals as goal
 
 pub add_all-requires : goal.add_all-requires
@@ -32,3 +33,13 @@ returns-clause-ok c =
     let flights = subst (λ fs. AreFlights (away_from c.args.tree.now (c.args.self.now.locs ++ c.args.parcel.now.loc ∷ []) (posted_of a.atoms)) fs) (sym c.in_ok-more.ensures.flights) sorted.flights_are in
     let left = received-is c.args.tree.now c.args.code.now c.args.parcel.now a c.in_ok-before.before c.in_ok-more.more c.args.self.now c.add_all.new.self c.in_ok-more.sends before more was flights in
     record { site = left.site; sends = left.sends; outs = ap (λ (r : Run). r.outs) run; births = ap (λ (r : Run). r.births) run }
+
+pub returns-clause-keeps : goal.returns-clause-keeps
+returns-clause-keeps c =
+    let a : Made = continuation_made c.args.counts.now c.args.self.now.number c.args.loc.now c.args.self.now.made c.args.cont in
+    let before = subst (λ n. IsCarried c.args.code.now c.args.parcel.now n c.in_ok-before.before) (ap (λ (r : Run). r.next) c.in_ok-made.ensures.run) c.in_ok-before.ensures.carried in
+    let sorted = subst (λ l. IsSorted c.args.tree.now (c.args.self.now.locs ++ l ∷ []) (posted_of a.atoms) c.in_ok-made.sorted) (sym c.requires.loc) c.in_ok-made.ensures.sorted in
+    let more = beside-sorted c.args.tree.now (c.args.self.now.locs ++ c.args.parcel.now.loc ∷ []) (posted_of a.atoms) c.in_ok-made.sorted c.in_ok-before.before c.in_ok-more.more sorted c.in_ok-more.ensures.more in
+    let cont = continued c.args.counts.now c.args.self.now.number c.args.loc.now c.args.self.now.made c.args.cont in
+    let can = subst (λ l. CanAdd (l ∷ []) c.in_ok-more.more c.args.self.now) c.requires.loc (received-can c.args.code.now c.args.parcel.now a.next (posted_of a.atoms) c.in_ok-before.before c.in_ok-more.more c.args.self.now c.in_ok-before.ensures.kept c.requires.can cont before more) in
+    received_fits c.args.code.now c.args.parcel.now c.args.loc.now c.args.counts.now c.args.cont c.in_ok-before.before c.in_ok-more.more c.args.self.now c.add_all.new.self (c.args.self.now.locs ++ c.args.parcel.now.loc ∷ []) c.requires.loc can c.site_is_kept.ensures.kept c.in_ok-add_all.ensures.ok before more

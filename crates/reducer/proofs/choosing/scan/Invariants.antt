@@ -1,5 +1,5 @@
 use Rattle.reducer.specs.Searching.{IsBest}
-use Rattle.reducer.proofs.choosing.ready.Given as goal
+use Rattle.reducer.proofs.choosing.scan.Given as goal
 
 abbrev pub invariant-loop-group : goal.invariant-loop-group
 invariant-loop-group l = IsBest l.code l.tree l.site l.group l.best

@@ -1,0 +1,192 @@
+-- A delivery, from its parts.
+use Rattle.std.proofs.Common.{◌≡◌, ℕ, zero, suc, ◌+◌, ◌<◌, ◌^◌, Bool, true, false, cond, List, [], ◌∷◌, ◌++◌, Option, Some, None, length, slice_get, refl, sym, ap, ◌∙◌, subst, arith, length-append}
+use Rattle.std.specs.Prelude.{slice_set, ◌-◌, IsSome}
+use Rattle.chem_model.specs.declared.name.Loc.{Loc}
+use Rattle.chem_model.specs.declared.event.Out.{Out}
+use Rattle.chem_model.specs.Each.{Each}
+use Rattle.chem_model.specs.Opening.{root_of}
+use Rattle.chem_laws.proofs.Lists.{Each-append, append_nil}
+use Rattle.wire_packet.specs.MessageFacts.{MessageParts}
+use Rattle.wire_packet.specs.declared.packet.Flight.{Flight}
+use Rattle.env_store.specs.CodeParts.{CodeParts}
+use Rattle.env_store.specs.Laws.{rules_of_group}
+use Rattle.loc_tree.specs.Tree.{Tree}
+use Rattle.net_laws.specs.Site.{Site}
+use Rattle.net_laws.specs.Net.{Addressed, Net, Stands, among, home_or, address, without_packet, IsOnItsWay}
+use Rattle.net_laws.specs.Holding.{put}
+use Rattle.net_laws.proofs.Holds.{each_get}
+use Rattle.router.specs.Delivering.{home_at, can_deliver, IsDelivery}
+use Rattle.router.specs.declared.routing.Delivery.TheVariants.{Forward}
+use Rattle.net_core.specs.declared.parts.Parts.{Parts}
+use Rattle.net_core.specs.Bare.{bare}
+use Rattle.net_core.specs.Parts.{joined, message_in, carried, all_carried, IsMessageFlight, net_of}
+use Rattle.net_core.specs.Pieces.{without, IsPlace}
+use Rattle.net_core.specs.Whole.{AllFit, AreFlying, IsWhole, IsRunning}
+use Rattle.net_core.specs.Acting.{Delivers, delivered}
+use Rattle.net_core.specs.Handing.{AreAsBefore}
+use Rattle.net_core.specs.Playing.{deliver}
+use Rattle.net_core.specs.Delivering.{IsBrought, GoesOn}
+use Rattle.net_core.proofs.Carrying.{carried_append, carried_without, carried_at, carried_length, each_without}
+use Rattle.net_core.proofs.Deliverable.{may_be_delivered}
+use Rattle.net_core.proofs.Fitting.{fit_bare, fit_full}
+use Rattle.net_core.proofs.Members.{without_length}
+use Rattle.net_core.proofs.Stepping.{running_on}
+
+-- networks of equal fields
+pub same_net : (a b : Net) → a.seen ≡ b.seen → a.sites ≡ b.sites → a.tree ≡ b.tree → a.trace ≡ b.trace → a.packets ≡ b.packets → a ≡ b
+same_net a b seen sites tree trace packets = λ i. record { seen = seen i; sites = sites i; tree = tree i; trace = trace i; packets = packets i }
+
+pub set_length : {X : Type 0} (xs : List X) (i : ℕ) (x : X) → length (slice_set xs i x) ≡ length xs
+set_length [] i x = refl
+set_length (y ∷ xs) zero x = refl
+set_length (y ∷ xs) (suc i) x = ap suc (set_length xs i x)
+
+pub below_some : {X : Type 0} (xs : List X) (i : ℕ) (x : X) → slice_get xs i ≡ Some x → i < length xs
+below_some [] i x e = cc
+below_some (y ∷ xs) zero x e = omega arith
+below_some (y ∷ xs) (suc i) x e = omega (arith, below_some xs i x e)
+
+-- ---- nothing changed
+
+pub as_before_net : (seen : List ℕ) (old new : Parts) → AreAsBefore old new → net_of seen new ≡ net_of seen old
+as_before_net seen old new h = same_net (net_of seen new) (net_of seen old) refl h.sites h.tree (ap joined h.trace) (ap (λ fs. all_carried (joined fs)) h.flights)
+
+pub as_before_flying : (old new : Parts) → AreAsBefore old new → AreFlying old → AreFlying new
+as_before_flying old new h flying = record {
+  spelled = subst (λ fs. Each IsMessageFlight (joined fs)) (sym h.flights) flying.spelled;
+  counted = h.under_way ∙ flying.counted ∙ ap (λ fs. length (joined fs)) (sym h.flights);
+  few = omega (arith, h.under_way, flying.few);
+}
+
+pub as_before_whole : (c : CodeParts) (old new : Parts) (events : ℕ) → AreAsBefore old new → IsWhole c old events → IsWhole c new events
+as_before_whole c old new events h whole = record {
+  running = subst (λ (n : Net). IsRunning c n events) (sym (as_before_net c.seen old new h)) whole.running;
+  flying = as_before_flying old new h whole.flying;
+}
+
+-- ---- a message that is brought
+
+set_same : {X : Type 0} (xs : List X) (i : ℕ) (x : X) → slice_get xs i ≡ Some x → slice_set xs i x ≡ xs
+set_same [] i x e = refl
+set_same (y ∷ xs) zero x e = let same : y ≡ x = cc in ap (λ z. z ∷ xs) (sym same)
+set_same (y ∷ xs) (suc i) x e = ap (λ r. y ∷ r) (set_same xs i x e)
+
+pub brought_on : (t : Tree) (sites : List Site) (i : ℕ) (s u new : Site) (m msg : MessageParts) (target : ℕ) → u ≡ s → slice_get sites i ≡ Some s → IsDelivery t u m (Forward target msg) new → IsBrought t i s m (Some target) sites (slice_set sites i new)
+brought_on t sites i s u new m msg target same at d =
+    let stays : new ≡ s = d.3 ∙ same in
+    (ap (λ (v : Site). among v.locs (home_at v m)) (sym same) ∙ d.0, d.1 ∙ ap (λ (v : Site). address t (home_at v m)) same, ap (slice_set sites i) stays ∙ set_same sites i s at)
+
+pub brought_same : (t : Tree) (i : ℕ) (s : Site) (m : MessageParts) (on : Option ℕ) (old new : List Site) → IsSome on → IsBrought t i s m on old new → new ≡ old
+brought_same t i s m None old new h b = absurd (cc)
+brought_same t i s m (Some target) old new h b = b.2
+
+-- ---- that it may be delivered
+
+pub flight_spelled : (p : Parts) (f : ℕ) (flight : Flight) → AreFlying p → slice_get (joined p.flights.items) f ≡ Some flight → IsMessageFlight flight
+flight_spelled p f flight flying at = each_get IsMessageFlight (joined p.flights.items) f flight at flying.spelled
+
+pub target_below : (c : CodeParts) (p : Parts) (events f : ℕ) (flight : Flight) → IsWhole c p events → slice_get (joined p.flights.items) f ≡ Some flight → flight.target < length p.sites.items
+target_below c p events f flight h at =
+    let net = net_of c.seen p in
+    (each_get (IsOnItsWay (length p.sites.items)) net.packets f (carried flight) (carried_at (joined p.flights.items) f flight at) h.running.some.runs.keeps.packets).1
+
+pub flight_may : (c : CodeParts) (p : Parts) (events f : ℕ) (flight : Flight) (s : Site) → IsWhole c p events → slice_get (joined p.flights.items) f ≡ Some flight → slice_get p.sites.items flight.target ≡ Some s → can_deliver p.tree s (message_in flight.bytes) ≡ true
+flight_may c p events f flight s h at here =
+    let net = net_of c.seen p in
+    let some = h.running.some in
+    let flies = carried_at (joined p.flights.items) f flight at in
+    may_be_delivered (rules_of_group some.program) net some.solution some.stands f (carried flight) s flies here
+    (each_get (IsOnItsWay (length p.sites.items)) net.packets f (carried flight) flies some.runs.keeps.packets)
+
+-- ---- what it leaves
+
+module _ (c : CodeParts) (old new : Parts) (events f : ℕ) (flight : Flight) (on : Option ℕ) (more : List Flight) (s : Site) (h : IsWhole c old events)
+    (at : slice_get (joined old.flights.items) f ≡ Some flight) (here : slice_get old.sites.items flight.target ≡ Some s)
+    (brought : IsBrought old.tree flight.target s (message_in flight.bytes) on old.sites.items new.sites.items) (goes : GoesOn flight on more)
+    (tree : new.tree ≡ old.tree) (trace : new.trace.items ≡ old.trace.items) (flights : joined new.flights.items ≡ without f (joined old.flights.items) ++ more) where
+  abbrev msg : MessageParts
+  msg = message_in flight.bytes
+
+  abbrev home : Loc
+  home = home_or (root_of flight.target) msg.on
+
+  number : s.number ≡ flight.target
+  number = (h.running.some.stands.hosts flight.target s here).number
+
+  at_home : home_at s msg ≡ home
+  at_home = ap (λ (i : ℕ). home_or (root_of i) msg.on) number
+
+  packets : all_carried (joined new.flights.items) ≡ without_packet f (all_carried (joined old.flights.items)) ++ all_carried more
+  packets =
+      ap all_carried flights ∙ carried_append (without f (joined old.flights.items)) more
+      ∙ ap (λ ps. ps ++ all_carried more) (carried_without (joined old.flights.items) f)
+
+  left : (seen : List ℕ) (o : Option ℕ) → IsBrought old.tree flight.target s msg o old.sites.items new.sites.items → GoesOn flight o more → net_of seen new ≡ delivered (net_of seen old) f (carried flight) s home
+  left seen None b g =
+      let others = without_packet f (all_carried (joined old.flights.items)) in
+      let there : among s.locs home ≡ true = ap (among s.locs) (sym at_home) ∙ b.0 in
+      let sites : new.sites.items ≡ slice_set old.sites.items flight.target (put home msg s) = b.1 ∙ ap (λ (l : Loc). slice_set old.sites.items flight.target (put l msg s)) at_home in
+      let put_net : Net = record (net_of seen old) { sites = slice_set old.sites.items flight.target (put home msg s); packets = others } in
+      let on_net : Net = record (net_of seen old) { packets = others ++ record { target = address old.tree home; msg = msg } ∷ [] } in
+      let same = same_net (net_of seen new) put_net refl sites (ap bare tree) (ap joined trace) (packets ∙ ap (λ (fs : List Flight). others ++ all_carried fs) g ∙ append_nil others) in
+      subst (λ (u : Bool). net_of seen new ≡ cond u put_net on_net) (sym there) same
+  left seen (Some target) b g =
+      let others = without_packet f (all_carried (joined old.flights.items)) in
+      let away : among s.locs home ≡ false = ap (among s.locs) (sym at_home) ∙ b.0 in
+      let to : target ≡ address old.tree home = b.1 ∙ ap (address old.tree) at_home in
+      let put_net : Net = record (net_of seen old) { sites = slice_set old.sites.items flight.target (put home msg s); packets = others } in
+      let on_net : Net = record (net_of seen old) { packets = others ++ record { target = address old.tree home; msg = msg } ∷ [] } in
+      let last : all_carried more ≡ record { target = address old.tree home; msg = msg } ∷ [] = ap all_carried g ∙ ap (λ (t : ℕ). record { target = t; msg = msg } ∷ []) to in
+      let same = same_net (net_of seen new) on_net refl b.2 (ap bare tree) (ap joined trace) (packets ∙ ap (λ (ps : List Addressed). others ++ ps) last) in
+      subst (λ (u : Bool). net_of seen new ≡ cond u put_net on_net) (sym away) same
+
+  pub delivers : (seen : List ℕ) → Delivers (net_of seen old) f (net_of seen new)
+  delivers seen = record {
+    packet = carried flight;
+    site = s;
+    packet_is = carried_at (joined old.flights.items) f flight at;
+    site_is = here;
+    new_is = left seen on brought goes;
+  }
+
+  many_sites : (o : Option ℕ) → IsBrought old.tree flight.target s msg o old.sites.items new.sites.items → length new.sites.items ≡ length old.sites.items
+  many_sites None b = ap length b.1 ∙ set_length old.sites.items flight.target (put (home_at s msg) msg s)
+  many_sites (Some target) b = ap length b.2
+
+  more_spelled : (o : Option ℕ) → GoesOn flight o more → Each IsMessageFlight more
+  more_spelled None g = subst (Each IsMessageFlight) (sym g) tt
+  more_spelled (Some target) g = subst (Each IsMessageFlight) (sym g) (flight_spelled old f flight h.flying at, tt)
+
+  more_few : (o : Option ℕ) → GoesOn flight o more → length more < 2
+  more_few None g = omega (arith, ap length g)
+  more_few (Some target) g = omega (arith, ap length g)
+
+  pub delivered_whole : AllFit c new.tree new.sites.items → new.under_way ≡ old.under_way - 1 + length more → IsWhole c new events
+  delivered_whole fit count = record {
+    running =
+        let e : events + 0 ≡ events = omega arith in
+        subst (IsRunning c (net_of c.seen new)) e (running_on c (net_of c.seen old) (net_of c.seen new) None events h.running (deliver f _ (delivers c.seen)) (fit_bare c new.tree new.sites.items fit) (many_sites on brought));
+    flying = record {
+      spelled = subst (Each IsMessageFlight) (sym flights) (Each-append IsMessageFlight (without f (joined old.flights.items)) more (each_without IsMessageFlight (joined old.flights.items) f h.flying.spelled) (more_spelled on goes));
+      counted = omega (arith, count, h.flying.counted, ap length flights, length-append (without f (joined old.flights.items)) more, without_length (joined old.flights.items) f (below_some (joined old.flights.items) f flight at));
+      few = omega (arith, count, h.flying.few, more_few on goes, h.flying.counted, below_some (joined old.flights.items) f flight at);
+    };
+  }
+
+-- ---- for the code
+
+pub flight_found : (ps qs rs ss : List (List Flight)) (f i j : ℕ) (x : Flight) → qs ≡ ps → rs ≡ qs → ss ≡ qs → IsPlace rs f i j → ((place : ℕ) → IsPlace ss place i j → slice_get (joined ss) place ≡ Some x) → slice_get (joined ps) f ≡ Some x
+flight_found ps qs rs ss f i j x kept first second at is =
+    let same : ss ≡ ps = second ∙ kept in
+    let here : IsPlace ss f i j = subst (λ (us : List (List Flight)). IsPlace us f i j) (first ∙ sym second) at in
+    ap (λ (us : List (List Flight)). slice_get (joined us) f) (sym same) ∙ is f here
+
+pub flights_left : (ps qs rs news : List (List Flight)) (f i j : ℕ) (more : List Flight) → qs ≡ ps → rs ≡ qs → IsPlace rs f i j → ((place : ℕ) → IsPlace qs place i j → joined news ≡ without place (joined qs) ++ more) → joined news ≡ without f (joined ps) ++ more
+flights_left ps qs rs news f i j more kept first at is =
+    let here : IsPlace qs f i j = subst (λ (us : List (List Flight)). IsPlace us f i j) first at in
+    is f here ∙ ap (λ (us : List (List Flight)). without f (joined us) ++ more) kept
+
+pub brought_in : (t : Tree) (i : ℕ) (s : Site) (m n : MessageParts) (on : Option ℕ) (olds sites news : List Site) → m ≡ n → olds ≡ sites → ((u : Site) → slice_get olds i ≡ Some u → IsBrought t i u m on olds news) → slice_get sites i ≡ Some s → IsBrought t i s n on sites news
+brought_in t i s m n on olds sites news same kept brought at =
+    let here : slice_get olds i ≡ Some s = ap (λ (us : List Site). slice_get us i) kept ∙ at in
+    subst (λ (us : List Site). IsBrought t i s n on us news) kept (subst (λ (k : MessageParts). IsBrought t i s k on olds news) same (brought s here))

@@ -1,0 +1,102 @@
+-- Moves, from their parts.
+use Rattle.std.proofs.Common.{◌≡◌, ℕ, zero, suc, ◌+◌, ◌<◌, ◌≤◌, Bool, true, false, cond, List, [], ◌∷◌, ◌++◌, Option, Some, None, Result, Ok, Err, length, slice_get, take, drop, refl, sym, ap, ◌∙◌, subst, arith, eqb-true}
+use Rattle.std.specs.Prelude.{slice_set, ◌-◌, ◌&&◌, IfOk, OnOk, IsTrue}
+use Rattle.std.proofs.lemmas.Bool.{and_parts}
+use Rattle.chem_model.specs.declared.name.Loc.{Loc}
+use Rattle.chem_model.specs.declared.name.Name.{Name}
+use Rattle.chem_model.specs.declared.name.Name.TheVariants as name
+use Rattle.chem_model.specs.declared.event.AtomId.{AtomId}
+use Rattle.chem_model.specs.declared.event.Out.{Out}
+use Rattle.chem_model.specs.declared.numbered.Made.{Made}
+use Rattle.chem_model.specs.Each.{Each}
+use Rattle.wire_packet.specs.declared.packet.Ask.{Ask}
+use Rattle.wire_packet.specs.declared.packet.Ask.TheVariants as request
+use Rattle.wire_packet.specs.declared.packet.Request.{Request}
+use Rattle.env_store.specs.CodeParts.{CodeParts}
+use Rattle.loc_tree.specs.Tree.{Tree, spot, can_move, with_number}
+use Rattle.net_laws.specs.Site.{Site}
+use Rattle.net_laws.specs.Net.{Addressed, Net}
+use Rattle.net_laws.specs.Holding.{request_with, drop_request}
+use Rattle.net_laws.specs.Posting.{posted_of, Outcome, pour_here}
+use Rattle.net_laws.specs.Parcels.{pack, remove, take_in}
+use Rattle.net_laws.specs.Choices.{moved_between}
+use Rattle.net_laws.specs.Meeting.{continuation_made, sent_here}
+use Rattle.site_solution.specs.Answers.{Answers}
+use Rattle.site_solution.specs.declared.effects.Effects.{Effects}
+use Rattle.migration.specs.Moves.{can_go, is_ready}
+use Rattle.net_core.specs.declared.parts.Parts.{Parts}
+use Rattle.net_core.specs.Bare.{bare}
+use Rattle.net_core.specs.Parts.{joined, all_carried, net_of}
+use Rattle.net_core.specs.Acting.{MayGo, Stays, Leaves, Moves, stays, leaves}
+use Rattle.net_core.specs.AtSites.{MovesAt, CrossesAt}
+use Rattle.net_core.proofs.Carrying.{carried_append, all_carry}
+use Rattle.net_core.proofs.Deliveries.{same_net}
+use Rattle.net_core.proofs.Handed.{sent_bare, outcome_net}
+
+-- what the test says of a request to go
+can_is : (t : Tree) (a : AtomId) (s : Site) (q : Request) (target : Loc) (cont : Name) → can_go t a s ≡ true → request_with a s.requests ≡ Some q → q.ask ≡ request.Go (name.Place target) cont → can_move t q.loc target ≡ true
+can_is t a s q target cont can here asks =
+    let ready : is_ready t (Some q) ≡ true = ap (is_ready t) (sym here) ∙ can in
+    ap (λ (v : Ask). is_ready t (Some (record q { ask = v }))) (sym asks) ∙ ready
+
+pub moves_net : (seen : List ℕ) (old new : Parts) (i : ℕ) (a : AtomId) (s : Site) (e : Effects) → slice_get old.sites.items i ≡ Some s → s.number ≡ i → can_go old.tree a s ≡ true
+    → (moves : MovesAt seen old.tree new.tree i a s old.sites.items new.sites.items e) → moves.moves.target.site ≡ i
+    → joined new.trace.items ≡ joined old.trace.items ++ e.outs → joined new.flights.items ≡ joined old.flights.items ++ e.sends
+    → Moves (net_of seen old) a (net_of seen new)
+moves_net seen old new i a s e at number can moves here trace flights =
+    let d = moves.moves in
+    let q = d.asked in
+    let from = λ (k : ℕ). continuation_made seen k q.loc s.made d.cont in
+    let answers : Answers (sent_here (bare old.tree) (from i) (drop_request a s)) (from i).outs [] moves.after e =
+    subst (λ (k : ℕ). Answers (sent_here (bare old.tree) (from k) (drop_request a s)) (from k).outs [] moves.after e) number
+    (subst (λ (o : Outcome). Answers o (from s.number).outs [] moves.after e) (sym (sent_bare old.tree (from s.number) (drop_request a s))) d.answers) in
+    let go : MayGo (net_of seen old) a = record {
+      asks = record { number = i; site = s; request = q; site_is = at; request_is = d.here };
+      target = d.target;
+      cont = d.cont;
+      is = d.asks;
+      can = can_is old.tree a s q d.target d.cont can d.here d.asks;
+    } in
+    stays (record {
+      go = go;
+      here = here;
+      new_is = outcome_net seen old new i (with_number (bare old.tree) q.loc i) (sent_here (bare old.tree) (from i) (drop_request a s)) (from i).outs [] moves.after e moves.sites answers
+          (ap bare d.tree ∙ ap (with_number (bare old.tree) q.loc) number) trace flights;
+    })
+
+pub crosses_net : (seen : List ℕ) (old new : Parts) (i j : ℕ) (a : AtomId) (s u : Site) (e : Effects) → slice_get old.sites.items i ≡ Some s → slice_get old.sites.items j ≡ Some u → (i ≡ j → ⊥) → u.number ≡ j → can_go old.tree a s ≡ true
+    → (moves : CrossesAt seen old.tree new.tree i j a s u old.sites.items new.sites.items e) → moves.moves.target.site ≡ j
+    → joined new.trace.items ≡ joined old.trace.items ++ e.outs → joined new.flights.items ≡ joined old.flights.items ++ e.sends
+    → Moves (net_of seen old) a (net_of seen new)
+crosses_net seen old new i j a s u e at into away number can moves there trace flights =
+    let d = moves.moves in
+    let q = d.asked in
+    let load = take_in (pack q.loc (drop_request a s)) u in
+    let made = λ (k : ℕ). continuation_made seen k q.loc u.made d.cont in
+    let moved = with_number (bare old.tree) q.loc j in
+    let tree : bare new.tree ≡ moved = ap bare d.tree ∙ ap (with_number (bare old.tree) q.loc) number in
+    let answers : Answers (sent_here moved (made j) load) (made j).outs [] moves.after e =
+    subst (λ (t : Tree). Answers (sent_here t (made j) load) (made j).outs [] moves.after e) tree
+    (subst (λ (k : ℕ). Answers (sent_here (bare new.tree) (made k) load) (made k).outs [] moves.after e) number
+    (subst (λ (o : Outcome). Answers o (made u.number).outs [] moves.after e) (sym (sent_bare new.tree (made u.number) load)) d.answers)) in
+    let go : MayGo (net_of seen old) a = record {
+      asks = record { number = i; site = s; request = q; site_is = at; request_is = d.here };
+      target = d.target;
+      cont = d.cont;
+      is = d.asks;
+      can = can_is old.tree a s q d.target d.cont can d.here d.asks;
+    } in
+    let o = sent_here moved (made j) load in
+    let is : net_of seen new ≡ moved_between (net_of seen old) i j q.loc (drop_request a s) u (made j).next (posted_of (made j).atoms) (made j).outs =
+    same_net (net_of seen new) (moved_between (net_of seen old) i j q.loc (drop_request a s) u (made j).next (posted_of (made j).atoms) (made j).outs) refl
+    (moves.sites ∙ ap (λ (v : Site). slice_set (slice_set old.sites.items i v) j moves.after) d.leaves ∙ ap (slice_set (slice_set old.sites.items i (remove q.loc (drop_request a s))) j) answers.site)
+    tree
+    (trace ∙ ap (λ (os : List Out). joined old.trace.items ++ os) answers.outs)
+    (ap all_carried flights ∙ carried_append (joined old.flights.items) e.sends ∙ ap (λ (ps : List Addressed). all_carried (joined old.flights.items) ++ ps) (all_carry o.sends e.sends answers.sends).0) in
+    leaves (record {
+      go = go;
+      away = λ same. away (same ∙ there);
+      into = u;
+      into_is = ap (slice_get old.sites.items) there ∙ into;
+      new_is = subst (λ (k : ℕ). net_of seen new ≡ moved_between (net_of seen old) i k q.loc (drop_request a s) u (continuation_made seen k q.loc u.made d.cont).next (posted_of (continuation_made seen k q.loc u.made d.cont).atoms) (continuation_made seen k q.loc u.made d.cont).outs) (sym there) is;
+    })

@@ -1,0 +1,25 @@
+use Rattle.std.proofs.Common.{◌<◌, ◌^◌, length, sym, subst, arith}
+use Rattle.chem_model.specs.Opening.{opening}
+use Rattle.chem_model.specs.ProgramFacts.{IsProgram}
+use Rattle.env_store.specs.CodeFacts.{IsCode}
+use Rattle.env_store.specs.CodeParts.{CodeParts}
+use Rattle.env_store.specs.Laws.{rules_of_group}
+use Rattle.net_laws.specs.Net.{Stands}
+use Rattle.net_core.specs.Parts.{net_of}
+use Rattle.net_core.specs.Whole.{IsWhole}
+use Rattle.net_core.proofs.Starting.{opened_whole, opened_is}
+use Rattle.net_core.proofs.net.Net.start.Goals as goal
+
+pub invariant_of-result : goal.invariant_of-result
+invariant_of-result c =
+    let ok : IsProgram c.args.program.now = subst IsProgram c.program.view_is c.program.invariant in
+    let kept : IsCode c.args.code.now = subst IsCode c.code.view_is c.code.invariant in
+    let few : length c.args.code.now.sites < 2 ^ 32 = omega (arith, c.requires.no_other_sites, ok.few_sites) in
+    subst (λ (x : CodeParts). IsWhole x c.in_ok-parts.parts 0) (sym c.in_ok-code.ensures) (opened_whole c.args.program.now c.args.code.now ok kept c.requires few c.in_ok-parts.parts c.in_ok-parts.ensures)
+
+pub returns-clause-stands : goal.returns-clause-stands
+returns-clause-stands c =
+    let ok : IsProgram c.args.program.now = subst IsProgram c.program.view_is c.program.invariant in
+    let kept : IsCode c.args.code.now = subst IsCode c.code.view_is c.code.invariant in
+    subst (λ (x : CodeParts). Stands (rules_of_group c.args.program.now) (net_of x.seen c.in_ok-parts.parts) (opening c.args.program.now)) (sym c.in_ok-code.ensures)
+    (opened_is c.args.program.now c.args.code.now ok kept c.requires c.in_ok-parts.parts c.in_ok-parts.ensures)

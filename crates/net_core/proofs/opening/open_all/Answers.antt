@@ -1,0 +1,15 @@
+use Rattle.std.proofs.Common.{refl, ap, subst}
+use Rattle.env_store.specs.CodeFacts.{IsCode}
+use Rattle.net_laws.proofs.Opened.{tops_are_of_sites}
+use Rattle.net_core.specs.Parts.{joined}
+use Rattle.net_core.proofs.Starting.{none_opened}
+use Rattle.net_core.proofs.opening.open_all.Goals as goal
+
+pub first_tree-requires : goal.first_tree-requires
+first_tree-requires c = tops_are_of_sites c.requires.0 c.args.code.now c.requires.1 c.requires.2
+
+pub loop-number-init : goal.loop-number-init
+loop-number-init c =
+    none_opened c.requires.0 c.args.code.now c.requires.1 (subst IsCode c.code.view_is c.code.invariant) c.requires.2
+    (record { sites = c.new.result; tree = c.in_ok-tree.tree; trace = c.new-2.result; flights = c.new-3.result; under_way = 0 })
+    c.in_ok-tree.ensures c.new.ensures.items (ap joined c.new-2.ensures.items) (ap joined c.new-3.ensures.items) refl

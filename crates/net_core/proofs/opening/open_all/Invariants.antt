@@ -1,0 +1,5 @@
+use Rattle.net_core.specs.Starting.{IsUpTo}
+use Rattle.net_core.proofs.opening.open_all.Given as goal
+
+abbrev pub invariant-loop-number : goal.invariant-loop-number
+invariant-loop-number l = IsUpTo l.code l.number l.parts

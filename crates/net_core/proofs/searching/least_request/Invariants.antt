@@ -1,0 +1,5 @@
+use Rattle.net_core.specs.Searched.{IsLeast}
+use Rattle.net_core.proofs.searching.least_request.Given as goal
+
+abbrev pub invariant-loop-number : goal.invariant-loop-number
+invariant-loop-number l = IsLeast l.sites l.tree l.number l.best

@@ -1,0 +1,112 @@
+// Deliveries of packets that are under way.
+ghost use Rattle.std.specs.Prelude.{◌≡◌, ℕ, ◌<◌, ◌≤◌, ◌++◌, List, Some, length, slice_get};
+ghost use Rattle.std.specs.Prelude.{vec_len, vec_capacity, true, IfOk, OnOk, OnErr, IsSome};
+ghost use Rattle.wire_packet.specs.MessageFacts.{MessageParts};
+ghost use Rattle.wire_packet.specs.declared.parcel.Packet.TheVariants as sent;
+ghost use Rattle.env_store.specs.CodeParts.{CodeParts};
+ghost use Rattle.net_laws.specs.Site.{Site as site_seen};
+ghost use Rattle.router.specs.Delivering.{can_deliver};
+ghost use Rattle.net_core.specs.Acting.{Delivers};
+ghost use Rattle.net_core.specs.Parts.{joined, message_in, IsMessageFlight, net_of};
+ghost use Rattle.net_core.specs.Pieces.{without, IsPlace};
+ghost use Rattle.net_core.specs.Whole.{AllFit, IsWhole};
+ghost use Rattle.net_core.specs.Delivering.{IsBrought, GoesOn};
+
+use crate::parts::Parts;
+use crate::pieces::{add_piece, member_at, place_of, take_out};
+use chem_model::{Items, Memory};
+use loc_tree::LocTree;
+use router::{Delivery, deliver};
+use site_solution::Site;
+use std::alloc::Global;
+use wire_packet::{DecodeEnd, Flight, Flights, Msg, Packet, decode};
+
+// The message of a packet that is one.
+fn message_of(packet: Packet) -> Msg
+    requires { (m : MessageParts) × (packet ≡ sent.Message m) }
+    ensures { (m : MessageParts) → packet ≡ sent.Message m → result ≡ m }
+{
+    match packet {
+        Packet::Message(msg) => msg,
+        Packet::Parcel(_) => unreachable!(),
+    }
+}
+
+// The message that a flight carries.
+fn read_flight(alloc: Global, flight: &Flight) -> Result<Msg, Memory>
+    requires { IsMessageFlight flight.now }
+    ensures { IfOk result (λ msg. msg ≡ message_in flight.now.bytes) }
+{
+    match decode(alloc, flight.bytes.as_slice()) {
+        Ok(packet) => Ok(message_of(packet)),
+        Err(DecodeEnd::Memory) => Err(Memory),
+        Err(DecodeEnd::Bad { .. }) => unreachable!(),
+    }
+}
+
+// Brings a message to a site: it is put there, or the answer is the site to which it goes on.
+fn bring(sites: &mut [Site], tree: &LocTree, target: u32, msg: Msg) -> Result<Option<u32>, Memory>
+    requires target { target < length sites.old }
+    requires can { (s : site_seen) → slice_get sites.old target ≡ Some s
+        → can_deliver tree.now s msg ≡ true }
+    ensures ok { IfOk result (λ on. (s : site_seen) → slice_get sites.old target ≡ Some s
+        → IsBrought tree.now target s msg on sites.old sites.new) }
+    ensures fit { OnOk result ((c : CodeParts) → AllFit c tree.now sites.old
+        → AllFit c tree.now sites.new) }
+    ensures err { OnErr result (sites.new ≡ sites.old) }
+{
+    let site = &mut sites[target as usize];
+    match deliver(site, tree, msg) {
+        Ok(Delivery::Delivered) => Ok(None),
+        Ok(Delivery::Forward(target, _)) => Ok(Some(target)),
+        Err(back) => Err(back.1),
+    }
+}
+
+// The flight with these bytes to the site to which it goes on, if it does.
+fn onward(alloc: Global, flight: &Flight, on: Option<u32>) -> Result<Flights, Memory>
+    ensures ok { IfOk result (λ more. GoesOn flight.now on more) }
+    ensures err { OnErr result (IsSome on) }
+{
+    let mut more = Items::new(alloc);
+    if let Some(target) = on {
+        let bytes = flight.bytes.copy(alloc)?;
+        more.push(Flight { target, bytes })?;
+    }
+    Ok(more)
+}
+
+// Takes a flight out, and adds others behind all.
+fn replace(flights: &mut Vec<Flights>, piece: usize, index: usize, more: Flights)
+    requires place { (place : ℕ) × IsPlace flights.old.items place piece index }
+    requires room { vec_len flights.old < vec_capacity flights.old }
+    ensures { (place : ℕ) → IsPlace flights.old.items place piece index
+        → joined flights.new.items ≡ without place (joined flights.old.items) ++ more }
+{
+    take_out(flights, piece, index);
+    add_piece(flights, more);
+}
+
+// Delivers the packet with this index: it is put at its home, or goes on, behind all others, to the
+// site that hosts that. Where there is no memory, nothing changes.
+pub(crate) fn deliver_flight(alloc: Global, parts: &mut Parts, flight: u32) -> Result<(), Memory>
+    requires whole { (c : CodeParts) × (events : ℕ) × IsWhole c parts.old events }
+    requires flight { flight < parts.old.under_way }
+    ensures ok { OnOk result ((seen : List ℕ)
+        → Delivers (net_of seen parts.old) flight (net_of seen parts.new)) }
+    ensures whole { (c : CodeParts) (events : ℕ) → IsWhole c parts.old events
+        → IsWhole c parts.new events }
+    ensures err { OnErr result ((seen : List ℕ)
+        → net_of seen parts.new ≡ net_of seen parts.old) }
+{
+    parts.flights.reserve(1)?;
+    let (piece, index) = place_of(parts.flights.as_slice(), flight as usize);
+    let found = member_at(parts.flights.as_slice(), piece, index);
+    let msg = read_flight(alloc, found)?;
+    let on = bring(&mut parts.sites, &parts.tree, found.target, msg)?;
+    let more = onward(alloc, found, on)?;
+    let count = more.len() as u32;
+    replace(&mut parts.flights, piece, index, more);
+    parts.under_way = parts.under_way - 1 + count;
+    Ok(())
+}

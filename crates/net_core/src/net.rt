@@ -1,0 +1,106 @@
+// A network of sites on one thread.
+ghost use Rattle.std.specs.Prelude.{◌≡◌, ◌↔◌, length, IfOk, IfNone, IfSome, IsTrue};
+ghost use Rattle.env_store.specs.CodeFacts.{IsCode};
+ghost use Rattle.net_core.specs.declared.choice.Choice.{Choice};
+ghost use Rattle.net_core.specs.Choosing.{Allows, IsNext};
+ghost use Rattle.net_core.specs.Resting.{IsNoneWhereQuiet};
+
+use crate::choice::Choice;
+use crate::parts::Parts;
+use crate::searching::{is_enabled, next_choice};
+use crate::tracing::copy_all;
+use chem_model::{Memory, Outs};
+use env_store::Code;
+use std::alloc::Global;
+use std::marker::Model;
+
+/// A network of sites that run the code of a program: what contracts see of it is the code, the
+/// network, with the packets under way as the messages that they spell, and the number of events so
+/// far.
+///
+/// Each network keeps the facts of `IsWhole`: its code is a program's, and it stands for some
+/// sound numbered solution; each site meets what its calls need; no site has made more than
+/// 1,048,576 numbers for each event and one time more; and each packet under way, of which there
+/// are fewer than 2^32, is the spelling of a message on a channel, to one of the sites.
+#[derive(Drop)]
+pub struct Net {
+    pub(crate) code: Code,
+    pub(crate) parts: Parts,
+    pub(crate) events: u32,
+}
+
+impl Model for Net {
+    ghost use Rattle.net_core.specs.Whole.{NetParts, IsWhole};
+    ghost use Rattle.net_core.specs.Parts.{net_of};
+
+    ghost Value = { NetParts };
+
+    ghost view = { λ n. record {
+      code = n.code;
+      net = net_of n.code.seen n.parts;
+      events = n.events;
+    } };
+
+    ghost invariant = { λ n. IsWhole n.code n.parts n.events };
+}
+
+impl Net {
+    /// How many packets are under way.
+    pub fn flights(&self) -> u32
+        ensures { result ≡ length self.now.net.packets }
+    {
+        self.parts.under_way
+    }
+
+    /// How many events there were so far.
+    pub fn events(&self) -> u32
+        ensures { result ≡ self.now.events }
+    {
+        self.events
+    }
+
+    /// A copy of the observables so far.
+    pub fn trace(&self, alloc: Global) -> Result<Outs, Memory>
+        ensures { IfOk result (λ trace. trace ≡ self.now.net.trace) }
+    {
+        copy_all(alloc, self.parts.trace.as_slice())
+    }
+
+    // The facts of its code hold. It does nothing.
+    pub(crate) fn code_is_kept(&self)
+        ensures { IsCode self.now.code }
+    {
+        let _events = self.events;
+    }
+
+    /// Whether the choice is enabled: a guard of a live location is covered, a packet is under way
+    /// at this place, or the rule of this request allows it. It takes no memory.
+    pub fn enabled(&self, choice: &Choice) -> bool
+        ensures { IsTrue result ↔ Allows self.now.code self.now.net choice.now }
+    {
+        is_enabled(
+            self.parts.sites.as_slice(),
+            &self.parts.tree,
+            &self.code,
+            self.parts.under_way,
+            choice,
+        )
+    }
+
+    /// The choice that comes next: the first packet under way; where there is none, the reaction
+    /// of the least site that is ready; and where none is, the enabled request with the least id.
+    /// None comes exactly where no choice is enabled: where nothing is under way and the machine is
+    /// quiet in each solution for which the network stands. It takes no memory.
+    pub fn next(&self) -> Option<Choice>
+        ensures none { IfNone result ((x : Choice) → Allows self.now.code self.now.net x → ⊥) }
+        ensures some { IfSome result (IsNext self.now.code self.now.net) }
+        ensures quiet { IsNoneWhereQuiet self.now.code self.now.net result }
+    {
+        next_choice(
+            self.parts.sites.as_slice(),
+            &self.parts.tree,
+            &self.code,
+            self.parts.under_way,
+        )
+    }
+}
