@@ -1,5 +1,5 @@
 -- Where the locations of a list differ, an entry that has a location is the one that is found.
-use Rattle.std.proofs.Common.{◌≡◌, ◌<◌, ◌≤◌, ℕ, zero, suc, ◌+◌, List, [], ◌∷◌, length, get_or, drop, Bool, true, false, cond, refl, ap, sym, ◌∙◌, subst, arith}
+use Rattle.std.proofs.Common.{◌≡◌, ◌<◌, ◌≤◌, ℕ, zero, suc, List, [], ◌∷◌, length, get_or, drop, Bool, true, false, cond, refl, ap, sym, ◌∙◌, subst, arith}
 use Rattle.std.specs.Prelude.{Option, Some, None}
 use Rattle.std.proofs.lemmas.List.{get_or_default}
 use Rattle.chem_model.specs.declared.name.Loc.{Loc}
@@ -13,7 +13,6 @@ use Rattle.chem_model.specs.Solution.{Standing, same_loc, is_there, host_of, or_
 use Rattle.chem_model.specs.Numbered.{standing, place_pairs, rule_pairs}
 use Rattle.chem_model.specs.Poured.{standing_of}
 use Rattle.chem_model.specs.Apply.{same_rule, rule_at}
-use Rattle.chem_model.specs.Opening.{root_of}
 use Rattle.chem_model.specs.Sound.{IsSound}
 use Rattle.chem_laws.proofs.Bags.{one_self}
 use Rattle.chem_laws.proofs.Within.{same_loc_is}

@@ -1,8 +1,8 @@
 -- A rule of which some channel has no message isn't ready.
-use Rattle.std.proofs.Common.{◌≡◌, ℕ, zero, suc, ◌+◌, ◌<◌, length, take, get_or, set, List, [], ◌∷◌, Option, Some, None, Bool, true, false, cond, refl, ap, sym, ◌∙◌, subst, arith, ◌&&◌, ◌||◌, ◌==◌, inl, inr, is_some}
+use Rattle.std.proofs.Common.{◌≡◌, ℕ, zero, suc, ◌+◌, ◌<◌, length, take, get_or, set, List, [], ◌∷◌, Option, Some, None, Bool, true, false, cond, refl, ap, sym, ◌∙◌, subst, arith, ◌&&◌, ◌==◌, inl, inr, is_some}
 use Rattle.std.proofs.lemmas.Bool.{and_parts}
 use Rattle.std.proofs.lemmas.List.{get_or-set_same}
-use Rattle.std.specs.List.{list_any, list_all}
+use Rattle.std.specs.List.{list_all}
 use Rattle.chem_model.specs.declared.name.Loc.{Loc}
 use Rattle.chem_model.specs.declared.name.Ref.{Ref}
 use Rattle.chem_model.specs.declared.name.Pat.{Pat}
@@ -10,7 +10,6 @@ use Rattle.chem_model.specs.declared.numbered.NumberedRule.{NumberedRule}
 use Rattle.chem_model.specs.declared.numbered.NumberedAtom.{NumberedAtom}
 use Rattle.chem_model.specs.declared.numbered.Numbered.{Numbered}
 use Rattle.chem_model.specs.Process.{Process, Msg, Par, Def, Go, Fail, Halt}
-use Rattle.chem_model.specs.Fill.{Naming}
 use Rattle.chem_model.specs.Reduction.{given}
 use Rattle.chem_model.specs.Solution.{same_loc, live}
 use Rattle.chem_model.specs.Numbered.{standing}

@@ -2,7 +2,6 @@
 -- has one is never missing; one that has none may be there.
 use Rattle.std.specs.Prelude.{◌≡◌, ℕ, ◌%◌, List, get_or, Bool, true}
 use Rattle.std.specs.List.{list_all}
-use Rattle.chem_model.specs.declared.name.Name.{Name}
 use Rattle.chem_model.specs.declared.name.Name.TheVariants as name
 use Rattle.chem_model.specs.declared.name.Ref.{Ref}
 use Rattle.chem_model.specs.declared.name.Ref.TheVariants.{Binder, Known}
