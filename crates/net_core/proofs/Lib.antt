@@ -25,3 +25,4 @@ pub mod Starting
 pub mod SiteReactions
 pub mod FirstRequests
 pub mod NextChoices
+pub mod Lending

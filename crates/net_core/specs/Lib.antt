@@ -22,3 +22,4 @@ pub mod Rounds
 pub mod Starting
 pub mod Searched
 pub mod Resting
+pub mod Lending
