@@ -5,8 +5,6 @@
 #[cfg(test)]
 mod cases;
 #[cfg(test)]
-mod examples;
-#[cfg(test)]
 mod faults;
 #[cfg(test)]
 mod lines;
@@ -14,8 +12,6 @@ mod lines;
 mod outcome;
 #[cfg(test)]
 mod refusals;
-#[cfg(test)]
-mod runs;
 #[cfg(test)]
 mod terms;
 #[cfg(test)]

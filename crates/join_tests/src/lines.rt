@@ -1,6 +1,7 @@
 // Words of the command line.
 
-use crate::cases::{Case, QUIET, USAGE};
+use crate::cases::USAGE;
+use worked_texts::{Case, QUIET};
 
 const LINES: &[Case] = &[
     // The default budget.

@@ -1,6 +1,7 @@
 // Texts that are refused.
 
-use crate::cases::{Case, REFUSED};
+use crate::cases::REFUSED;
+use worked_texts::Case;
 
 const REFUSALS: &[Case] = &[
     // A fault of the grammar before it belongs to a later phase.

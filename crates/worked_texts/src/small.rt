@@ -1,6 +1,6 @@
 // Texts that are run.
 
-use crate::cases::{Case, QUIET};
+use crate::case::{Case, QUIET};
 
 const RUNS: &[Case] = &[
     // The least whole run.

@@ -1,6 +1,6 @@
 // The programs of the folder `examples/`, with what they print.
 
-use crate::cases::{Case, QUIET};
+use crate::case::{Case, QUIET};
 
 const EXAMPLES: &[Case] = &[
     // applet.join
