@@ -22,3 +22,5 @@ pub mod Rounds
 pub mod Starting
 pub mod Searched
 pub mod Resting
+pub mod Played
+pub mod PlayedSoFar
