@@ -31,3 +31,4 @@ pub mod Doing
 pub mod Done
 pub mod Crossing
 pub mod ListsMade
+pub mod Lending

@@ -24,3 +24,4 @@ pub mod Searched
 pub mod Resting
 pub mod Played
 pub mod PlayedSoFar
+pub mod Lending

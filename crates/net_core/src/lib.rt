@@ -27,5 +27,6 @@ pub use laws::{
 pub use net::Net;
 pub use plays::{PlayStop, Played};
 pub use scheduling::{
-    acts_are_one, one_schedule_of_rounds, rounds_replay, schedules_of_rounds_are_one,
+    acts_are_one, lent_sites_have_turns, one_schedule_of_rounds, rounds_replay,
+    schedules_of_rounds_are_one,
 };

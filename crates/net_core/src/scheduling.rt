@@ -1,4 +1,5 @@
 // The laws of schedules.
+ghost use Rattle.net_core.specs.Lending.{LentSitesHaveTurns};
 ghost use Rattle.net_core.specs.OneAnswer.{ActsAreOne};
 ghost use Rattle.net_core.specs.Rounds.{RoundsReplay};
 ghost use Rattle.net_core.specs.Scheduling.{HasOneScheduleOfRounds, SchedulesOfRoundsAreOne};
@@ -24,4 +25,10 @@ pub fn one_schedule_of_rounds()
 /// and nothing is under way. It does nothing.
 pub fn rounds_replay()
     ensures { RoundsReplay }
+{}
+
+/// What sites that are lent at once leave of a round, in order, is what their turns leave, one
+/// after another. It does nothing.
+pub fn lent_sites_have_turns()
+    ensures { LentSitesHaveTurns }
 {}
