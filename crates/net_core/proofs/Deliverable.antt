@@ -44,7 +44,7 @@ use Rattle.router.specs.Delivering.{is_channel, can_deliver}
 
 -- ---- what has an id is an atom that is held
 
-abbrev IsHeld : AtomId → (NumberedAtom → ℕ) → Type 0
+abbrev pub IsHeld : AtomId → (NumberedAtom → ℕ) → Type 0
 IsHeld i held = (y : NumberedAtom) × (y.id ≡ i) × (0 < held y)
 
 queue_held_as : (i : AtomId) (l : Loc) (ms : List MessageParts) → list_any (is_id_of i) ms ≡ true → IsHeld i (messages_at l ms)
@@ -108,7 +108,7 @@ requests_held_as i (q ∷ qs) e = go (same_atom q.id i) refl e (λ f. more (requ
     go true c f ih = (request_atom q, same_atom_is q.id i c, omega (arith, one_self coded_atom (request_atom q)))
     go false c f ih = ih f
 
-held_as : (i : AtomId) (s : Site) → has_atom i s ≡ true → IsHeld i (atoms_of s)
+pub held_as : (i : AtomId) (s : Site) → has_atom i s ≡ true → IsHeld i (atoms_of s)
 held_as i s e =
     elim (or_cases (in_groups_of i s.groups) (list_any (λ (w : Waiting). is_id_of i w.msg) s.stuck || is_some (request_with i s.requests)) e) [
       | inl u ↦ in_groups (groups_held_as i s.groups u)

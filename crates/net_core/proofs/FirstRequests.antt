@@ -297,7 +297,7 @@ told_bare t l (request.Fail (name.Place a) k) = ap (λ b. b && is_dead (bare t) 
 told_bare t l (request.Fail (name.Seen n) k) = ap (λ b. b && false) (alive_bare t l)
 told_bare t l (request.Fail (name.Chan n m h) k) = ap (λ b. b && false) (alive_bare t l)
 
-meets_bare : (t : Tree) (x : Choice) (s : Site) → meets (bare t) x s ≡ meets t x s
+pub meets_bare : (t : Tree) (x : Choice) (s : Site) → meets (bare t) x s ≡ meets t x s
 meets_bare t (choice.React i p) s = refl
 meets_bare t (choice.Deliver f) s = refl
 meets_bare t (choice.Move a) s = by_request (request_with a s.requests)

@@ -1,7 +1,8 @@
 -- Moves, from their parts.
-use Rattle.std.proofs.Common.{◌≡◌, ℕ, zero, suc, ◌+◌, ◌<◌, ◌≤◌, Bool, true, false, cond, List, [], ◌∷◌, ◌++◌, Option, Some, None, Result, Ok, Err, length, slice_get, take, drop, refl, sym, ap, ◌∙◌, subst, arith, eqb-true}
-use Rattle.std.specs.Prelude.{slice_set, ◌-◌, ◌&&◌, IfOk, OnOk, IsTrue}
-use Rattle.std.proofs.lemmas.Bool.{and_parts}
+use Rattle.std.proofs.Common.{◌≡◌, ℕ, zero, suc, ◌+◌, ◌<◌, ◌≤◌, Bool, true, false, cond, List, [], ◌∷◌, ◌++◌, Option, Some, None, Result, Ok, Err, length, slice_get, take, drop, refl, sym, ap, ◌∙◌, subst, arith, ◌==◌, eqb-true}
+use Rattle.std.specs.Prelude.{slice_set, ◌-◌, ◌&&◌, not, nat_lt, IfOk, OnOk, IsTrue}
+use Rattle.std.proofs.lemmas.Bool.{and_parts, ltb-true}
+use Rattle.chem_model.specs.Opening.{root_of}
 use Rattle.chem_model.specs.declared.name.Loc.{Loc}
 use Rattle.chem_model.specs.declared.name.Name.{Name}
 use Rattle.chem_model.specs.declared.name.Name.TheVariants as name
@@ -13,9 +14,9 @@ use Rattle.wire_packet.specs.declared.packet.Ask.{Ask}
 use Rattle.wire_packet.specs.declared.packet.Ask.TheVariants as request
 use Rattle.wire_packet.specs.declared.packet.Request.{Request}
 use Rattle.env_store.specs.CodeParts.{CodeParts}
-use Rattle.loc_tree.specs.Tree.{Tree, spot, can_move, with_number}
+use Rattle.loc_tree.specs.Tree.{Tree, spot, number_in, is_alive, is_root, can_move, with_number}
 use Rattle.net_laws.specs.Site.{Site}
-use Rattle.net_laws.specs.Net.{Addressed, Net}
+use Rattle.net_laws.specs.Net.{Addressed, Net, among}
 use Rattle.net_laws.specs.Holding.{request_with, drop_request}
 use Rattle.net_laws.specs.Posting.{posted_of, Outcome, pour_here}
 use Rattle.net_laws.specs.Parcels.{pack, remove, take_in}
@@ -24,17 +25,19 @@ use Rattle.net_laws.specs.Meeting.{continuation_made, sent_here}
 use Rattle.site_solution.specs.Answers.{Answers}
 use Rattle.site_solution.specs.declared.effects.Effects.{Effects}
 use Rattle.migration.specs.Moves.{can_go, is_ready}
+use Rattle.migration.specs.Within.{leads_into, leads_to_one_of, goes_to_one_of}
 use Rattle.net_core.specs.declared.parts.Parts.{Parts}
 use Rattle.net_core.specs.Bare.{bare}
 use Rattle.net_core.specs.Parts.{joined, all_carried, net_of}
 use Rattle.net_core.specs.Acting.{MayGo, Stays, Leaves, Moves, stays, leaves}
 use Rattle.net_core.specs.AtSites.{MovesAt, CrossesAt}
+use Rattle.net_core.specs.Whole.{RunsSome}
 use Rattle.net_core.proofs.Carrying.{carried_append, all_carry}
 use Rattle.net_core.proofs.Deliveries.{same_net}
 use Rattle.net_core.proofs.Handed.{sent_bare, outcome_net}
 
 -- what the test says of a request to go
-can_is : (t : Tree) (a : AtomId) (s : Site) (q : Request) (target : Loc) (cont : Name) → can_go t a s ≡ true → request_with a s.requests ≡ Some q → q.ask ≡ request.Go (name.Place target) cont → can_move t q.loc target ≡ true
+pub can_is : (t : Tree) (a : AtomId) (s : Site) (q : Request) (target : Loc) (cont : Name) → can_go t a s ≡ true → request_with a s.requests ≡ Some q → q.ask ≡ request.Go (name.Place target) cont → can_move t q.loc target ≡ true
 can_is t a s q target cont can here asks =
     let ready : is_ready t (Some q) ≡ true = ap (is_ready t) (sym here) ∙ can in
     ap (λ (v : Ask). is_ready t (Some (record q { ask = v }))) (sym asks) ∙ ready
@@ -100,3 +103,30 @@ crosses_net seen old new i j a s u e at into away number can moves there trace f
       into_is = ap (slice_get old.sites.items) there ∙ into;
       new_is = subst (λ (k : ℕ). net_of seen new ≡ moved_between (net_of seen old) i k q.loc (drop_request a s) u (continuation_made seen k q.loc u.made d.cont).next (posted_of (continuation_made seen k q.loc u.made d.cont).atoms) (continuation_made seen k q.loc u.made d.cont).outs) (sym there) is;
     })
+
+-- ---- where a request leads
+
+-- the target is a root
+pub root_is : (t : Tree) (l target : Loc) → can_move t l target ≡ true → target.k ≡ 0
+root_is t l target can =
+    let second = (and_parts (is_alive t l && not (is_root t l)) (is_alive t target && is_root t target) can).1 in
+    let root = (and_parts (is_alive t target) (is_root t target) second).1 in
+    eqb-true target.k 0 (and_parts (target.k == 0) (nat_lt target.site t.roots) root).0
+
+pub root_low : (t : Tree) (l target : Loc) → can_move t l target ≡ true → target.site < t.roots
+root_low t l target can =
+    let second = (and_parts (is_alive t l && not (is_root t l)) (is_alive t target && is_root t target) can).1 in
+    let root = (and_parts (is_alive t target) (is_root t target) second).1 in
+    ltb-true target.site t.roots (and_parts (target.k == 0) (nat_lt target.site t.roots) root).1
+
+-- the site that hosts it has its number
+pub goal_here : (c : CodeParts) (net : Net) (some : RunsSome c net) (j : ℕ) (a : AtomId) (from into : Site) (q : Request) (target : Loc) (cont : Name) → slice_get net.sites j ≡ Some into → request_with a from.requests ≡ Some q → q.ask ≡ request.Go (name.Place target) cont
+    → can_go net.tree a from ≡ true → leads_into a from into ≡ true → target.site ≡ j
+goal_here c net some j a from into q target cont at here asks can leads =
+    let may = can_is net.tree a from q target cont can here asks in
+    let one : leads_to_one_of into.locs (Some q) ≡ true = ap (leads_to_one_of into.locs) (sym here) ∙ leads in
+    let among_is : among into.locs target ≡ true = ap (λ (v : Ask). goes_to_one_of into.locs v) (sym asks) ∙ one in
+    let hosted = ((some.stands.hosts j into at).locs target).0 among_is in
+    let own : target ≡ root_of target.site = let zeroed = root_is net.tree q.loc target may in λ i. record { site = target.site; k = zeroed i } in
+    let rooted : number_in (spot net.tree target) ≡ Some target.site = ap (λ (l : Loc). number_in (spot net.tree l)) own ∙ some.stands.agrees.tree.is.rooted target.site (root_low net.tree q.loc target may) in
+    let both : Some target.site ≡ Some j = sym rooted ∙ hosted in cc

@@ -7,6 +7,8 @@ pub mod Rising
 pub mod Members
 pub mod Carrying
 pub mod Deliverable
+pub mod PatternChannels
+pub mod Joins
 pub mod Fitting
 pub mod Stepping
 pub mod Deliveries
@@ -25,4 +27,8 @@ pub mod Starting
 pub mod SiteReactions
 pub mod FirstRequests
 pub mod NextChoices
+pub mod Doing
+pub mod Done
+pub mod Crossing
+pub mod ListsMade
 pub mod Lending

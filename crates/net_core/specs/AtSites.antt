@@ -1,8 +1,12 @@
 -- What a call does at one site of a list, or at two. Private contracts alone cite this.
 use Rattle.std.specs.Prelude.{◌≡◌, ℕ, List, true, Some, slice_get, slice_set, is_some, IsTrue}
+use Rattle.chem_model.specs.declared.name.Loc.{Loc}
+use Rattle.chem_model.specs.declared.name.Name.{Name}
+use Rattle.chem_model.specs.declared.name.Name.TheVariants as name
 use Rattle.chem_model.specs.declared.event.AtomId.{AtomId}
 use Rattle.chem_model.specs.declared.event.Event.{Event}
 use Rattle.chem_model.specs.Each.{Each}
+use Rattle.wire_packet.specs.declared.packet.Ask.TheVariants as ask
 use Rattle.wire_packet.specs.declared.packet.Request.{Request}
 use Rattle.env_store.specs.CodeParts.{CodeParts}
 use Rattle.loc_tree.specs.Tree.{Tree, IsFresh, with_mark}
@@ -106,3 +110,18 @@ pub record CrossesAt (seen : List ℕ) (t u : Tree) (i j : ℕ) (a : AtomId) (fr
   pub after : Site
   pub moves : IsMoveBetween seen a t from into u left after e
   pub sites : new ≡ slice_set (slice_set old i left) j after
+
+-- to wherever the request leads
+pub record MayGoAt (t : Tree) (sites : List Site) (i : ℕ) (a : AtomId) : Type 0 where
+  pub site : Site
+  pub site_is : slice_get sites i ≡ Some site
+  pub can : can_go t a site ≡ true
+
+-- the site with this number has a request to go to a location
+pub record HasGoal (sites : List Site) (i : ℕ) (a : AtomId) (target : Loc) : Type 0 where
+  pub site : Site
+  pub site_is : slice_get sites i ≡ Some site
+  pub request : Request
+  pub here : request_with a site.requests ≡ Some request
+  pub cont : Name
+  pub asks : request.ask ≡ ask.Go (name.Place target) cont

@@ -22,4 +22,6 @@ pub mod Rounds
 pub mod Starting
 pub mod Searched
 pub mod Resting
+pub mod Played
+pub mod PlayedSoFar
 pub mod Lending

@@ -5,14 +5,16 @@ ghost use Rattle.chem_model.specs.declared.event.Event.TheVariants as event;
 ghost use Rattle.env_store.specs.CodeParts.{CodeParts};
 ghost use Rattle.net_laws.specs.Site.{Site as site_seen};
 ghost use Rattle.reducer.specs.Picks.{Picked, Picks, IsPick};
-ghost use Rattle.net_core.specs.Acting.{Reacts, Halts, Detects};
+ghost use Rattle.net_core.specs.Acting.{Reacts, Halts, Detects, Moves};
 ghost use Rattle.net_core.specs.AtSites.{MayReactAt, MayHaltAt, MayDetectAt};
+ghost use Rattle.net_core.specs.AtSites.{MayMoveAt, MayCrossAt};
 ghost use Rattle.net_core.specs.Handing.{AreAsBefore};
 ghost use Rattle.net_core.specs.Parts.{net_of};
 ghost use Rattle.net_core.specs.Whole.{IsWhole};
 
 use crate::handing::{add_births, add_flights, make_room};
 use crate::meeting::{detect_at, halt_at};
+use crate::moving::{cross, move_at};
 use crate::parts::Parts;
 use crate::pieces::add_piece;
 use crate::reacting::react_at;
@@ -95,4 +97,68 @@ pub(crate) fn react_pick(
     add_piece(&mut parts.trace, effects.outs);
     add_flights(&mut parts.flights, &mut parts.under_way, effects.sends);
     Ok(event)
+}
+
+// Meets a request of the site with this number to go to a location that it hosts itself.
+pub(crate) fn move_here(
+    alloc: Global,
+    parts: &mut Parts,
+    counts: &Nums,
+    number: usize,
+    atom: &AtomId,
+) -> Result<Event, Memory>
+    requires whole { (c : CodeParts) × (events : ℕ) × IsWhole c parts.old events }
+    requires may { MayMoveAt parts.old.tree parts.old.sites.items number atom.now }
+    ensures event { IfOk result (λ e. e ≡ event.Move atom.now) }
+    ensures moves { OnOk result (Moves (net_of counts.now parts.old) atom.now
+        (net_of counts.now parts.new)) }
+    ensures whole { OnOk result ((c : CodeParts) (events : ℕ) → c.seen ≡ counts.now
+        → events < 2 ^ 32 → IsWhole c parts.old events → IsWhole c parts.new (events + 1)) }
+    ensures err { OnErr result (AreAsBefore parts.old parts.new) }
+{
+    make_room(alloc, parts, 0, 1)?;
+    let effects = move_at(
+        alloc,
+        &mut parts.sites,
+        &mut parts.tree,
+        counts,
+        number,
+        atom,
+    )?;
+    add_piece(&mut parts.trace, effects.outs);
+    add_flights(&mut parts.flights, &mut parts.under_way, effects.sends);
+    Ok(Event::Move { atom: *atom })
+}
+
+// Meets a request of one site to go to a location that another one hosts.
+pub(crate) fn move_over(
+    alloc: Global,
+    parts: &mut Parts,
+    code: &Code,
+    from: usize,
+    into: usize,
+    atom: &AtomId,
+) -> Result<Event, Memory>
+    requires whole { (events : ℕ) × IsWhole code.now parts.old events }
+    requires may { MayCrossAt parts.old.tree parts.old.sites.items from into atom.now }
+    ensures event { IfOk result (λ e. e ≡ event.Move atom.now) }
+    ensures moves { OnOk result (Moves (net_of code.now.seen parts.old) atom.now
+        (net_of code.now.seen parts.new)) }
+    ensures whole { OnOk result ((events : ℕ) → events < 2 ^ 32
+        → IsWhole code.now parts.old events → IsWhole code.now parts.new (events + 1)) }
+    ensures err { OnErr result (AreAsBefore parts.old parts.new) }
+{
+    make_room(alloc, parts, 0, 1)?;
+    let effects = cross(
+        alloc,
+        &mut parts.sites,
+        &mut parts.tree,
+        code,
+        from,
+        into,
+        atom,
+    )?;
+    add_piece(&mut parts.trace, effects.outs);
+    add_flights(&mut parts.flights, &mut parts.under_way, effects.sends);
+    Ok(Event::Move { atom: *atom })
 }

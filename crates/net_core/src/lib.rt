@@ -1,16 +1,19 @@
 //! A network of sites on one thread.
 #![tactic(auto)]
 
+mod acting;
 mod choice;
 mod delivering;
 mod events;
 mod handing;
 mod laws;
 mod meeting;
+mod moving;
 mod net;
 mod opening;
 mod parts;
 mod pieces;
+mod plays;
 mod reacting;
 mod scheduling;
 mod searching;
@@ -22,6 +25,7 @@ pub use laws::{
     reactions_bear_new,
 };
 pub use net::Net;
+pub use plays::{PlayStop, Played};
 pub use scheduling::{
     acts_are_one, lent_sites_have_turns, one_schedule_of_rounds, rounds_replay,
     schedules_of_rounds_are_one,

@@ -1,0 +1,5 @@
+use Rattle.net_core.specs.PlayedSoFar.{IsPlaying}
+use Rattle.net_core.proofs.net.Net.play.Given as goal
+
+abbrev pub invariant-loop-at : goal.invariant-loop-at
+invariant-loop-at l = IsPlaying l.fn.self l.choices l.at l.events.items l.self
