@@ -1,3 +1,4 @@
 pub mod Firsts
 pub mod Moves
 pub mod Founds
+pub mod Entries

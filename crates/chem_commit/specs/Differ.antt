@@ -1,4 +1,5 @@
--- That the locations of a list differ, and its rules, so that each is found wherever it stands.
+-- That the locations of a list differ, and its rules, so that each is found wherever it stands. What
+-- stands here, private contracts alone cite.
 use Rattle.std.specs.Prelude.{ℕ, ◌≤◌, List}
 use Rattle.chem_model.specs.declared.numbered.Placed.{Placed}
 use Rattle.chem_model.specs.declared.numbered.NumberedRule.{NumberedRule}

@@ -1,7 +1,7 @@
 -- What the parts of making an event promise: what is added and taken out, and what an event pours
 -- or marks.
 use Rattle.std.specs.Prelude.{◌≡◌, ℕ, ◌+◌, List, [], ◌∷◌, ◌++◌, Option, Some, None, true, cond}
-use Rattle.std.specs.Prelude.{length, take}
+use Rattle.std.specs.Prelude.{◌<◌, length, take, get_or}
 use Rattle.chem_model.specs.declared.name.Loc.{Loc}
 use Rattle.chem_model.specs.declared.event.AtomId.{AtomId}
 use Rattle.chem_model.specs.Solution.{same_loc}
@@ -28,6 +28,10 @@ hosted a h p = cond (same_loc p.loc a) (record p { host = Some h }) p
 -- and the entry of a marked
 abbrev pub marked : Loc → Placed → Placed
 marked a p = cond (same_loc p.loc a) (record p { marked = true }) p
+
+-- the entry at this place is the one of a
+abbrev pub IsEntry : List Placed → ℕ → Loc → Placed → Type 0
+IsEntry ps i a p = (i < length ps) × (p ≡ get_or ps i p) × (same_loc p.loc a ≡ true)
 
 -- what was made stands at the ends of the lists; the counts are as before
 abbrev pub appended : Numbered → Made → Numbered

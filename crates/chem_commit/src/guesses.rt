@@ -164,6 +164,37 @@ fn guessed<'a>(guesses: &Guesses, places: &'a PlacedList, at: Loc) -> Option<&'a
     None
 }
 
+/// Whether the entry of a location stands at this place of the list.
+fn is_place_of(places: &PlacedList, place: usize, at: Loc) -> bool {
+    match places.as_slice().get(place) {
+        Some(placed) => same_loc(placed.loc, at),
+        None => false,
+    }
+}
+
+/// The place in the list at which the entry of a location seems to stand, by what is guessed.
+pub(crate) fn seeming_place(solution: &Numbered, guesses: &Guesses, at: Loc) -> usize {
+    let places = &solution.places;
+    if is_place_of(places, at.site as usize, at) {
+        return at.site as usize;
+    }
+    let table = guesses.places.slots.as_slice();
+    let slots = table.len();
+    let mut slot = first_slot(at.site, at.k, slots);
+    for _step in 0..slots {
+        match table.get(slot) {
+            Some(entry) => {
+                if *entry == u32::MAX || is_place_of(places, *entry as usize, at) {
+                    return *entry as usize;
+                }
+            }
+            None => return slots,
+        }
+        slot = next_slot(slot, slots);
+    }
+    slots
+}
+
 /// The entry of a location, looked for from the newest on.
 fn newest(places: &PlacedList, at: Loc) -> Option<&Placed>
     requires { PlacesDiffer places.now }

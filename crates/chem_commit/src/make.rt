@@ -7,7 +7,7 @@ ghost use Rattle.chem_commit.specs.Replaces.{Replaces, takes_memory};
 
 use crate::add::add;
 use crate::effect::{departure, detection, failing, reaction};
-use crate::guesses::Guesses;
+use crate::guesses::{Guesses, seeming_place};
 use crate::take::{set_host, set_mark, take_out, take_out_all};
 use chem_model::{AtomId, Atoms, Event, Memory, Numbered, RuleId};
 use std::alloc::Global;
@@ -54,9 +54,10 @@ fn depart(
         Some(effect) => {
             let atoms = solution.atoms.len();
             let places = solution.places.len();
+            let place = seeming_place(solution, guesses, effect.at);
             add(solution, effect.root.site, effect.made)?;
             take_out(&mut solution.atoms, atoms, id);
-            set_host(&mut solution.places, places, effect.at, effect.root);
+            set_host(&mut solution.places, places, place, effect.at, effect.root);
             Ok(true)
         }
         None => Ok(false),
@@ -72,8 +73,9 @@ fn halt(solution: &mut Numbered, guesses: &Guesses, id: AtomId) -> bool
     match failing(solution, guesses, id) {
         Some(at) => {
             let count = solution.atoms.len();
+            let place = seeming_place(solution, guesses, at);
             take_out(&mut solution.atoms, count, id);
-            set_mark(&mut solution.places, at);
+            set_mark(&mut solution.places, place, at);
             true
         }
         None => false,

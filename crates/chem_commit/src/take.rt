@@ -1,7 +1,8 @@
 // Changes of the first members of a list alone: what was appended behind them stays as it is.
-ghost use Rattle.std.specs.Prelude.{◌≡◌, ◌≤◌, ◌++◌, length, take, drop};
+ghost use Rattle.std.specs.Prelude.{◌≡◌, ◌≤◌, ◌++◌, length, take, drop, IfSome};
 ghost use Rattle.chem_model.specs.Apply.{without, without_all, with_hosts, with_marks};
-ghost use Rattle.chem_commit.specs.Parts.{place_from, hosted, marked};
+ghost use Rattle.chem_commit.specs.Parts.{place_from, hosted, marked, IsEntry};
+ghost use Rattle.chem_commit.specs.Differ.{PlacesDiffer};
 
 use chem_model::{AtomId, Atoms, Loc, NumberedAtoms, Placed, PlacedList, same_loc};
 use chem_plain::same_atom;
@@ -77,8 +78,9 @@ fn marked(placed: Placed, at: Loc) -> Placed
     }
 }
 
-/// Gives a location another host, where it is among the first ones.
-pub(crate) fn set_host(places: &mut PlacedList, count: usize, at: Loc, host: Loc)
+/// Gives a location another host, where it is among the first ones, each entry of which is looked
+/// at.
+fn set_each_host(places: &mut PlacedList, count: usize, at: Loc, host: Loc)
     ensures { places.new ≡ with_hosts at host (take count places.old) ++ drop count places.old }
 {
     for index in 0..count {
@@ -89,8 +91,8 @@ pub(crate) fn set_host(places: &mut PlacedList, count: usize, at: Loc, host: Loc
     }
 }
 
-/// Marks a location.
-pub(crate) fn set_mark(places: &mut PlacedList, at: Loc)
+/// Marks a location: each entry is looked at.
+fn set_each_mark(places: &mut PlacedList, at: Loc)
     ensures { places.new ≡ with_marks at places.old }
 {
     for index in 0..places.len() {
@@ -98,5 +100,52 @@ pub(crate) fn set_mark(places: &mut PlacedList, at: Loc)
             let changed = marked(*placed, at);
             places.set(index, changed);
         }
+    }
+}
+
+/// The entry at this place, where it is a location's.
+fn entry_of(places: &PlacedList, place: usize, at: Loc) -> Option<Placed>
+    ensures { IfSome result (IsEntry places.now place at) }
+{
+    match places.as_slice().get(place) {
+        Some(placed) => {
+            if same_loc(placed.loc, at) {
+                Some(*placed)
+            } else {
+                None
+            }
+        }
+        None => None,
+    }
+}
+
+/// Gives a location another host, where it is among the first ones. It seems to stand at this
+/// place.
+#[tactic(auto, using(crate::proofs::Entries::host_changed))]
+pub(crate) fn set_host(places: &mut PlacedList, count: usize, place: usize, at: Loc, host: Loc)
+    requires { PlacesDiffer (take count places.old) }
+    ensures { places.new ≡ with_hosts at host (take count places.old) ++ drop count places.old }
+{
+    if place < count {
+        if let Some(placed) = entry_of(places, place, at) {
+            places.set(place, hosted(placed, at, host));
+            return;
+        }
+    }
+    set_each_host(places, count, at, host);
+}
+
+/// Marks a location. It seems to stand at this place.
+#[tactic(auto, using(crate::proofs::Entries::mark_changed))]
+pub(crate) fn set_mark(places: &mut PlacedList, place: usize, at: Loc)
+    requires { PlacesDiffer places.old }
+    ensures { places.new ≡ with_marks at places.old }
+{
+    match entry_of(places, place, at) {
+        Some(placed) => {
+            let changed = marked(placed, at);
+            places.set(place, changed);
+        }
+        None => set_each_mark(places, at),
     }
 }

@@ -57,13 +57,26 @@ told_next size old new g xs i a h e told so_far =
     let next : suc i ≡ i + 1 = omega arith in
     subst (λ (k : ℕ). are_told size new (take k xs) ≡ true) next (more_told size old new g xs i a h e told so_far)
 
+-- the empty table excludes no channel
+told_by_none : (size : ℕ) (p : Process) → is_told size [] p ≡ true
+told_by_none size (Msg x vs) = refl
+told_by_none size (Par ps) = refl
+told_by_none size (Def ds p) = refl
+told_by_none size (Go b k) = refl
+told_by_none size (Fail a k) = refl
+told_by_none size Halt = refl
+
+pub none_excluded : (size : ℕ) (atoms : List NumberedAtom) → are_told size [] atoms ≡ true
+none_excluded size [] = refl
+none_excluded size (a ∷ atoms) = true_both (is_told size [] a.term) (are_told size [] atoms) (told_by_none size a.term) (none_excluded size atoms)
+
 -- ---- what a pattern receives is on a channel that is told
 
-some_here : {X : Type 0} (t : Bool) (o : Option X) → is_some (cond t o None) ≡ true → is_some o ≡ true
+pub some_here : {X : Type 0} (t : Bool) (o : Option X) → is_some (cond t o None) ≡ true → is_some o ≡ true
 some_here true o h = h
 some_here false o h = cc
 
-when_some : {X : Type 0} (t : Bool) (x : X) → is_some (cond t (Some x) None) ≡ true → t ≡ true
+pub when_some : {X : Type 0} (t : Bool) (x : X) → is_some (cond t (Some x) None) ≡ true → t ≡ true
 when_some true x h = refl
 when_some false x h = cc
 

@@ -8,3 +8,6 @@ pub mod SomeFirst
 pub mod Replays
 pub mod Quiets
 pub mod Hearing
+pub mod Filed
+pub mod Looked
+pub mod Behind

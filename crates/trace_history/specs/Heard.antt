@@ -1,6 +1,7 @@
 -- A table of the channels that may have a message, by the numbers of the channels. A channel that
--- has one is never missing; one that has none may be there.
-use Rattle.std.specs.Prelude.{◌≡◌, ℕ, ◌%◌, List, get_or, Bool, true}
+-- has one is never missing; one that has none may be there. Private contracts alone cite what
+-- stands here.
+use Rattle.std.specs.Prelude.{◌≡◌, ℕ, ◌+◌, ◌*◌, ◌%◌, List, get_or, Bool, true}
 use Rattle.std.specs.List.{list_all}
 use Rattle.chem_model.specs.declared.name.Name.TheVariants as name
 use Rattle.chem_model.specs.declared.name.Ref.{Ref}
@@ -9,12 +10,13 @@ use Rattle.chem_model.specs.declared.name.Pat.{Pat}
 use Rattle.chem_model.specs.declared.numbered.NumberedAtom.{NumberedAtom}
 use Rattle.chem_model.specs.Process.{Process, Msg, Par, Def, Go, Fail, Halt}
 
--- the place of a channel in a table of so many; any other name has the first one
+-- the place of a channel in a table of so many: channels of two sites with the same number have two
+-- places, mostly. Any other name has the first one
 abbrev pub slot_of : ℕ → Ref → ℕ
 slot_of size (Binder b) = 0
 slot_of size (Known (name.Seen i)) = 0
 slot_of size (Known (name.Place a)) = 0
-slot_of size (Known (name.Chan s k h)) = k % size
+slot_of size (Known (name.Chan s k h)) = (k % 4294967296 + s * 7919) % size
 
 -- the table doesn't exclude that the channel has a message
 abbrev pub is_heard : ℕ → List Bool → Ref → Bool

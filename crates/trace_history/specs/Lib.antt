@@ -3,3 +3,4 @@ pub mod First
 pub mod Book
 pub mod Search
 pub mod Heard
+pub mod Waiting

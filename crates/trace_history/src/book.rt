@@ -11,6 +11,7 @@ ghost use Rattle.trace_history.specs.Book.{Commits, IsAStart, IsAReduction, OnSo
 ghost use Rattle.trace_history.specs.Book.{IsStuck, IsQuiet, Finds, Replays};
 
 use crate::search::{first_event, is_stuck};
+use crate::waiting::{Waiting, file};
 use chem_commit::{Guesses, make_event, note};
 use chem_laws::{event_is_a_reduction, opening_is_a_start, replay_is_a_run, stuck_is_quiet};
 use chem_model::{Event, Items, Journal, Memory, Name, Naming, Numbered, Outs, Program};
@@ -63,6 +64,7 @@ pub struct Book {
     journal: Journal,
     solution: Numbered,
     guesses: Guesses,
+    waiting: Waiting,
 }
 
 impl Model for Book {
@@ -76,11 +78,15 @@ impl Model for Book {
 
     ghost view = { λ b. record { program = b.program; journal = b.journal } };
 
-    ghost invariant = { λ b. replay b.program b.journal ≡ Some b.solution };
+    ghost use Rattle.trace_history.specs.Waiting.{AreFiled};
+
+    ghost invariant = { λ b. (replay b.program b.journal ≡ Some b.solution)
+        × AreFiled b.waiting.heads.items b.waiting.links.items b.solution.rules };
 }
 
 impl Book {
     /// The book of a program's opening, which stands for a start of the program.
+    #[tactic(auto, using(crate::proofs::Filed::none_filed))]
     pub fn start(alloc: Global, program: &Program) -> Result<Book, Memory>
         ensures opening { IfOk result (λ book.
             book ≡ record { program = program.now; journal = [] }) }
@@ -92,11 +98,14 @@ impl Book {
         let solution = opening(alloc, &program)?;
         let mut guesses = Guesses::new(alloc);
         note(alloc, &mut guesses, &solution)?;
+        let mut waiting = Waiting::new(alloc)?;
+        file(alloc, &mut waiting, &solution)?;
         Ok(Book {
             program,
             journal: Items::new(alloc),
             solution,
             guesses,
+            waiting,
         })
     }
 
@@ -112,6 +121,7 @@ impl Book {
         self.is_sound();
         event_is_a_reduction();
         note(alloc, &mut self.guesses, &self.solution)?;
+        file(alloc, &mut self.waiting, &self.solution)?;
         let place = self.journal.len();
         let copy = event.copy(alloc)?;
         self.journal.push(copy)?;
@@ -142,7 +152,7 @@ impl Book {
     {
         self.is_sound();
         stuck_is_quiet();
-        is_stuck(&self.solution, &self.guesses)
+        is_stuck(&self.solution, &self.guesses, &self.waiting)
     }
 
     /// The event that comes first, where the site `from` is looked at first, and its site. None
@@ -155,7 +165,7 @@ impl Book {
         ensures memory { OnErr result (IsStuck self.now → ⊥) }
     {
         self.is_sound();
-        first_event(alloc, &self.solution, &self.guesses, from)
+        first_event(alloc, &self.solution, &self.guesses, &self.waiting, from)
     }
 
     /// The events since the opening.

@@ -7,12 +7,14 @@ ghost use Rattle.trace_history.specs.Heard.{may_be_met};
 use chem_model::{Name, NumberedAtoms, Pats, Proc, ProcNode, Ref};
 
 /// The place of a channel in a table of so many. Any other name has the first one.
-fn slot_of(size: u64, on: Ref) -> usize
+pub(crate) fn slot_of(size: u64, on: Ref) -> usize
     requires { 0 < size }
     ensures { result ≡ slot_of size on }
 {
     match on {
-        Ref::Known(Name::Chan { k, .. }) => (k % size) as usize,
+        Ref::Known(Name::Chan { site, k, .. }) => {
+            ((k % 4_294_967_296 + site as u64 * 7919) % size) as usize
+        }
         _ => 0,
     }
 }

@@ -4,5 +4,6 @@
 mod book;
 mod heard;
 mod search;
+mod waiting;
 
 pub use book::{Book, Commit, Found};

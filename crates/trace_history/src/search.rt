@@ -1,6 +1,6 @@
 // The search for the event that comes first, over the plain lists.
-ghost use Rattle.std.specs.Prelude.{◌≡◌, ◌<◌, ◌^◌, ◌&&◌, ◌↔◌, length, true, IfOk, IsTrue, OnErr};
-ghost use Rattle.std.specs.Prelude.{None};
+ghost use Rattle.std.specs.Prelude.{◌≡◌, ℕ, ◌<◌, ◌≤◌, ◌^◌, ◌&&◌, ◌↔◌, length, true, IfOk, IfSome};
+ghost use Rattle.std.specs.Prelude.{IsTrue, OnErr, None};
 ghost use Rattle.std.specs.List.{list_all};
 ghost use Rattle.std.specs.Option.{option_copied};
 ghost use Rattle.chem_model.specs.Sound.{IsSound};
@@ -10,9 +10,12 @@ ghost use Rattle.trace_history.specs.Search.{IsFirstOf, beats, receives, atom_be
 ghost use Rattle.trace_history.specs.Search.{is_met, AreLeast, is_ready, turn};
 ghost use Rattle.trace_history.specs.Search.{rule_before, can_act, request_before};
 ghost use Rattle.trace_history.specs.Search.{event_of, IsReaction, IsMeeting, IsFound};
+ghost use Rattle.trace_history.specs.Waiting.{AreFiled, Reaches, Betters, IsLookedAt};
+ghost use Rattle.trace_history.specs.Waiting.{IsSlotLookedAt};
 
 use crate::book::Found;
 use crate::heard::{hear_all, may_be_met};
+use crate::waiting::{Waiting, is_same_slot, slot_of_term};
 use chem_commit::{Guesses, can_detect, can_go, is_live, root_of};
 use chem_model::{
     AtomId, Atoms, Event, Items, Loc, Memory, Numbered, NumberedAtom, NumberedRule, Pat, Pats,
@@ -188,72 +191,256 @@ fn is_better(
     is_earlier_rule(numbered, guesses, from, rule, first) && is_ready(numbered, guesses, rule)
 }
 
-/// The first of the rules that are ready, by a table of the channels that have a message.
-fn first_heard<'a>(
+/// The better one of the rule at this place of the list, where it is ready, and the one that was
+/// found so far, where this table has the channels of all messages.
+fn better_at<'a>(
     numbered: &'a Numbered,
     guesses: &Guesses,
     size: u64,
-    heard: &mut [bool],
+    heard: &[bool],
+    from: u32,
+    place: usize,
+    found: Option<&'a NumberedRule>,
+) -> Option<&'a NumberedRule>
+    requires sound { IsSound numbered.now }
+    requires size { 0 < size }
+    requires told { are_told size heard.now numbered.now.atoms ≡ true }
+    ensures better { Betters numbered.now from (option_copied found.entry) (option_copied result) }
+    ensures looked { IsLookedAt numbered.now from place (option_copied result) }
+{
+    match numbered.rules.as_slice().get(place) {
+        Some(rule) => {
+            if is_better(numbered, guesses, size, heard, from, rule, found) {
+                Some(rule)
+            } else {
+                found
+            }
+        }
+        None => found,
+    }
+}
+
+/// The best one of the rules that wait from a place on, and of the one that was found so far.
+fn best_of_chain<'a>(
+    numbered: &'a Numbered,
+    guesses: &Guesses,
+    links: &[u32],
+    size: u64,
+    heard: &[bool],
+    from: u32,
+    head: u32,
+    found: Option<&'a NumberedRule>,
+) -> Option<&'a NumberedRule>
+    requires sound { IsSound numbered.now }
+    requires size { 0 < size }
+    requires told { are_told size heard.now numbered.now.atoms ≡ true }
+    ensures better { Betters numbered.now from (option_copied found.entry) (option_copied result) }
+    ensures looked { (j : ℕ) → Reaches (length links.now) links.now head j →
+        IsLookedAt numbered.now from j (option_copied result) }
+{
+    let mut best = found;
+    let mut place = head;
+    let mut left = links.len();
+    while left > 0 {
+        left -= 1;
+        match links.get(place as usize) {
+            Some(next) => {
+                best = better_at(numbered, guesses, size, heard, from, place as usize, best);
+                place = *next;
+            }
+            None => return best,
+        }
+    }
+    best
+}
+
+/// The best one of the rules that wait at a slot, and of the one that was found so far.
+fn best_of_slot<'a>(
+    numbered: &'a Numbered,
+    guesses: &Guesses,
+    waiting: &Waiting,
+    size: u64,
+    heard: &[bool],
+    from: u32,
+    slot: Option<usize>,
+    found: Option<&'a NumberedRule>,
+) -> Option<&'a NumberedRule>
+    requires sound { IsSound numbered.now }
+    requires size { 0 < size }
+    requires told { are_told size heard.now numbered.now.atoms ≡ true }
+    requires within { IfSome slot (λ s. s < length waiting.now.heads.items) }
+    ensures better { Betters numbered.now from (option_copied found.entry) (option_copied result) }
+    ensures looked { IsSlotLookedAt numbered.now from waiting.now.heads.items
+        waiting.now.links.items slot (option_copied result) }
+{
+    match slot {
+        Some(slot) => {
+            let head = waiting.heads[slot];
+            let links = waiting.links.as_slice();
+            best_of_chain(numbered, guesses, links, size, heard, from, head, found)
+        }
+        None => found,
+    }
+}
+
+/// The same where those of another slot were looked at, which may be this one.
+fn best_of_next_slot<'a>(
+    numbered: &'a Numbered,
+    guesses: &Guesses,
+    waiting: &Waiting,
+    size: u64,
+    heard: &[bool],
+    from: u32,
+    slot: Option<usize>,
+    last: Option<usize>,
+    found: Option<&'a NumberedRule>,
+) -> Option<&'a NumberedRule>
+    requires sound { IsSound numbered.now }
+    requires size { 0 < size }
+    requires told { are_told size heard.now numbered.now.atoms ≡ true }
+    requires within { IfSome slot (λ s. s < length waiting.now.heads.items) }
+    requires last { IsSlotLookedAt numbered.now from waiting.now.heads.items waiting.now.links.items
+        last (option_copied found) }
+    ensures better { Betters numbered.now from (option_copied found.entry) (option_copied result) }
+    ensures looked { IsSlotLookedAt numbered.now from waiting.now.heads.items
+        waiting.now.links.items slot (option_copied result) }
+{
+    if is_same_slot(slot, last) {
+        found
+    } else {
+        best_of_slot(numbered, guesses, waiting, size, heard, from, slot, found)
+    }
+}
+
+/// The best one of the rules that were not noted.
+fn best_of_rest<'a>(
+    numbered: &'a Numbered,
+    guesses: &Guesses,
+    noted: usize,
+    size: u64,
+    heard: &[bool],
     from: u32,
 ) -> Option<&'a NumberedRule>
     requires sound { IsSound numbered.now }
     requires size { 0 < size }
+    requires told { are_told size heard.now numbered.now.atoms ≡ true }
+    ensures better { Betters numbered.now from None (option_copied result) }
+    ensures looked { (j : ℕ) → noted ≤ j → j < length numbered.now.rules →
+        IsLookedAt numbered.now from j (option_copied result) }
+{
+    let count = numbered.rules.len();
+    let mut best = None;
+    let mut place = noted;
+    while place < count {
+        best = better_at(numbered, guesses, size, heard, from, place, best);
+        place += 1;
+    }
+    best
+}
+
+/// The first of the rules that are ready, of those that wait for a message that is there, where
+/// this table has the channels of all messages.
+fn first_waiting<'a>(
+    numbered: &'a Numbered,
+    guesses: &Guesses,
+    waiting: &Waiting,
+    size: u64,
+    heard: &[bool],
+    from: u32,
+) -> Option<&'a NumberedRule>
+    requires sound { IsSound numbered.now }
+    requires filed { AreFiled waiting.now.heads.items waiting.now.links.items numbered.now.rules }
+    requires size { 0 < size }
+    requires told { are_told size heard.now numbered.now.atoms ≡ true }
     ensures { IsFirstOf (is_ready numbered.now) (rule_before numbered.now from) numbered.now.rules
         (option_copied result) }
 {
-    hear_all(size, heard, &numbered.atoms);
-    let mut first: Option<&NumberedRule> = None;
-    for rule in numbered.rules.as_slice() {
-        if is_better(numbered, guesses, size, heard, from, rule, first) {
-            first = Some(rule);
-        }
+    let slots = waiting.heads.as_slice().len() as u64;
+    let noted = waiting.links.as_slice().len();
+    let mut best = best_of_rest(numbered, guesses, noted, size, heard, from);
+    let mut last = None;
+    for atom in numbered.atoms.as_slice() {
+        let slot = slot_of_term(slots, &atom.term);
+        best = best_of_next_slot(
+            numbered, guesses, waiting, size, heard, from, slot, last, best,
+        );
+        last = slot;
     }
-    first
+    best
 }
 
-/// The first of the rules that are ready, where there are few messages: by a small table.
+/// The first of the rules that are ready, where there are few messages.
+fn first_by_no_table<'a>(
+    numbered: &'a Numbered,
+    guesses: &Guesses,
+    waiting: &Waiting,
+    from: u32,
+) -> Option<&'a NumberedRule>
+    requires sound { IsSound numbered.now }
+    requires filed { AreFiled waiting.now.heads.items waiting.now.links.items numbered.now.rules }
+    ensures { IsFirstOf (is_ready numbered.now) (rule_before numbered.now from) numbered.now.rules
+        (option_copied result) }
+{
+    let heard: [bool; 0] = [];
+    first_waiting(numbered, guesses, waiting, 1, &heard, from)
+}
+
+/// The same where there are more: by a small table of the channels that have a message.
 fn first_by_small_table<'a>(
     numbered: &'a Numbered,
     guesses: &Guesses,
+    waiting: &Waiting,
     from: u32,
 ) -> Option<&'a NumberedRule>
-    requires { IsSound numbered.now }
+    requires sound { IsSound numbered.now }
+    requires filed { AreFiled waiting.now.heads.items waiting.now.links.items numbered.now.rules }
     ensures { IsFirstOf (is_ready numbered.now) (rule_before numbered.now from) numbered.now.rules
         (option_copied result) }
 {
     let mut heard = [false; 1024];
-    first_heard(numbered, guesses, 1024, &mut heard, from)
+    hear_all(1024, &mut heard, &numbered.atoms);
+    first_waiting(numbered, guesses, waiting, 1024, &heard, from)
 }
 
-/// The first of the rules that are ready, by a large table.
+/// The same by a large table.
 fn first_by_large_table<'a>(
     numbered: &'a Numbered,
     guesses: &Guesses,
+    waiting: &Waiting,
     from: u32,
 ) -> Option<&'a NumberedRule>
-    requires { IsSound numbered.now }
+    requires sound { IsSound numbered.now }
+    requires filed { AreFiled waiting.now.heads.items waiting.now.links.items numbered.now.rules }
     ensures { IsFirstOf (is_ready numbered.now) (rule_before numbered.now from) numbered.now.rules
         (option_copied result) }
 {
     let mut heard = [false; 65_536];
-    first_heard(numbered, guesses, 65_536, &mut heard, from)
+    hear_all(65_536, &mut heard, &numbered.atoms);
+    first_waiting(numbered, guesses, waiting, 65_536, &heard, from)
 }
 
-/// The first of the rules that are ready. A table is made where there are many rules, or few
-/// messages to put into it.
-fn first_rule<'a>(numbered: &'a Numbered, guesses: &Guesses, from: u32) -> Option<&'a NumberedRule>
-    requires { IsSound numbered.now }
+/// The first of the rules that are ready. Few rules are all looked at; of many, those that wait for
+/// a message that is there.
+fn first_rule<'a>(
+    numbered: &'a Numbered,
+    guesses: &Guesses,
+    waiting: &Waiting,
+    from: u32,
+) -> Option<&'a NumberedRule>
+    requires sound { IsSound numbered.now }
+    requires filed { AreFiled waiting.now.heads.items waiting.now.links.items numbered.now.rules }
     ensures { IsFirstOf (is_ready numbered.now) (rule_before numbered.now from) numbered.now.rules
         (option_copied result) }
 {
-    let rules = numbered.rules.len();
     let atoms = numbered.atoms.len();
-    if rules < 4 || (rules < 64 && atoms >= 32) {
+    if numbered.rules.len() < 4 {
         first_of_few(numbered, guesses, from)
+    } else if atoms < 8 {
+        first_by_no_table(numbered, guesses, waiting, from)
     } else if atoms < 128 {
-        first_by_small_table(numbered, guesses, from)
+        first_by_small_table(numbered, guesses, waiting, from)
     } else {
-        first_by_large_table(numbered, guesses, from)
+        first_by_large_table(numbered, guesses, waiting, from)
     }
 }
 
@@ -373,13 +560,15 @@ pub(crate) fn first_event(
     alloc: Global,
     numbered: &Numbered,
     guesses: &Guesses,
+    waiting: &Waiting,
     from: u32,
 ) -> Result<Option<Found>, Memory>
-    requires { IsSound numbered.now }
+    requires sound { IsSound numbered.now }
+    requires filed { AreFiled waiting.now.heads.items waiting.now.links.items numbered.now.rules }
     ensures found { IfOk result (λ found. IsFound numbered.now from found) }
     ensures memory { OnErr result (IsFound numbered.now from None → ⊥) }
 {
-    match first_rule(numbered, guesses, from) {
+    match first_rule(numbered, guesses, waiting, from) {
         Some(rule) => match first_request(numbered, guesses, from) {
             Some(request) => {
                 if turn(numbered, guesses, from, request.loc)
@@ -403,11 +592,12 @@ pub(crate) fn first_event(
 }
 
 /// Whether no event is possible.
-pub(crate) fn is_stuck(numbered: &Numbered, guesses: &Guesses) -> bool
-    requires { IsSound numbered.now }
+pub(crate) fn is_stuck(numbered: &Numbered, guesses: &Guesses, waiting: &Waiting) -> bool
+    requires sound { IsSound numbered.now }
+    requires filed { AreFiled waiting.now.heads.items waiting.now.links.items numbered.now.rules }
     ensures { IsTrue result ↔ IsFound numbered.now 0 None }
 {
-    match first_rule(numbered, guesses, 0) {
+    match first_rule(numbered, guesses, waiting, 0) {
         Some(_) => false,
         None => match first_request(numbered, guesses, 0) {
             Some(_) => false,

@@ -2,8 +2,8 @@
 use Rattle.std.proofs.Common.{◌∙◌}
 use Rattle.chem_commit.specs.Parts.{hosted}
 use Rattle.chem_commit.proofs.Firsts.{changed_next, past_next}
-use Rattle.chem_commit.proofs.take.set_host.Goals as goal
-use Rattle.chem_commit.proofs.take.set_host.Goals.{in-Some, in_default}
+use Rattle.chem_commit.proofs.take.set_each_host.Goals as goal
+use Rattle.chem_commit.proofs.take.set_each_host.Goals.{in-Some, in_default}
 
 pub loop-index-preserved : goal.loop-index-preserved
 loop-index-preserved c =
