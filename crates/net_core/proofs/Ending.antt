@@ -67,7 +67,7 @@ module _ (c : CodeParts) where
   turn_does : (quota i old left : ℕ) (net new : Net) (es : List Event) → IsTurn c quota i old net left es new → DoesAll c net es new
   turn_does quota i old left net new es turn = does_more c net turn.mid new [] es (collects_does i old left net turn.mid turn.collects) (reacts_does i quota turn.mid new es turn.reacts)
 
-  turns_do : (quota : ℕ) (sites : List ℕ) (old : ℕ) (net new : Net) (es : List Event) → AreTurns c quota sites old net es new → DoesAll c net es new
+  pub turns_do : (quota : ℕ) (sites : List ℕ) (old : ℕ) (net new : Net) (es : List Event) → AreTurns c quota sites old net es new → DoesAll c net es new
   turns_do quota sites old net new es (no_site _ _) = stops net
   turns_do quota sites old net new es (a_site i others _ left _ mid _ first more turn rest) = does_more c net mid new first more (turn_does quota i old left net mid first turn) (turns_do quota others left mid new more rest)
 
@@ -374,7 +374,7 @@ module _ (p : ProgramTerms) (c : CodeParts) (ok : IsProgram p) (kept : IsCode c)
       let later = rounds_within (budget - length first) mid new more rest in
       omega (arith, length-append first more)
 
-  rounds_end : (budget : ℕ) (net new : Net) (es : List Event) → Fine net → AreRounds c budget net es new → (length es ≡ budget) ⊎ NoneAllowed new
+  pub rounds_end : (budget : ℕ) (net new : Net) (es : List Event) → Fine net → AreRounds c budget net es new → (length es ≡ budget) ⊎ NoneAllowed new
   rounds_end budget net new es fine (few_left _ _ _ _ few goes) = goes_end budget net new es goes
   rounds_end budget net new es fine (last_round _ _ _ many round empty) = inr (round_quiet budget net new [] fine many round refl empty)
   rounds_end budget net new es fine (one_round _ _ mid _ first more many round some rest) = go (rounds_end (budget - length first) mid new more (round_fine p c ok kept is budget net mid first fine round) rest)
@@ -383,7 +383,7 @@ module _ (p : ProgramTerms) (c : CodeParts) (ok : IsProgram p) (kept : IsCode c)
       go (inl same) = let one = round_within p c ok kept is budget net mid first round in inl (omega (arith, length-append first more))
       go (inr none) = inr none
 
-  not_enabled : (net : Net) → NoneAllowed net → IsEnabled c net → ⊥
+  pub not_enabled : (net : Net) → NoneAllowed net → IsEnabled c net → ⊥
   not_enabled net none (react i j k by fronts) = none (choice.React i (record { group = j; guard = k })) (record { by = by; fronts = fronts })
   not_enabled net none (deliver f q e) = none (choice.Deliver f) (record { packet = q; packet_is = e })
   not_enabled net none (move a h) = none (choice.Move a) h

@@ -32,3 +32,9 @@ pub mod Done
 pub mod Crossing
 pub mod ListsMade
 pub mod Lending
+pub mod Mail
+pub mod Alone
+pub mod OpeningHere
+pub mod SlotLists
+pub mod RoundDone
+pub mod Requests

@@ -56,7 +56,7 @@ each_in_range P k (suc n) i h le less = elim (split k i le) [ inl same ↦ subst
     split : (k i : ℕ) → k ≤ i → (k ≡ i) ⊎ (k < i)
     split k i h = grind arith
 
-length_range : (k n : ℕ) → length (range_with_len k n) ≡ n
+pub length_range : (k n : ℕ) → length (range_with_len k n) ≡ n
 length_range k zero = refl
 length_range k (suc n) = ap suc (length_range (k + 1) n)
 
@@ -78,10 +78,10 @@ module _ (p : ProgramTerms) (c : CodeParts) (ok : IsProgram p) (kept : IsCode c)
 
   -- ---- what falls
 
-  delivery_falls : (net mid : Net) (f : ℕ) → Fine net → Delivers net f mid → deliveries_left net ≡ deliveries_left mid + 1
+  pub delivery_falls : (net mid : Net) (f : ℕ) → Fine net → Delivers net f mid → deliveries_left net ≡ deliveries_left mid + 1
   delivery_falls net mid f fine h = deliveries_fall (rules_of_group p) net mid fine.solution f fine.stands fine.runs.keeps.packets h
 
-  carries_falls : (net mid : Net) (x : Choice) → Fine net → Acts c net x None mid → deliveries_left net ≡ deliveries_left mid + 1
+  pub carries_falls : (net mid : Net) (x : Choice) → Fine net → Acts c net x None mid → deliveries_left net ≡ deliveries_left mid + 1
   carries_falls net mid x fine (acts.deliver f _ h) = delivery_falls net mid f fine h
 
   -- either fewer deliveries are left, or nothing was done
@@ -168,12 +168,12 @@ module _ (p : ProgramTerms) (c : CodeParts) (ok : IsProgram p) (kept : IsCode c)
 
   -- ---- no more events than the budget has
 
-  reacts_within : (i quota : ℕ) (net new : Net) (es : List Event) → ReactsUpTo c i quota net es new → length es ≤ quota
+  pub reacts_within : (i quota : ℕ) (net new : Net) (es : List Event) → ReactsUpTo c i quota net es new → length es ≤ quota
   reacts_within i quota net new es (used_up _) = omega arith
   reacts_within i quota net new es (rests _ _ h) = omega arith
   reacts_within i quota net new es (reacts _ _ mid _ q d more some ready none h rest) = let less = reacts_within i (quota - 1) mid new more rest in omega arith
 
-  turns_within : (quota : ℕ) (sites : List ℕ) (old : ℕ) (net new : Net) (es : List Event) → AreTurns c quota sites old net es new → length es ≤ quota * length sites
+  pub turns_within : (quota : ℕ) (sites : List ℕ) (old : ℕ) (net new : Net) (es : List Event) → AreTurns c quota sites old net es new → length es ≤ quota * length sites
   turns_within quota sites old net new es (no_site _ _) = omega arith
   turns_within quota sites old net new es (a_site i others _ left _ mid _ first more turn rest) =
       let one = reacts_within i quota turn.mid mid first turn.reacts in

@@ -25,3 +25,6 @@ pub mod Resting
 pub mod Played
 pub mod PlayedSoFar
 pub mod Lending
+pub mod Working
+pub mod Alone
+pub mod Slots

@@ -1,9 +1,8 @@
 -- What a search through the parts of a network finds. No public contract cites it.
-use Rattle.std.specs.Prelude.{◌≡◌, ℕ, ◌<◌, List, Bool, true, false, Option, Some, None, cond}
+use Rattle.std.specs.Prelude.{◌≡◌, ℕ, suc, ◌<◌, List, [], ◌∷◌, Bool, true}
+use Rattle.std.specs.Prelude.{false, Option, Some, None, cond}
 use Rattle.std.specs.Prelude.{slice_get, is_some}
 use Rattle.chem_model.specs.declared.event.AtomId.{AtomId}
-use Rattle.wire_packet.specs.declared.packet.Ask.{Ask}
-use Rattle.wire_packet.specs.declared.packet.Ask.TheVariants as request
 use Rattle.wire_packet.specs.declared.packet.Request.{Request}
 use Rattle.env_store.specs.CodeParts.{CodeParts}
 use Rattle.loc_tree.specs.Tree.{Tree}
@@ -16,6 +15,7 @@ use Rattle.failure.specs.Deaths.{dead_for}
 use Rattle.migration.specs.Moves.{can_go}
 use Rattle.net_core.specs.declared.choice.Choice.{Choice}
 use Rattle.net_core.specs.declared.choice.Choice.TheVariants as choice
+use Rattle.net_core.specs.Asking.{choice_by}
 use Rattle.net_core.specs.Bare.{bare}
 use Rattle.net_core.specs.Choosing.{Allows, request_of, IsFirstRequest}
 
@@ -50,11 +50,6 @@ NoneMeets sites t x n =
     (i : ℕ) (s : Site) → i < n → slice_get sites i ≡ Some s → meets t x s ≡ false
 
 -- the choice that meets a request
-abbrev pub choice_by : Ask → AtomId → Choice
-choice_by (request.Go b k) a = choice.Move a
-choice_by (request.Fail b k) a = choice.Detect a
-choice_by request.Halt a = choice.Halt a
-
 abbrev pub choice_for : Request → Choice
 choice_for q = choice_by q.ask q.id
 
@@ -62,6 +57,11 @@ choice_for q = choice_by q.ask q.id
 pub record IsMeetable (t : Tree) (s : Site) (q : Request) : Type 0 where
   pub here : request_with q.id s.requests ≡ Some q
   pub met : meets t (choice_for q) s ≡ true
+
+-- how many of the first requests have an id that precedes this one
+abbrev pub place_for : AtomId → List Request → ℕ
+place_for a [] = 0
+place_for a (q ∷ qs) = cond (precedes q.id a) (suc (place_for a qs)) 0
 
 -- of the first n requests of the site none is
 abbrev pub NoneMeetable : Tree → Site → ℕ → Type 0

@@ -1,7 +1,7 @@
 // Choices.
 ghost use Rattle.std.specs.Prelude.{◌≡◌, Ok};
 
-use chem_model::{AtomId, Memory};
+use chem_model::{AtomId, Items, Memory};
 use reducer::Pick;
 use std::alloc::Global;
 
@@ -29,3 +29,6 @@ impl Choice {
         Ok(*self)
     }
 }
+
+/// A list of choices.
+pub type Choices = Items<Choice>;

@@ -33,7 +33,7 @@ fn message_of(packet: Packet) -> Msg
 }
 
 // The message that a flight carries.
-fn read_flight(alloc: Global, flight: &Flight) -> Result<Msg, Memory>
+pub(crate) fn read_flight(alloc: Global, flight: &Flight) -> Result<Msg, Memory>
     requires { IsMessageFlight flight.now }
     ensures { IfOk result (λ msg. msg ≡ message_in flight.now.bytes) }
 {
@@ -64,7 +64,7 @@ fn bring(sites: &mut [Site], tree: &LocTree, target: u32, msg: Msg) -> Result<Op
 }
 
 // The flight with these bytes to the site to which it goes on, if it does.
-fn onward(alloc: Global, flight: &Flight, on: Option<u32>) -> Result<Flights, Memory>
+pub(crate) fn onward(alloc: Global, flight: &Flight, on: Option<u32>) -> Result<Flights, Memory>
     ensures ok { IfOk result (λ more. GoesOn flight.now on more) }
     ensures err { OnErr result (IsSome on) }
 {

@@ -2,6 +2,7 @@
 #![tactic(auto)]
 
 mod acting;
+mod asking;
 mod choice;
 mod delivering;
 mod events;
@@ -15,11 +16,14 @@ mod parts;
 mod pieces;
 mod plays;
 mod reacting;
+mod round;
 mod scheduling;
 mod searching;
+mod slots;
 mod tracing;
+mod turn;
 
-pub use choice::Choice;
+pub use choice::{Choice, Choices};
 pub use laws::{
     acts_lead, counts_rise, deliveries_fall, lists_replay, none_enabled_is_quiet, opened_play,
     reactions_bear_new,

@@ -1,13 +1,17 @@
 // A network of sites on one thread.
-ghost use Rattle.std.specs.Prelude.{◌≡◌, ◌↔◌, length, IfOk, IfNone, IfSome, IsTrue};
+ghost use Rattle.std.specs.Prelude.{◌≡◌, ◌↔◌, ◌<◌, length, IfOk, IfNone, IfSome, IsTrue};
 ghost use Rattle.env_store.specs.CodeFacts.{IsCode};
 ghost use Rattle.net_core.specs.declared.choice.Choice.{Choice};
+ghost use Rattle.net_core.specs.Asking.{asks};
 ghost use Rattle.net_core.specs.Choosing.{Allows, IsNext};
 ghost use Rattle.net_core.specs.Resting.{IsNoneWhereQuiet};
+ghost use Rattle.net_core.specs.Scheduling.{ReadyOpensNone};
+ghost use Rattle.net_core.specs.Working.{IsOpeningAt};
 
-use crate::choice::Choice;
+use crate::asking::all_asks;
+use crate::choice::{Choice, Choices};
 use crate::parts::Parts;
-use crate::searching::{is_enabled, next_choice};
+use crate::searching::{is_enabled, next_choice, opening_of};
 use crate::tracing::copy_all;
 use chem_model::{Memory, Outs};
 use env_store::Code;
@@ -52,6 +56,13 @@ impl Net {
         self.parts.under_way
     }
 
+    /// How many sites there are.
+    pub fn sites(&self) -> u32
+        ensures { result ≡ length self.now.net.sites }
+    {
+        self.parts.sites.len() as u32
+    }
+
     /// How many events there were so far.
     pub fn events(&self) -> u32
         ensures { result ≡ self.now.events }
@@ -66,8 +77,8 @@ impl Net {
         copy_all(alloc, self.parts.trace.as_slice())
     }
 
-    // The facts of its code hold. It does nothing.
-    pub(crate) fn code_is_kept(&self)
+    /// The facts of its code hold. It does nothing.
+    pub fn code_is_kept(&self)
         ensures { IsCode self.now.code }
     {
         let _events = self.events;
@@ -102,5 +113,28 @@ impl Net {
             &self.code,
             self.parts.under_way,
         )
+    }
+
+    /// The reaction that is ready at this site, where it opens locations. None comes exactly where
+    /// none is ready there, or the one that is opens none. It takes no memory.
+    pub fn opening_at(&self, site: u32) -> Option<Choice>
+        requires { site < length self.now.net.sites }
+        ensures none { IfNone result (ReadyOpensNone self.now.code self.now.net site) }
+        ensures some { IfSome result (IsOpeningAt self.now.code self.now.net site) }
+    {
+        opening_of(
+            self.parts.sites.as_slice(),
+            &self.parts.tree,
+            &self.code,
+            site,
+        )
+    }
+
+    /// One choice for each request, in the order of their ids: a move for one to go, a halt for
+    /// one to halt, and a detection for one to detect a failure.
+    pub fn asks(&self, alloc: Global) -> Result<Choices, Memory>
+        ensures { IfOk result (λ xs. xs ≡ asks self.now.net) }
+    {
+        all_asks(alloc, self.parts.sites.as_slice())
     }
 }

@@ -15,6 +15,8 @@ ghost use Rattle.net_core.specs.Choosing.{MayReact, Allows, NoneReacts, IsFirstR
 ghost use Rattle.net_core.specs.Searched.{HasSites, meets, IsMet, NoneMeets, choice_for};
 ghost use Rattle.net_core.specs.Searched.{IsMeetable, IsLeastAt, lesser_of, IsLeast};
 ghost use Rattle.net_core.specs.Searched.{NoneMeetsAny, IsFirstMeeting};
+ghost use Rattle.net_core.specs.Scheduling.{ReadyOpensNone};
+ghost use Rattle.net_core.specs.Working.{IsOpeningAt};
 
 use crate::choice::Choice;
 use chem_model::AtomId;
@@ -22,7 +24,7 @@ use env_store::Code;
 use failure::{dead_for, halt_ready};
 use loc_tree::LocTree;
 use migration::move_ready;
-use reducer::{Pick, may_fire, ready};
+use reducer::{Pick, births, may_fire, ready};
 use site_solution::{Site, site_is_kept};
 use wire_packet::{Ask, Request};
 
@@ -69,6 +71,24 @@ fn first_reaction(sites: &[Site], tree: &LocTree, code: &Code) -> Option<(u32, P
     None
 }
 
+// The reaction that is ready at the site with this number, where it opens locations.
+pub(crate) fn opening_of(sites: &[Site], tree: &LocTree, code: &Code, number: u32) -> Option<Choice>
+    requires number { number < length sites.now }
+    requires tree { Each (λ (s : Site). IsTrue (is_in_tree tree.now s)) sites.now }
+    requires code { Each (λ (s : Site). IsTrue (is_in_code code.now tree.now s)) sites.now }
+    ensures none { IfNone result ((net : Net) → HasSites sites.now tree.now net
+        → ReadyOpensNone code.now net number) }
+    ensures some { IfSome result (λ x. (net : Net) → HasSites sites.now tree.now net
+        → IsOpeningAt code.now net number x) }
+{
+    let site = &sites[number as usize];
+    let pick = ready(site, code, tree)?;
+    if births(code, site, &pick) == 0 {
+        return None;
+    }
+    Some(Choice::React { site: number, pick })
+}
+
 // ---- requests
 
 // Whether the choice meets a request of the site.
@@ -99,7 +119,7 @@ pub(crate) fn meeting_site(sites: &[Site], tree: &LocTree, choice: &Choice) -> O
 }
 
 // The choice that meets a request.
-fn choice_for(request: &Request) -> Choice
+pub(crate) fn choice_for(request: &Request) -> Choice
     ensures { result ≡ choice_for request.now }
 {
     let atom = request.id;
@@ -127,7 +147,7 @@ fn least_at(site: &Site, tree: &LocTree) -> Option<Request>
     None
 }
 
-fn comes_before(one: AtomId, other: AtomId) -> bool
+pub(crate) fn comes_before(one: AtomId, other: AtomId) -> bool
     ensures { result ≡ precedes one other }
 {
     one.site < other.site || one.site == other.site && one.k < other.k

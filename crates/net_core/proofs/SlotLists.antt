@@ -1,0 +1,81 @@
+-- Lists of slots.
+use Rattle.std.proofs.Common.{◌≡◌, ℕ, suc, ◌+◌, ◌<◌, append_assoc, List, [], ◌∷◌, ◌++◌, take, drop, length, slice_index_or, Some, refl, ap, sym, ◌∙◌, arith, length-append}
+use Rattle.std.proofs.Math.Seq.{take-append_seam}
+use Rattle.chem_model.specs.declared.event.Event.{Event}
+use Rattle.chem_laws.proofs.Lists.{Each-append, append_nil}
+use Rattle.wire_packet.specs.declared.packet.Flight.{Flight}
+use Rattle.net_core.specs.declared.parts.Parts.{Parts}
+use Rattle.net_core.specs.declared.slots.Slot.{Slot}
+use Rattle.net_core.specs.declared.turn.Work.{Work}
+use Rattle.net_core.specs.Parts.{joined}
+use Rattle.net_core.specs.Slots.{Pairwise, HasWork, events_in, outs_in, flights_in, sites_of, events_of, outs_of, flights_of, AreBack}
+
+module _ {X : Type 0} (R : X → X → Type 0) where
+  pub pairwise : (xs ys : List X) → length ys ≡ length xs → ((i : ℕ) (d : X) → i < length xs → R (slice_index_or xs i d) (slice_index_or ys i d)) → Pairwise R xs ys
+  pairwise [] [] e h = tt
+  pairwise [] (y ∷ ys) e h = absurd (omega arith)
+  pairwise (x ∷ xs) [] e h = absurd (omega arith)
+  pairwise (x ∷ xs) (y ∷ ys) e h = (h 0 x (omega arith), pairwise xs ys (omega arith) (λ i d lt. h (suc i) d (omega arith)))
+
+-- a whole vector that was written through its slice
+pub whole_written : {X : Type 0} (n : ℕ) (ys xs : List X) → length ys ≡ length xs → n ≡ length xs → take n (ys ++ drop (length ys) xs) ≡ ys
+whole_written n ys xs e f = ap (λ k. take k (ys ++ drop (length ys) xs)) (f ∙ sym e) ∙ take-append_seam ys (drop (length ys) xs)
+
+pub joined_more : {X : Type 0} (xss : List (List X)) (xs : List X) → joined (xss ++ xs ∷ []) ≡ joined xss ++ xs
+joined_more [] xs = append_nil xs
+joined_more (ys ∷ xss) xs = ap (λ zs. ys ++ zs) (joined_more xss xs) ∙ sym (append_assoc ys (joined xss) xs)
+
+-- ---- what slots hold, one behind the other
+
+sites_join : (ss rs : List Slot) → sites_of (ss ++ rs) ≡ sites_of ss ++ sites_of rs
+sites_join [] rs = refl
+sites_join (s ∷ ss) rs = ap (λ xs. s.site ∷ xs) (sites_join ss rs)
+
+events_join : (ss rs : List Slot) → events_of (ss ++ rs) ≡ events_of ss ++ events_of rs
+events_join [] rs = refl
+events_join (s ∷ ss) rs = ap (λ xs. events_in s.work ++ xs) (events_join ss rs) ∙ sym (append_assoc (events_in s.work) (events_of ss) (events_of rs))
+
+outs_join : (ss rs : List Slot) → outs_of (ss ++ rs) ≡ outs_of ss ++ outs_of rs
+outs_join [] rs = refl
+outs_join (s ∷ ss) rs = ap (λ xs. outs_in s.work ++ xs) (outs_join ss rs) ∙ sym (append_assoc (outs_in s.work) (outs_of ss) (outs_of rs))
+
+flights_join : (ss rs : List Slot) → flights_of (ss ++ rs) ≡ flights_of ss ++ flights_of rs
+flights_join [] rs = refl
+flights_join (s ∷ ss) rs = ap (λ xs. flights_in s.work ++ xs) (flights_join ss rs) ∙ sym (append_assoc (flights_in s.work) (flights_of ss) (flights_of rs))
+
+-- ---- taken back one after another
+
+pub none_back : (p : Parts) (es : List Event) → AreBack [] p es p es
+none_back p es = record {
+  worked = tt;
+  sites = sym (append_nil p.sites.items);
+  tree = refl;
+  trace = sym (append_nil (joined p.trace.items));
+  flights = sym (append_nil (joined p.flights.items));
+  count = omega arith;
+  few = λ low. low;
+  events = sym (append_nil es);
+}
+
+pub more_back : (ss rs : List Slot) (old mid new : Parts) (es fs gs : List Event) → AreBack ss old es mid fs → AreBack rs mid fs new gs → AreBack (ss ++ rs) old es new gs
+more_back ss rs old mid new es fs gs a b = record {
+  worked = Each-append HasWork ss rs a.worked b.worked;
+  sites = b.sites ∙ ap (λ xs. xs ++ sites_of rs) a.sites ∙ append_assoc old.sites.items (sites_of ss) (sites_of rs) ∙ ap (λ xs. old.sites.items ++ xs) (sym (sites_join ss rs));
+  tree = b.tree ∙ a.tree;
+  trace = b.trace ∙ ap (λ xs. xs ++ outs_of rs) a.trace ∙ append_assoc (joined old.trace.items) (outs_of ss) (outs_of rs) ∙ ap (λ xs. joined old.trace.items ++ xs) (sym (outs_join ss rs));
+  flights = b.flights ∙ ap (λ xs. xs ++ flights_of rs) a.flights ∙ append_assoc (joined old.flights.items) (flights_of ss) (flights_of rs) ∙ ap (λ xs. joined old.flights.items ++ xs) (sym (flights_join ss rs));
+  count = omega (arith, a.count, b.count, ap length (flights_join ss rs), length-append (flights_of ss) (flights_of rs));
+  few = λ low. b.few (a.few low);
+  events = b.events ∙ ap (λ xs. xs ++ events_of rs) a.events ∙ append_assoc es (events_of ss) (events_of rs) ∙ ap (λ xs. es ++ xs) (sym (events_join ss rs));
+}
+
+-- of one slot with the work of its turn
+pub flights_back : (s : Slot) (w : Work) → s.work ≡ Some w → (olds mids news : List Flight) → mids ≡ olds ++ w.on → news ≡ mids ++ w.made.sends → news ≡ olds ++ flights_of (s ∷ [])
+flights_back s w is olds mids news a b =
+    let all : flights_of (s ∷ []) ≡ w.on ++ w.made.sends = ap (λ o. flights_in o ++ []) is ∙ append_nil (w.on ++ w.made.sends) in
+    b ∙ ap (λ xs. xs ++ w.made.sends) a ∙ append_assoc olds w.on w.made.sends ∙ ap (λ xs. olds ++ xs) (sym all)
+
+pub count_back : (s : Slot) (w : Work) → s.work ≡ Some w → (old mid new : ℕ) → mid ≡ old + length w.on → new ≡ mid + length w.made.sends → new ≡ old + length (flights_of (s ∷ []))
+count_back s w is old mid new a b =
+    let all : flights_of (s ∷ []) ≡ w.on ++ w.made.sends = ap (λ o. flights_in o ++ []) is ∙ append_nil (w.on ++ w.made.sends) in
+    omega (arith, a, b, ap length all, length-append w.on w.made.sends)

@@ -1,0 +1,95 @@
+// Rounds of all sites, lent to workers.
+ghost use Rattle.std.specs.Prelude.{◌≡◌, ℕ, ◌+◌, ◌-◌, ◌*◌, ◌<◌, ◌≤◌, ◌^◌, length, IfOk};
+ghost use Rattle.net_core.specs.Slots.{HasRound};
+ghost use Rattle.net_core.specs.Whole.{IsWhole};
+ghost use Rattle.net_core.specs.Working.{HasWorked};
+
+use crate::net::Net;
+use crate::parts::Parts;
+use crate::slots::{join_all, lend, slots_of, take_all_back};
+use chem_model::{Items, Journal, Memory};
+use env_store::Code;
+use std::alloc::Global;
+use std::thread::Threads;
+
+// Lends each site to one of the workers, and takes all back.
+fn round_of<R: Threads + Sync>(
+    rt: &R,
+    alloc: Global,
+    parts: Parts,
+    code: &Code,
+    workers: u32,
+    quota: u32,
+) -> Result<(Parts, Journal), Memory>
+    requires workers { 1 ≤ workers }
+    requires few { (events : ℕ) × (events + quota * length parts.sites.items < 2 ^ 32 - 1)
+        × IsWhole code.now parts events }
+    ensures { IfOk result (λ r. HasRound code.now quota parts r.0 r.1) }
+{
+    let Parts {
+        sites,
+        tree,
+        trace,
+        flights,
+        under_way,
+    } = parts;
+    let _ = under_way;
+    let mail = join_all(alloc, flights)?;
+    let mut slots = slots_of(alloc, sites)?;
+    lend(
+        rt,
+        alloc,
+        code,
+        &tree,
+        mail.as_slice(),
+        quota,
+        workers,
+        slots.as_mut_slice(),
+    );
+    let mut after = Parts {
+        sites: Vec::new(alloc),
+        tree,
+        trace,
+        flights: Vec::new(alloc),
+        under_way: 0,
+    };
+    let mut journal = Items::new(alloc);
+    take_all_back(&mut after, &mut journal, slots)?;
+    Ok((after, journal))
+}
+
+impl Net {
+    /// Lends each site to one of the workers. Each site delivers what was under way to it at the
+    /// start of the round, in order: a message is put at its home, or goes on to the site that
+    /// hosts that. It then reacts with what is ready there, up to its quota, and stops where none
+    /// is ready or the one that is opens a location.
+    ///
+    /// The answer has the events of all sites, site after site. Under way are then, site after
+    /// site, the packets that go on before those that the site sends. No number of workers occurs
+    /// in it. Where there is no memory, the network is dropped.
+    pub fn round<R: Threads + Sync>(
+        self,
+        rt: &R,
+        alloc: Global,
+        workers: u32,
+        quota: u32,
+    ) -> Result<(Net, Journal), Memory>
+        requires workers { (1 ≤ workers) × (workers ≤ 16) }
+        requires few { self.events + quota * length self.net.sites < 2 ^ 32 - 1 }
+        ensures { IfOk result (λ r. HasWorked quota self r.1 r.0) }
+    {
+        let Net {
+            code,
+            parts,
+            events,
+        } = self;
+        let (parts, journal) = round_of(rt, alloc, parts, &code, workers, quota)?;
+        let events = events + journal.len() as u32;
+        let net = Net {
+            code,
+            parts,
+            events,
+        };
+        Ok((net, journal))
+    }
+}

@@ -1,0 +1,139 @@
+// Sites that are lent to workers, and taken back.
+ghost use Rattle.std.specs.Prelude.{◌≡◌, ◌+◌, ◌<◌, ◌≤◌, ◌^◌, ◌∷◌, [], ◌++◌};
+ghost use Rattle.std.specs.Prelude.{All, map, length, IfOk, OnOk};
+ghost use Rattle.net_core.specs.Parts.{joined};
+ghost use Rattle.net_core.specs.Slots.{CanWork, IsServed, Pairwise, slot_of, AreBack};
+
+use crate::handing::add_flights;
+use crate::parts::Parts;
+use crate::pieces::add_piece;
+use crate::turn::{Made, Work, take_turn};
+use chem_model::{Items, Journal, Memory};
+use env_store::Code;
+use loc_tree::LocTree;
+use site_solution::Site;
+use std::alloc::Global;
+use std::thread;
+use std::thread::Threads;
+use wire_packet::{Flight, Flights};
+
+// A site, and what its turn leaves: nothing before that, and where memory ran out.
+#[derive(Drop)]
+pub(crate) struct Slot {
+    pub(crate) site: Site,
+    pub(crate) work: Option<Work>,
+}
+
+// A slot for each site.
+pub(crate) fn slots_of(alloc: Global, sites: Vec<Site>) -> Result<Vec<Slot>, Memory>
+    ensures { IfOk result (λ slots. slots.items ≡ map slot_of sites.items) }
+{
+    let mut slots = Vec::new(alloc);
+    for site in sites {
+        slots.push(Slot { site, work: None })?;
+    }
+    Ok(slots)
+}
+
+// The site of a slot has its turn.
+fn serve(
+    alloc: Global,
+    code: &Code,
+    tree: &LocTree,
+    flights: &[Flight],
+    quota: u32,
+    slot: &mut Slot,
+)
+    requires { CanWork code.now tree.now flights.now quota slot.old }
+    ensures { IsServed code.now tree.now flights.now quota slot.old slot.new }
+{
+    slot.work = match take_turn(alloc, &mut slot.site, code, tree, flights, quota) {
+        Ok(work) => Some(work),
+        Err(Memory) => None,
+    };
+}
+
+// Lends each slot to one of the workers, where its site has its turn.
+pub(crate) fn lend<R: Threads + Sync>(
+    rt: &R,
+    alloc: Global,
+    code: &Code,
+    tree: &LocTree,
+    flights: &[Flight],
+    quota: u32,
+    workers: u32,
+    slots: &mut [Slot],
+)
+    requires workers { 1 ≤ workers }
+    requires each { All (CanWork code.now tree.now flights.now quota) slots.old }
+    ensures { Pairwise (IsServed code.now tree.now flights.now quota) slots.old slots.new }
+{
+    thread::for_each_mut(
+        rt,
+        slots,
+        workers as usize,
+        &|_, slot| { serve(alloc, code, tree, flights, quota, slot) },
+    );
+}
+
+// Packets go behind those that are under way.
+fn send(flights: &mut Vec<Flights>, under_way: &mut u32, more: Flights) -> Result<(), Memory>
+    ensures flights { OnOk result (joined flights.new.items
+        ≡ joined flights.old.items ++ more) }
+    ensures count { OnOk result (under_way.new ≡ under_way.old + length more) }
+    ensures few { under_way.new < 2 ^ 32 }
+{
+    if more.len() > (u32::MAX - *under_way) as usize {
+        return Err(Memory);
+    }
+    flights.reserve(1)?;
+    add_flights(flights, under_way, more);
+    Ok(())
+}
+
+// Takes a site back, with what its turn leaves.
+fn take_back(parts: &mut Parts, journal: &mut Journal, slot: Slot) -> Result<(), Memory>
+    ensures { OnOk result (AreBack (slot ∷ []) parts.old journal.old parts.new journal.new) }
+{
+    let Slot { site, work } = slot;
+    let Some(Work { on, made }) = work else {
+        return Err(Memory);
+    };
+    let Made {
+        sends,
+        outs,
+        mut events,
+    } = made;
+    journal.append(&mut events)?;
+    parts.sites.push(site)?;
+    parts.trace.reserve(1)?;
+    add_piece(&mut parts.trace, outs);
+    send(&mut parts.flights, &mut parts.under_way, on)?;
+    send(&mut parts.flights, &mut parts.under_way, sends)?;
+    Ok(())
+}
+
+// Takes all sites back, in order.
+pub(crate) fn take_all_back(
+    parts: &mut Parts,
+    journal: &mut Journal,
+    slots: Vec<Slot>,
+) -> Result<(), Memory>
+    ensures { OnOk result (AreBack slots.items parts.old journal.old parts.new journal.new) }
+{
+    for slot in slots {
+        take_back(parts, journal, slot)?;
+    }
+    Ok(())
+}
+
+// The members of all pieces, in one.
+pub(crate) fn join_all(alloc: Global, pieces: Vec<Flights>) -> Result<Flights, Memory>
+    ensures { IfOk result (λ all. all ≡ joined pieces.items) }
+{
+    let mut all = Items::new(alloc);
+    for mut piece in pieces {
+        all.append(&mut piece)?;
+    }
+    Ok(all)
+}

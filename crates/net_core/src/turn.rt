@@ -1,0 +1,200 @@
+// A turn of a site, while it is lent: its mail is worked off, and then it reacts.
+ghost use Rattle.std.specs.Prelude.{◌≡◌, ℕ, ◌+◌, ◌<◌, ◌^◌, [], true, IfSome};
+ghost use Rattle.std.specs.Prelude.{IfNone, IfOk, OnOk, IsTrue};
+ghost use Rattle.chem_model.specs.Each.{Each};
+ghost use Rattle.env_store.specs.CodeParts.{CodeParts};
+ghost use Rattle.site_solution.specs.InTree.{is_in_tree};
+ghost use Rattle.site_solution.specs.InCode.{is_in_code};
+ghost use Rattle.reducer.specs.Picks.{MayFire};
+ghost use Rattle.router.specs.Delivering.{can_deliver};
+ghost use Rattle.net_core.specs.Alone.{IsAlone, IsReadyForCalls, IsBroughtTo, Arrives, HasArrived};
+ghost use Rattle.net_core.specs.Alone.{IsNextHere, NoneIsNext, ReactsBy, IsNoted, HasReacted};
+ghost use Rattle.net_core.specs.Alone.{IsWorked};
+ghost use Rattle.net_core.specs.Lending.{mail_to};
+ghost use Rattle.net_core.specs.Parts.{message_in, all_carried, IsMessageFlight};
+
+use crate::delivering::{onward, read_flight};
+use chem_model::{Event, Items, Journal, Memory, Outs};
+use env_store::Code;
+use loc_tree::LocTree;
+use reducer::{Pick, births, event_of, react, ready};
+use router::{Delivery, deliver};
+use site_solution::{Effects, Site};
+use std::alloc::Global;
+use wire_packet::{Flight, Flights, Msg};
+
+// What reactions leave: the packets that the site sends, its observables and its events, in order.
+#[derive(Drop)]
+pub(crate) struct Made {
+    pub(crate) sends: Flights,
+    pub(crate) outs: Outs,
+    pub(crate) events: Journal,
+}
+
+// What a turn leaves: the packets that go on, and what the reactions leave.
+#[derive(Drop)]
+pub(crate) struct Work {
+    pub(crate) on: Flights,
+    pub(crate) made: Made,
+}
+
+// ---- mail
+
+// Brings a message to a site: it is put there, or the answer is the site to which it goes on.
+fn bring_to(site: &mut Site, tree: &LocTree, msg: Msg) -> Result<Option<u32>, Memory>
+    requires { can_deliver tree.now site.old msg ≡ true }
+    ensures ok { IfOk result (λ on. IsBroughtTo tree.now site.old msg on site.new) }
+    ensures fit { OnOk result ((c : CodeParts) → IsReadyForCalls c tree.now site.old
+        → IsReadyForCalls c tree.now site.new) }
+{
+    match deliver(site, tree, msg) {
+        Ok(Delivery::Delivered) => Ok(None),
+        Ok(Delivery::Forward(target, _)) => Ok(Some(target)),
+        Err(back) => Err(back.1),
+    }
+}
+
+// Brings a flight to a site: its message is put there, or it goes behind those that go on.
+fn arrive(
+    alloc: Global,
+    site: &mut Site,
+    tree: &LocTree,
+    flight: &Flight,
+    on: &mut Flights,
+) -> Result<(), Memory>
+    requires flight { IsMessageFlight flight.now }
+    requires can { can_deliver tree.now site.old (message_in flight.now.bytes) ≡ true }
+    ensures arrives { OnOk result (Arrives tree.now site.old flight.now on.old site.new on.new) }
+    ensures fit { OnOk result ((c : CodeParts) → IsReadyForCalls c tree.now site.old
+        → IsReadyForCalls c tree.now site.new) }
+{
+    let msg = read_flight(alloc, flight)?;
+    let target = bring_to(site, tree, msg)?;
+    let mut more = onward(alloc, flight, target)?;
+    on.append(&mut more)?;
+    Ok(())
+}
+
+// Works the mail of a site off: those of the flights that go to it, in order.
+fn work_off(
+    alloc: Global,
+    site: &mut Site,
+    code: &Code,
+    tree: &LocTree,
+    flights: &[Flight],
+) -> Result<Flights, Memory>
+    requires alone { (events : ℕ) × IsAlone code.now tree.now site.old.number events site.old
+        (mail_to site.old.number (all_carried flights.now)) }
+    requires spelled { Each IsMessageFlight flights.now }
+    ensures arrives { IfOk result (λ on.
+        HasArrived tree.now site.old.number flights.now site.old on site.new) }
+    ensures stays { OnOk result ((events : ℕ)
+        → IsAlone code.now tree.now site.old.number events site.old
+        (mail_to site.old.number (all_carried flights.now))
+        → IsAlone code.now tree.now site.old.number events site.new []) }
+{
+    let _ = code;
+    let number = site.number();
+    let mut on = Items::new(alloc);
+    for flight in flights {
+        if flight.target == number {
+            arrive(alloc, site, tree, flight, &mut on)?;
+        }
+    }
+    Ok(on)
+}
+
+// ---- reactions
+
+// The reaction that is ready, where it opens no location.
+fn next_pick(site: &Site, code: &Code, tree: &LocTree) -> Option<Pick>
+    requires tree { IsTrue (is_in_tree tree.now site.now) }
+    requires code { IsTrue (is_in_code code.now tree.now site.now) }
+    ensures none { IfNone result (NoneIsNext code.now tree.now site.now) }
+    ensures some { IfSome result (IsNextHere code.now tree.now site.now) }
+{
+    let pick = ready(site, code, tree)?;
+    if births(code, site, &pick) > 0 {
+        return None;
+    }
+    Some(pick)
+}
+
+// Makes the reaction of a pick.
+fn react_once(
+    alloc: Global,
+    site: &mut Site,
+    code: &Code,
+    tree: &LocTree,
+    pick: &Pick,
+) -> Result<(Event, Effects), Memory>
+    requires fires { MayFire code.now tree.now site.old pick.now }
+    requires fit { IsReadyForCalls code.now tree.now site.old }
+    ensures { IfOk result (λ done.
+        ReactsBy code.now tree.now site.old pick.now done.0 done.1 site.new) }
+{
+    let event = event_of(alloc, site, code, pick)?;
+    let effects = react(alloc, site, code, tree, pick)?;
+    Ok((event, effects))
+}
+
+// An event and its effects go behind what was made so far.
+fn note(made: &mut Made, event: Event, effects: Effects) -> Result<(), Memory>
+    ensures { OnOk result (IsNoted event effects made.old made.new) }
+{
+    let mut effects = effects;
+    made.events.push(event)?;
+    made.outs.append(&mut effects.outs)?;
+    made.sends.append(&mut effects.sends)?;
+    Ok(())
+}
+
+// Reacts with what is ready, until the quota is used up, none is ready, or the one that is opens a
+// location.
+fn react_up_to(
+    alloc: Global,
+    site: &mut Site,
+    code: &Code,
+    tree: &LocTree,
+    quota: u32,
+) -> Result<Made, Memory>
+    requires { (events : ℕ) × (events + quota < 2 ^ 32)
+        × IsAlone code.now tree.now site.old.number events site.old [] }
+    ensures { IfOk result (λ made.
+        HasReacted code.now tree.now site.old.number quota site.old made site.new) }
+{
+    let mut made = Made {
+        sends: Items::new(alloc),
+        outs: Items::new(alloc),
+        events: Items::new(alloc),
+    };
+    for _event in 0..quota {
+        let Some(pick) = next_pick(site, code, tree) else {
+            return Ok(made);
+        };
+        let (event, effects) = react_once(alloc, site, code, tree, &pick)?;
+        note(&mut made, event, effects)?;
+    }
+    Ok(made)
+}
+
+// A turn of a site: those of the flights that go to it arrive, in order, and then it reacts.
+pub(crate) fn take_turn(
+    alloc: Global,
+    site: &mut Site,
+    code: &Code,
+    tree: &LocTree,
+    flights: &[Flight],
+    quota: u32,
+) -> Result<Work, Memory>
+    requires alone { (events : ℕ) × (events + quota < 2 ^ 32)
+        × IsAlone code.now tree.now site.old.number events site.old
+        (mail_to site.old.number (all_carried flights.now)) }
+    requires spelled { Each IsMessageFlight flights.now }
+    ensures { IfOk result (λ w.
+        IsWorked code.now tree.now quota flights.now site.old w site.new) }
+{
+    let on = work_off(alloc, site, code, tree, flights)?;
+    let made = react_up_to(alloc, site, code, tree, quota)?;
+    Ok(Work { on, made })
+}
