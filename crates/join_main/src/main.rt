@@ -3,7 +3,7 @@
 #![tactic(auto)]
 
 use join_base::{StdSink, StdSource};
-use join_top::{OpenGate, run_join};
+use join_top::{OpenGate, Threaded, run_join};
 use std::process::ExitCode;
 use std::{env, io};
 
@@ -47,6 +47,7 @@ fn main(rt: HostRuntime) -> ExitCode {
         &mut out,
         &mut err,
         &OpenGate,
+        &Threaded::new(&rt),
     );
     ExitCode::from(ended.status)
 }

@@ -1,6 +1,5 @@
--- What a run on one thread leaves.
-use Rattle.std.proofs.Common.{◌≡◌, ℕ, ◌≤◌, List, [], Bool, true, false, Option, Some, None, refl, sym, ap, ◌∙◌, subst, arith, length, IsTrue, ◌⊎◌, inl, inr, ◌↔◌}
-use Rattle.chem_model.specs.declared.event.Event.{Event}
+-- What a run leaves.
+use Rattle.std.proofs.Common.{◌≡◌, ℕ, List, Bool, true, false, Option, Some, None, IfSome, refl, sym, ap, ◌∙◌, subst, length, IsTrue, ◌⊎◌, inl, inr, ◌↔◌}
 use Rattle.chem_model.specs.declared.numbered.Numbered.{Numbered}
 use Rattle.chem_model.specs.ProgramFacts.{ProgramTerms}
 use Rattle.chem_model.specs.Reduction.{Quiet}
@@ -10,41 +9,33 @@ use Rattle.chem_model.specs.Apply.{states}
 use Rattle.chem_model.specs.Laws.{erase_all}
 use Rattle.trace_history.specs.Kept.{Kept, solution}
 use Rattle.trace_history.specs.Book.{IsStuck, IsQuiet, Replays}
-use Rattle.site_runner.specs.Run.{RunsOn}
-use Rattle.site_runner.specs.Schedule.{IsSchedule, spent, stuck, first, ScheduleOf}
 use Rattle.trace_text.specs.declared.text.Ending.{Ending}
 use Rattle.join_words.specs.declared.answer.Asked.{Asked}
 use Rattle.trace_text.specs.declared.text.Ending.TheVariants.{Quiescent, Stopped}
 use Rattle.join_top.specs.declared.run.Kept.{Kept as Left}
 use Rattle.join_top.specs.declared.top.Ended.{Ended}
-use Rattle.site_runner.specs.declared.one_thread.How.{How}
+use Rattle.site_runner.specs.declared.outcome.How.{How}
 use Rattle.join_top.specs.Task.{Words, task, ring_asked, text_of}
 use Rattle.join_top.specs.Text.{IsProgramOfText}
-use Rattle.join_top.specs.RunJoin.{OnTold, has_run, EndsAs, IsRunAsked, Keeps, GoesWith}
-use Rattle.join_top.specs.Ran.{ending_of, IsEnded, IsWholeOfBook}
-
-pub schedule_within : (budget : ℕ) (n : Numbered) (from : ℕ) (journal : List Event) → IsSchedule budget n from journal → length journal ≤ budget
-schedule_within budget n from journal spent = omega arith
-schedule_within budget n from journal (stuck h) = omega arith
-schedule_within budget n from journal (first h a more) = omega (arith, schedule_within _ _ _ _ more)
+use Rattle.join_top.specs.RunJoin.{OnTold, has_run, EndsAs, IsRunAsked, Keeps, GoesWith, IsMadeBy, IsMadeAsAsked}
+use Rattle.join_top.specs.Ran.{ending_of, IsEnded, IsWholeOfBook, IsMade}
 
 same_solution : (k : Kept) (n m : Numbered) → solution k ≡ Some n → solution k ≡ Some m → n ≡ m
 same_solution k n m e f = cc
 
 -- what a book leaves at the end of a run
-pub ended : (a : Asked) (source : List ℕ) (start k : Kept) (how : How) (quiet : Bool) (ending : Ending) (text : List ℕ)
-    → RunsOn start a.budget k → start.journal ≡ [] → ScheduleOf start.program a.budget k.journal
+pub ended : (a : Asked) (source : List ℕ) (p : ProgramTerms) (k : Kept) (how : How) (quiet : Bool) (ending : Ending) (text : List ℕ)
+    → IsMade a.by p a.budget (record { book = k; how = how })
     → Replays k → IsRun k.program (erase_all (states k.program k.journal))
     → (IsTrue quiet ↔ IsStuck k) → (IsTrue quiet ↔ IsQuiet k)
     → ending ≡ ending_of quiet
     → IsWholeOfBook a source k ending text
     → IsEnded a source (record { program = k.program; journal = k.journal; how = how }) text ending
-ended a source start k how quiet ending text runs none schedule replays run stuck_is quiet_is ends whole =
+ended a source p k how quiet ending text made replays run stuck_is quiet_is ends whole =
     let n = replays.0 in
-    let planned : ScheduleOf k.program a.budget k.journal = subst (λ (p : ProgramTerms). ScheduleOf p a.budget k.journal) (sym runs.program) schedule in
     record {
       solution = n;
-      is_run = record { replays = replays.1; run = run; within = schedule_within a.budget _ 0 k.journal planned; schedule = planned };
+      is_run = record { replays = replays.1; run = run; within = made.within };
       ends = subst (EndsAs a.budget k.journal n) (sym ends) (ends_as n replays.1 quiet refl);
       whole = whole n replays.1;
     }
@@ -57,7 +48,7 @@ ended a source start k how quiet ending text runs none schedule replays run stuc
     ends_as n e true h = quiet_is.0 h n e
     ends_as n e false h = (
       (λ q. let t : quiet ≡ true = quiet_is.1 (λ m f. subst (λ (x : Numbered). Quiet x.seen (erase x)) (same_solution k n m e f) q) in cc),
-      not_spent h runs.ends,
+      not_spent h made.ends,
     )
 
 -- ---- what the top call says of it
@@ -82,6 +73,14 @@ module _ (words : Words) (told : Option (List ℕ)) (a : Asked) (source : List �
     is_run = e.is_run;
     ends = e.ends;
   }
+
+-- the run that is kept was made by the command that was asked for
+pub made_as_asked : (words : Words) (a : Asked) (it : Ended) (status : ℕ) (kept : Left)
+    → it ≡ record { status = status; kept = Some kept } → task words ≡ Some a
+    → IsMadeBy a.by kept.program a.budget kept.journal kept.how → IfSome it.kept (IsMadeAsAsked words)
+made_as_asked words a it status kept e is_asked made =
+    let at : IsMadeAsAsked words kept = record { asked = a; is_asked = is_asked; made = made } in
+    subst (λ (x : Ended). IfSome x.kept (IsMadeAsAsked words)) (sym e) at
 
 -- the statuses of a run that is kept
 pub is_run_status : (status : ℕ) (ending : Ending) → GoesWith status ending → true ≡ has_run status

@@ -1,4 +1,5 @@
 pub mod Refusals
+pub mod Made
 pub mod Leaving
 pub mod Long
 pub mod Reading

@@ -1,16 +1,19 @@
 -- What is read, and what a run leaves. Private contracts alone cite this.
-use Rattle.std.specs.Prelude.{◌≡◌, ℕ, List, Option, Bool, true, false}
+use Rattle.std.specs.Prelude.{◌≡◌, ◌≤◌, ◌⊎◌, ℕ, List, length, Option, Bool, true, false}
 use Rattle.chem_model.specs.declared.numbered.Numbered.{Numbered}
+use Rattle.chem_model.specs.ProgramFacts.{ProgramTerms}
 use Rattle.join_base.specs.Bytes.{TakesAtMost}
 use Rattle.trace_history.specs.Kept as book
-use Rattle.trace_history.specs.Book.{OnSolution}
+use Rattle.trace_history.specs.Book.{OnSolution, IsStuck}
+use Rattle.site_runner.specs.declared.outcome.Done.{Done}
 use Rattle.trace_text.specs.declared.text.Ending.{Ending}
 use Rattle.trace_text.specs.declared.text.Ending.TheVariants.{Quiescent, Stopped}
 use Rattle.join_words.specs.declared.answer.Asked.{Asked}
+use Rattle.join_words.specs.declared.answer.By.{By}
 use Rattle.join_top.specs.declared.run.Kept.{Kept}
 use Rattle.join_top.specs.Task.{ReadOrRing}
 use Rattle.join_top.specs.Printed.{IsWhole}
-use Rattle.join_top.specs.RunJoin.{IsReadToEnd, IsRunOf, EndsAs}
+use Rattle.join_top.specs.RunJoin.{IsReadToEnd, IsRunOf, EndsAs, IsMadeBy}
 
 -- what holds where the source is read
 abbrev pub WhereRead : Option ℕ → Type 0 → Type 0
@@ -26,6 +29,14 @@ abbrev pub ReadsPart : {S : Type 0} → (ring : Option ℕ) → (left : S → Op
     → (old new : S) → Type 0
 ReadsPart ring left old new =
     ReadOrRing ring (TakesAtMost (left old) (left new) 1048576) (new ≡ old)
+
+-- a run of the program that is made by this command: it has at most so many events, and in the end
+-- no event is possible or it has exactly that many
+pub record IsMade (by : By) (p : ProgramTerms) (budget : ℕ) (done : Done) : Type 0 where
+  pub program : done.book.program ≡ p
+  pub made : IsMadeBy by p budget done.book.journal done.how
+  pub within : length done.book.journal ≤ budget
+  pub ends : IsStuck done.book ⊎ (length done.book.journal ≡ budget)
 
 -- how a run ended by whether the machine is quiet
 abbrev pub ending_of : Bool → Ending

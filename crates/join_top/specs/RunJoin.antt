@@ -16,9 +16,14 @@ use Rattle.chem_model.specs.Numbered.{erase}
 use Rattle.chem_model.specs.Apply.{replay, states}
 use Rattle.chem_model.specs.Laws.{erase_all}
 use Rattle.site_runner.specs.Schedule.{ScheduleOf}
+use Rattle.site_runner.specs.Rounds.{RoundsOf}
+use Rattle.site_runner.specs.declared.outcome.How.{How}
+use Rattle.site_runner.specs.declared.outcome.How.TheVariants as how
 use Rattle.trace_text.specs.declared.text.Ending.{Ending}
 use Rattle.trace_text.specs.declared.text.Ending.TheVariants.{Quiescent, Stopped}
 use Rattle.join_words.specs.declared.answer.Asked.{Asked}
+use Rattle.join_words.specs.declared.answer.By.{By}
+use Rattle.join_words.specs.declared.answer.By.TheVariants.{Alone, Rounds, Run}
 use Rattle.join_top.specs.declared.run.Kept.{Kept}
 use Rattle.join_top.specs.declared.top.Ended.{Ended}
 use Rattle.join_top.specs.Task.{Words, task, ring_asked, text_run, ReadOrRing}
@@ -106,14 +111,12 @@ GainsLine {E} status held faults old new = IsLineAt E status held faults old new
 -- ---- the run
 
 -- the journal replays from the program to a solution, and the solutions that the replay passes
--- stand for a run of the machine; it has at most so many events, and is the schedule of a run on
--- one thread
+-- stand for a run of the machine; it has at most so many events
 pub record IsRunOf (budget : ℕ) (p : ProgramTerms) (journal : List Event)
     (n : Numbered) : Type 0 where
   pub replays : replay p journal ≡ Some n
   pub run : IsRun p (erase_all (states p journal))
   pub within : length journal ≤ budget
-  pub schedule : ScheduleOf p budget journal
 
 -- how the run ended: the machine is quiet on the solution, or it isn't and the budget is spent
 abbrev pub EndsAs : ℕ → List Event → Numbered → Ending → Type 0
@@ -134,6 +137,21 @@ pub record IsRunAsked (words : Words) (told : Option (List ℕ)) (kept : Kept) :
 pub record Keeps (words : Words) (told : Option (List ℕ)) (ended : Ended) : Type 0 where
   pub exactly : is_some ended.kept ≡ has_run ended.status
   pub run : IfSome ended.kept (IsRunAsked words told)
+
+-- ---- how it is made
+
+-- each command has a schedule of its own, which the journal is, and says of itself how it was made;
+-- no number of workers occurs in either
+abbrev pub IsMadeBy : By → ProgramTerms → (budget : ℕ) → (journal : List Event) → How → Type 0
+IsMadeBy Alone p budget journal made = ScheduleOf p budget journal × (made ≡ how.Alone)
+IsMadeBy Rounds p budget journal made = RoundsOf p budget journal × (made ≡ how.Rounds)
+IsMadeBy Run p budget journal made = ⊥
+
+-- the run that is kept is made by the command that the words ask for
+pub record IsMadeAsAsked (words : Words) (kept : Kept) : Type 0 where
+  pub asked : Asked
+  pub is_asked : task words ≡ Some asked
+  pub made : IsMadeBy asked.by kept.program asked.budget kept.journal kept.how
 
 -- ---- what is written of it
 

@@ -1,5 +1,5 @@
 -- What the words ask for that can be done, and the text that is run.
-use Rattle.std.specs.Prelude.{ℕ, List, String, string_bytes, map}
+use Rattle.std.specs.Prelude.{ℕ, List, String, string_bytes, map, Bool, true, false, cond}
 use Rattle.std.specs.Prelude.{Option, Some, None, option_and_then}
 use Rattle.std.specs.declared.alloc.Global.{Global}
 use Rattle.join_words.specs.declared.answer.Asked.{Asked}
@@ -16,15 +16,15 @@ Words = List (String Global)
 abbrev pub asked_by : Words → Option Asked
 asked_by words = asked (map string_bytes words)
 
--- one thread runs the program: no threads can be had yet
-abbrev pub by_one_thread : Asked → By → Option Asked
-by_one_thread a Alone = Some a
-by_one_thread a Rounds = None
-by_one_thread a Run = None
+-- a program is run on one thread or in rounds: a run on free threads can't be had yet
+abbrev pub can_be_had : By → Bool
+can_be_had Alone = true
+can_be_had Rounds = true
+can_be_had Run = false
 
--- what the words ask for that can be done: nothing where they ask for threads
+-- what the words ask for that can be done: nothing where they ask for free threads
 abbrev pub task : Words → Option Asked
-task words = option_and_then (λ a. by_one_thread a a.by) (asked_by words)
+task words = option_and_then (λ a. cond (can_be_had a.by) (Some a) None) (asked_by words)
 
 -- the size of the ring that is asked for
 abbrev pub ring_of : Option Asked → Option ℕ

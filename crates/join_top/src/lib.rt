@@ -2,6 +2,7 @@
 #![tactic(auto)]
 
 mod gate;
+mod making;
 mod printed;
 mod run;
 mod task;
@@ -9,8 +10,9 @@ mod text;
 mod top;
 
 pub use gate::{Gate, OpenGate, Phase};
+pub use making::begin;
 pub use ring_source::ring_text;
 pub use run::Kept;
-pub use site_runner::How;
+pub use site_runner::{How, Team, Threaded};
 pub use text::one_outcome;
 pub use top::{Ended, run_join};

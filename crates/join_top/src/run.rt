@@ -1,13 +1,16 @@
-//! A run on one thread, from its program to its text.
-ghost use Rattle.std.specs.Prelude.{◌≡◌, ◌≤◌, length, IfOk};
+//! A run, from its program to its text.
+ghost use Rattle.std.specs.Prelude.{◌≡◌, ◌≤◌, length, true, IfOk};
+ghost use Rattle.join_words.specs.Asks.{IsWithin};
+ghost use Rattle.join_top.specs.Task.{can_be_had};
+ghost use Rattle.join_top.specs.RunJoin.{IsMadeBy};
 ghost use Rattle.join_top.specs.Ran.{WhereRead, ending_of, IsEnded};
 
+use crate::making::make;
 use crate::printed::printed;
 use chem_model::{Journal, Memory, Program, Text};
 use join_words::Asked;
-use site_runner::{How, alone};
+use site_runner::{How, Team};
 use std::alloc::Global;
-use trace_history::Book;
 use trace_text::Ending;
 
 /// What a run leaves: the program of the text that was run, its events, and how it was made.
@@ -38,24 +41,33 @@ fn ending_of(quiet: bool) -> Ending
 }
 
 /// Runs the program of a source as it is asked for.
-pub fn run(alloc: Global, asked: &Asked, source: &[u8], program: &Program) -> Result<Ran, Memory>
+pub fn run<T: Team>(
+    alloc: Global,
+    asked: &Asked,
+    source: &[u8],
+    program: &Program,
+    team: &T,
+) -> Result<Ran, Memory>
+    requires ready { T.ready }
     requires source { WhereRead asked.now.ring (length source.now ≤ 1048576) }
-    requires budget { asked.now.budget ≤ 1000000 }
+    requires within { IsWithin asked.now }
+    requires can { can_be_had asked.now.by ≡ true }
     ensures program { IfOk result (λ ran. ran.kept.program ≡ program.now) }
     ensures ended { IfOk result (λ ran. IsEnded asked.now source.now ran.kept ran.text ran.ending) }
-    ensures how { IfOk result (λ ran. ran.kept.how ≡ How.Alone) }
+    ensures made { IfOk result (λ ran.
+        IsMadeBy asked.now.by program.now asked.now.budget ran.kept.journal ran.kept.how) }
 {
-    let book = Book::start(alloc, program)?;
-    let done = alone(alloc, book, asked.budget)?;
+    let done = make(alloc, asked, program, team)?;
     done.book.replays();
     done.book.is_a_run();
     let ending = ending_of(done.book.quiet());
     let text = printed(alloc, asked, source, &done.book, ending)?;
+    let how = done.how;
     let (program, journal) = done.book.into_parts();
     let kept = Kept {
         program,
         journal,
-        how: How::Alone,
+        how,
     };
     Ok(Ran { kept, text, ending })
 }

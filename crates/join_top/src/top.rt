@@ -2,10 +2,10 @@
 ghost use Rattle.std.specs.Prelude.{◌≡◌, ◌⊎◌, ◌≤◌, IfSome, true, false, []};
 ghost use Rattle.join_base.specs.Counts.{Rose};
 ghost use Rattle.join_base.specs.declared.fault.Kind.TheVariants as kind;
-ghost use Rattle.site_runner.specs.declared.one_thread.How.TheVariants.{Alone};
 ghost use Rattle.join_top.specs.Task.{task};
 ghost use Rattle.join_top.specs.Text.{refusal_line as line_of_refusal};
-ghost use Rattle.join_top.specs.RunJoin.{ComesExactly, Reads, Refuses, Keeps, WritesWhole};
+ghost use Rattle.join_top.specs.RunJoin.{ComesExactly, Reads, Refuses, Keeps, IsMadeAsAsked};
+ghost use Rattle.join_top.specs.RunJoin.{WritesWhole};
 ghost use Rattle.join_top.specs.RunJoin.{GainsLine, Gains, line_of, has_run, GoesWith, IsWritten};
 
 use crate::gate::Gate;
@@ -13,6 +13,7 @@ use crate::run::{Kept, Ran, run};
 use crate::task::{task, text_run};
 use crate::text::{program_of, refusal_line};
 use join_base::{Front, Kind, ReadEnd, Sink, Source, write_piece};
+use site_runner::Team;
 use std::alloc::Global;
 use trace_text::Ending;
 
@@ -38,7 +39,8 @@ pub struct Ended {
 }
 
 /// Does all that the program does, from its words and the bytes of its source to the bytes on `out`
-/// and `err`. Only workers on threads pass the gate, and there are none yet.
+/// and `err`. The team works where the words ask for rounds. Only free threads pass the gate, and
+/// there are none yet.
 ///
 /// The clauses are in the words of `specs/RunJoin.antt` and `specs/Task.antt`. They see a source by
 /// the bytes that it has left, and a sink by those that it holds, where these are told.
@@ -47,19 +49,22 @@ pub struct Ended {
 /// |---|---|
 /// | 0 | the run ended quiet, and its whole text was written |
 /// | 1 | the text is refused: it has a fault, which the line on `err` names with its place |
-/// | 2 | the words are not of the line's form, or ask for threads, which can't be had yet |
+/// | 2 | the words are not of the line's form, or ask for free threads, which can't be had yet |
 /// | 3 | a read failed |
 /// | 4 | a write on `out` failed |
 /// | 5 | the budget is used up and something can still happen; the whole text was written |
 /// | 6 | memory ran out |
-pub fn run_join<S: Source, K: Sink, E: Sink, G: Gate>(
+pub fn run_join<S: Source, K: Sink, E: Sink, G: Gate, T: Team>(
     alloc: Global,
     words: &[String],
     source: &mut S,
     out: &mut K,
     err: &mut E,
     _gate: &G,
+    team: &T,
 ) -> Ended
+    requires { T.ready }
+
     ensures known { result.status ≤ 6 }
 
     ensures usage { ComesExactly result.status 2 (task words.now ≡ None) }
@@ -70,7 +75,7 @@ pub fn run_join<S: Source, K: Sink, E: Sink, G: Gate>(
     ensures refusal { Refuses words.now (S.left source.old) result E.held E.faults err.old err.new }
 
     ensures kept { Keeps words.now (S.left source.old) result }
-    ensures how { IfSome result.kept (λ kept. kept.how ≡ Alone) }
+    ensures how { IfSome result.kept (IsMadeAsAsked words.now) }
 
     ensures whole_text { WritesWhole words.now (S.left source.old) result K.held out.old out.new }
     ensures write_fault { result.status ≡ 4 → Rose (K.faults out.old) (K.faults out.new) }
@@ -94,7 +99,7 @@ pub fn run_join<S: Source, K: Sink, E: Sink, G: Gate>(
         Err(Front::Refused { kind, place }) => return refuse(alloc, err, kind, place),
         Err(Front::Memory) => return end(err, OUT_OF_MEMORY, None),
     };
-    match run(alloc, &asked, text.as_slice(), &program) {
+    match run(alloc, &asked, text.as_slice(), &program, team) {
         Err(_) => end(err, OUT_OF_MEMORY, None),
         Ok(ran) => {
             let status = write_text(out, &ran);

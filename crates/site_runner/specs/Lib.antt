@@ -1,2 +1,4 @@
 pub mod Schedule
 pub mod Run
+pub mod Rounds
+pub mod RoundParts

@@ -3,25 +3,13 @@ ghost use Rattle.std.specs.Prelude.{◌≡◌, [], ◌<◌, ◌≤◌, ◌^◌, 
 ghost use Rattle.trace_history.specs.Book.{IsStuck};
 ghost use Rattle.site_runner.specs.Schedule.{after, ScheduleOf, HasOneSchedule};
 ghost use Rattle.site_runner.specs.Run.{RunsOn};
+ghost use Rattle.site_runner.specs.declared.outcome.How.TheVariants as how;
 
+use crate::outcome::{Done, How};
 use chem_laws::{event_is_a_reduction, opening_is_a_start};
 use chem_model::Memory;
 use std::alloc::Global;
 use trace_history::Book;
-
-/// How a run was made.
-#[derive(Clone, Copy, PartialEq, Eq, Debug)]
-pub enum How {
-    /// On one thread, one event after another.
-    Alone,
-}
-
-/// A run that has ended: its book, and how it was made.
-#[derive(Drop)]
-pub struct Done {
-    pub book: Book,
-    pub how: How,
-}
 
 /// The site whose turn comes after this one.
 fn after(sites: usize, site: u32) -> u32
@@ -45,6 +33,7 @@ pub fn alone(alloc: Global, book: Book, budget: u32) -> Result<Done, Memory>
     ensures run { IfOk result (λ done. RunsOn book budget done.book) }
     ensures whole { IfOk result (λ done.
         book.journal ≡ [] → ScheduleOf book.program budget done.book.journal) }
+    ensures how { IfOk result (λ done. done.how ≡ how.Alone) }
     ensures left { OnErr result (length book.journal < budget) }
     ensures possible { OnErr result (IsStuck book → ⊥) }
 {

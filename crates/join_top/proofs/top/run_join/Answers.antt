@@ -1,13 +1,14 @@
 -- A source that is unread or read to its end, a text that is too long, and the run that is kept.
-use Rattle.std.proofs.Common.{◌≡◌, ◌∙◌, ap, Err, Some, None, rules}
+use Rattle.std.proofs.Common.{◌≡◌, ◌∙◌, ap, sym, subst, Err, Some, None, rules}
+use Rattle.chem_model.specs.ProgramFacts.{ProgramTerms}
 use Rattle.join_top.specs.declared.top.Ended.{Ended}
 use Rattle.join_top.specs.Task.{task, ring_asked}
 use Rattle.join_top.specs.Text.{IsProgramOfText}
-use Rattle.join_top.specs.RunJoin.{Gains, GoesWith}
+use Rattle.join_top.specs.RunJoin.{Gains, GoesWith, IsMadeBy}
 use Rattle.join_top.specs.Ran.{IsEnded}
 use Rattle.join_top.proofs.Long.{refused_long}
 use Rattle.join_top.proofs.Reading.{unread, read_all}
-use Rattle.join_top.proofs.Leaving.{run_asked, no_usage, keeps}
+use Rattle.join_top.proofs.Leaving.{run_asked, no_usage, keeps, made_as_asked}
 use Rattle.join_top.proofs.top.run_join.Goals as goal
 
 pub returns-in-Err-clause-reads_all : goal.returns-in-Err-clause-reads_all
@@ -38,3 +39,12 @@ returns-clause-kept g c =
     let ended : IsEnded a c.in-Ok.text kept c.in-Ok-run.ran.text c.in-Ok-run.ran.ending = search rules in
     let run = run_asked c.args.words.now (g.S.Source.left c.args.source.now) a c.in-Ok.text kept c.in-Ok-run.ran.text c.in-Ok-run.ran.ending is_asked ring c.in-Ok.ensures.text is_program ended in
     keeps _ _ _ _ kept c.in-Ok-run.ran.ending c.end-in-Ok-run.ensures.ended c.write_text-status.ensures.status run
+
+pub returns-clause-how : goal.returns-clause-how
+returns-clause-how g c =
+    let a = c.in-Ok-Some.asked in
+    let kept = c.in-Ok-run.ran.kept in
+    let is_asked : task c.args.words.now ≡ Some a = search rules in
+    let same : kept.program ≡ c.in-Ok-program_of.program = search rules in
+    let made : IsMadeBy a.by kept.program a.budget kept.journal kept.how = subst (λ (p : ProgramTerms). IsMadeBy a.by p a.budget kept.journal kept.how) (sym same) c.in-Ok-run.ensures.made in
+    made_as_asked c.args.words.now a _ _ kept c.end-in-Ok-run.ensures.ended is_asked made

@@ -1,0 +1,105 @@
+-- What each command makes of a program's book, and of the network of its code.
+use Rattle.std.proofs.Common.{◌≡◌, ℕ, ◌≤◌, List, [], Result, Ok, Err, Some, IfOk, refl, sym, subst, arith, length}
+use Rattle.chem_model.specs.declared.event.Event.{Event}
+use Rattle.chem_model.specs.declared.numbered.Numbered.{Numbered}
+use Rattle.chem_model.specs.declared.memory.Memory.{Memory}
+use Rattle.chem_model.specs.ProgramFacts.{ProgramTerms, IsProgram}
+use Rattle.chem_model.specs.Opening.{opening}
+use Rattle.env_store.specs.CodeParts.{CodeParts}
+use Rattle.env_store.specs.CodeFacts.{IsCode}
+use Rattle.env_store.specs.Reading.{IsCodeOf}
+use Rattle.env_store.specs.Laws.{rules_of_group}
+use Rattle.net_laws.specs.Net.{Stands}
+use Rattle.net_laws.specs.Opened.{opened_net, OpenedStands, RunsCode}
+use Rattle.net_core.specs.Rounds.{RoundsReplay}
+use Rattle.net_core.specs.Whole.{NetParts}
+use Rattle.trace_history.specs.Kept.{Kept}
+use Rattle.site_runner.specs.Run.{RunsOn}
+use Rattle.site_runner.specs.Schedule.{IsSchedule, spent, stuck, first, ScheduleOf}
+use Rattle.site_runner.specs.Rounds.{StandForOne, RunsInRounds, RoundsOf}
+use Rattle.site_runner.specs.declared.outcome.Done.{Done}
+use Rattle.site_runner.specs.declared.outcome.How.TheVariants as how
+use Rattle.join_words.specs.declared.answer.By.TheVariants as by
+use Rattle.join_top.specs.Ran.{IsMade}
+
+-- a program's book without an event
+abbrev pub begun : ProgramTerms → Kept
+begun p = record { program = p; journal = [] }
+
+schedule_within : (budget : ℕ) (n : Numbered) (from : ℕ) (journal : List Event) → IsSchedule budget n from journal → length journal ≤ budget
+schedule_within budget n from journal spent = omega arith
+schedule_within budget n from journal (stuck h) = omega arith
+schedule_within budget n from journal (first h a more) = omega (arith, schedule_within _ _ _ _ more)
+
+module _ (p : ProgramTerms) (budget : ℕ) where
+  -- a run on one thread from there
+  alone_begun : (r : Result Done Memory)
+      → IfOk r (λ (d : Done). RunsOn (begun p) budget d.book)
+      → IfOk r (λ (d : Done). (begun p).journal ≡ [] → ScheduleOf (begun p).program budget d.book.journal)
+      → IfOk r (λ (d : Done). d.how ≡ how.Alone)
+      → IfOk r (IsMade by.Alone p budget)
+  alone_begun (Err e) runs whole made = tt
+  alone_begun (Ok d) runs whole made = record {
+    program = runs.program;
+    made = (whole refl, made);
+    within = schedule_within budget _ 0 d.book.journal (whole refl);
+    ends = runs.ends;
+  }
+
+  pub alone_made : (book : Kept) (r : Result Done Memory) → book ≡ begun p
+      → IfOk r (λ (d : Done). RunsOn book budget d.book)
+      → IfOk r (λ (d : Done). book.journal ≡ [] → ScheduleOf book.program budget d.book.journal)
+      → IfOk r (λ (d : Done). d.how ≡ how.Alone)
+      → IfOk r (IsMade by.Alone p budget)
+  alone_made book r e runs whole made =
+      alone_begun r
+      (subst (λ (b : Kept). IfOk r (λ (d : Done). RunsOn b budget d.book)) e runs)
+      (subst (λ (b : Kept). IfOk r (λ (d : Done). b.journal ≡ [] → ScheduleOf b.program budget d.book.journal)) e whole)
+      made
+
+  module _ (fine : IsProgram p) where
+    rounds_within : RoundsReplay → (journal : List Event) → RoundsOf p budget journal → length journal ≤ budget
+    rounds_within law journal (c, is_code, of_program, end, schedule) = (law p c fine is_code of_program budget journal end schedule).within
+
+    -- a run in rounds from there
+    rounds_begun : RoundsReplay → (net : NetParts) → net.net ≡ opened_net net.code → (r : Result Done Memory)
+        → IfOk r (λ (d : Done). RunsInRounds net (begun p) budget d.book)
+        → IfOk r (λ (d : Done). (begun p).journal ≡ [] → net.net ≡ opened_net net.code → RoundsOf (begun p).program budget d.book.journal)
+        → IfOk r (λ (d : Done). d.how ≡ how.Rounds)
+        → IfOk r (IsMade by.Rounds p budget)
+    rounds_begun law net opened (Err e) runs whole made = tt
+    rounds_begun law net opened (Ok d) runs whole made = record {
+      program = runs.program;
+      made = (whole refl opened, made);
+      within = rounds_within law d.book.journal (whole refl opened);
+      ends = runs.ends;
+    }
+
+    pub rounds_made : RoundsReplay → (net : NetParts) → net.net ≡ opened_net net.code → (book : Kept) (r : Result Done Memory) → book ≡ begun p
+        → IfOk r (λ (d : Done). RunsInRounds net book budget d.book)
+        → IfOk r (λ (d : Done). book.journal ≡ [] → net.net ≡ opened_net net.code → RoundsOf book.program budget d.book.journal)
+        → IfOk r (λ (d : Done). d.how ≡ how.Rounds)
+        → IfOk r (IsMade by.Rounds p budget)
+    rounds_made law net opened book r e runs whole made =
+        rounds_begun law net opened r
+        (subst (λ (b : Kept). IfOk r (λ (d : Done). RunsInRounds net b budget d.book)) e runs)
+        (subst (λ (b : Kept). IfOk r (λ (d : Done). b.journal ≡ [] → net.net ≡ opened_net net.code → RoundsOf b.program budget d.book.journal)) e whole)
+        made
+
+same_member : (n m : Numbered) → Some n ≡ Some m → n ≡ m
+same_member n m e = cc
+
+-- the opening of a program's network and its book without an event stand for one solution
+pub begun_stand : OpenedStands → (p : ProgramTerms) → IsProgram p → (c : CodeParts) → IsCode c → IsCodeOf p c
+    → (net : NetParts) → net.code ≡ c → net.net ≡ opened_net c → net.events ≡ 0
+    → Stands (rules_of_group p) net.net (opening p)
+    → (book : Kept) → book ≡ begun p → StandForOne book net
+begun_stand law p fine c is_code of_program net code opened events stands book e =
+    let runs : RunsCode p c (opened_net c) = (law p c fine is_code of_program).1 in
+    let at : StandForOne (begun p) net = record {
+      of_program = subst (IsCodeOf p) (sym code) of_program;
+      stand = λ n h. subst (Stands (rules_of_group p) net.net) (same_member (opening p) n h) stands;
+      runs = subst (RunsCode p net.code) (sym opened) (subst (λ (x : CodeParts). RunsCode p x (opened_net c)) (sym code) runs);
+      counted = events;
+    } in
+    subst (λ (b : Kept). StandForOne b net) (sym e) at

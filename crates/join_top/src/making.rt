@@ -1,0 +1,80 @@
+// The run that is asked for: on one thread, or in rounds.
+ghost use Rattle.std.specs.Prelude.{◌≡◌, ◌≤◌, [], true, IfOk};
+ghost use Rattle.net_laws.specs.Opened.{opened_net};
+ghost use Rattle.site_runner.specs.Rounds.{StandForOne};
+ghost use Rattle.join_words.specs.Asks.{IsWithin};
+ghost use Rattle.join_words.specs.declared.answer.By.TheVariants as by;
+ghost use Rattle.join_top.specs.Task.{can_be_had};
+ghost use Rattle.join_top.specs.Ran.{IsMade};
+
+use chem_model::{Memory, Program};
+use guard_compile::compile;
+use join_words::{Asked, By};
+use net_core::{Net, rounds_replay};
+use net_laws::opened_stands;
+use site_runner::{Done, Team, alone};
+use std::alloc::Global;
+use trace_history::Book;
+
+/// Makes the run of the program that is asked for.
+pub fn make<T: Team>(
+    alloc: Global,
+    asked: &Asked,
+    program: &Program,
+    team: &T,
+) -> Result<Done, Memory>
+    requires ready { T.ready }
+    requires within { IsWithin asked.now }
+    requires can { can_be_had asked.now.by ≡ true }
+    ensures { IfOk result (IsMade asked.now.by program.now asked.now.budget) }
+{
+    match asked.by {
+        By::Alone => on_one_thread(alloc, program, asked.budget),
+        By::Rounds => in_rounds(alloc, program, asked.workers, asked.budget, team),
+        By::Run => unreachable!(),
+    }
+}
+
+/// The run on one thread, from the program's book.
+fn on_one_thread(alloc: Global, program: &Program, budget: u32) -> Result<Done, Memory>
+    ensures { IfOk result (IsMade by.Alone program.now budget) }
+{
+    let book = Book::start(alloc, program)?;
+    alone(alloc, book, budget)
+}
+
+/// The network of a program's code, and the program's book, before any event. They stand for one
+/// solution, as the run in rounds needs it.
+pub fn begin(alloc: Global, program: &Program) -> Result<(Net, Book), Memory>
+    ensures one { IfOk result (λ begun. StandForOne begun.1 begun.0) }
+    ensures opened { IfOk result (λ begun. begun.0.net ≡ opened_net begun.0.code) }
+    ensures book { IfOk result (λ begun.
+        begun.1 ≡ record { program = program.now; journal = [] }) }
+{
+    opened_stands();
+    let _tops = &program.tops;
+    let code = compile(alloc, program)?;
+    let _known = &code.tops;
+    let net = Net::start(alloc, program, &code)?;
+    let book = Book::start(alloc, program)?;
+    Ok((net, book))
+}
+
+/// The run in rounds, from the beginning.
+fn in_rounds<T: Team>(
+    alloc: Global,
+    program: &Program,
+    workers: u32,
+    budget: u32,
+    team: &T,
+) -> Result<Done, Memory>
+    requires ready { T.ready }
+    requires workers { (1 ≤ workers) × (workers ≤ 16) }
+    requires budget { budget ≤ 1000000 }
+    ensures { IfOk result (IsMade by.Rounds program.now budget) }
+{
+    rounds_replay();
+    let _tops = &program.tops;
+    let (net, book) = begin(alloc, program)?;
+    team.rounds(alloc, net, book, workers, budget)
+}

@@ -1,0 +1,40 @@
+-- What a run in rounds does to a book.
+use Rattle.std.specs.Prelude.{◌≡◌, ℕ, ◌-◌, ◌++◌, ◌⊎◌, List, length}
+use Rattle.chem_model.specs.declared.event.Event.{Event}
+use Rattle.chem_model.specs.ProgramFacts.{ProgramTerms}
+use Rattle.trace_history.specs.Kept.{Kept}
+use Rattle.trace_history.specs.Book.{OnSolution, IsStuck}
+use Rattle.env_store.specs.CodeParts.{CodeParts}
+use Rattle.env_store.specs.CodeFacts.{IsCode}
+use Rattle.env_store.specs.Reading.{IsCodeOf}
+use Rattle.env_store.specs.Laws.{rules_of_group}
+use Rattle.net_laws.specs.Net.{Net, Stands}
+use Rattle.net_laws.specs.Opened.{RunsCode}
+use Rattle.net_core.specs.Scheduling.{AreRounds, ScheduleOfRounds}
+use Rattle.net_core.specs.Whole.{NetParts}
+
+-- the network runs the code of the book's program and stands for the solution of its journal, after
+-- as many events as are in it
+pub record StandForOne (book : Kept) (net : NetParts) : Type 0 where
+  pub of_program : IsCodeOf book.program net.code
+  pub stand : OnSolution book (λ n. Stands (rules_of_group book.program) net.net n)
+  pub runs : RunsCode book.program net.code net.net
+  pub counted : net.events ≡ length book.journal
+
+-- the program stays; what is appended to the journal is the schedule of rounds from the network, of
+-- at most as many events as the budget leaves, and the network that it leaves stands for the
+-- solution of the book; and at the end no event is possible or the journal has exactly as many
+-- events as the budget
+pub record RunsInRounds (net : NetParts) (old : Kept) (budget : ℕ) (new : Kept) : Type 0 where
+  pub program : new.program ≡ old.program
+  pub added : List Event
+  pub end : Net
+  pub journal : new.journal ≡ old.journal ++ added
+  pub schedule : AreRounds net.code (budget - length old.journal) net.net added end
+  pub stand : OnSolution new (λ n. Stands (rules_of_group new.program) end n)
+  pub ends : IsStuck new ⊎ (length new.journal ≡ budget)
+
+-- the schedule of a program's run in rounds
+abbrev pub RoundsOf : ProgramTerms → ℕ → List Event → Type 0
+RoundsOf p budget journal =
+    (c : CodeParts) × IsCode c × IsCodeOf p c × (end : Net) × ScheduleOfRounds c budget journal end
