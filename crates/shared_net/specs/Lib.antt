@@ -1,0 +1,10 @@
+pub mod Passes
+pub mod Turns
+pub mod Proposes
+pub mod Receives
+pub mod Agrees
+pub mod Causes
+pub mod Reports
+pub mod Closes
+pub mod Walk
+pub mod PassLends
