@@ -1,12 +1,14 @@
 // Worked cases as data, and the one test that runs them all.
+ghost use denote.Param.Send.{IsSync};
 
 use crate::lines::lines;
 use crate::outcome::{call, roomy_sink, source_of};
 use crate::refusals::refusals;
-use std::alloc::Global;
+use std::marker::Sync;
 use std::process::Abort;
 use std::test::Fail;
-use worked_texts::{Case, QUIET, examples, runs};
+use std::thread::Threads;
+use worked_texts::{Case, QUIET, examples, runs, runs_in_rounds};
 
 /// A text that is refused.
 pub const REFUSED: Case = Case {
@@ -23,11 +25,18 @@ pub const USAGE: Case = Case {
     ..REFUSED
 };
 
-/// That a case ends as it says.
-fn expect(rt: &impl Abort, alloc: Global, case: &Case) -> Result<(), Fail> {
+/// That a case ends as it says, run with these words.
+pub fn expect<R: AllocGlobal + Abort + Threads + Sync>(
+    rt: &R,
+    words: &[&str],
+    case: &Case,
+) -> Result<(), Fail>
+    requires { IsSync R.row }
+{
+    let alloc = rt.alloc();
     let source = case.source(alloc)?;
     let source = source_of(alloc, source.as_slice())?;
-    let outcome = call(alloc, case.words, source, roomy_sink(alloc)?)?;
+    let outcome = call(rt, words, source, roomy_sink(alloc)?)?;
     outcome.expect(rt, case.status, case.out, case.err);
     assert_eq!(rt; outcome.events(), case.events);
     Ok(())
@@ -35,9 +44,9 @@ fn expect(rt: &impl Abort, alloc: Global, case: &Case) -> Result<(), Fail> {
 
 #[test]
 fn worked_cases(rt: HostRuntime) -> Result<(), Fail> {
-    for cases in [runs(), refusals(), lines(), examples()] {
+    for cases in [runs(), runs_in_rounds(), refusals(), lines(), examples()] {
         for case in cases {
-            expect(&rt, rt.alloc(), case)?;
+            expect(&rt, case.words, case)?;
         }
     }
     Ok(())

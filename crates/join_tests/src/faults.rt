@@ -1,31 +1,42 @@
 // Reads and writes that fail.
+ghost use denote.Param.Send.{IsSync};
 
-use crate::outcome::{call, roomy_sink, source_of};
+use crate::outcome::{call, call_into, roomy_sink, source_of};
 use chem_model::Items;
-use join_base::{MemSink, MemSource, Sink, Source};
-use join_top::{OpenGate, run_join};
-use std::alloc::Global;
+use join_base::{MemSink, MemSource, Source};
+use std::marker::Sync;
 use std::process::Abort;
 use std::test::Fail;
+use std::thread::Threads;
 
 const FIRST: &[u8] = b"observe out/1; site s [ x(u) => out(u) : x(s) ]";
 
-const WORDS: [&str; 3] = ["alone", "--budget", "10"];
+const ALONE: [&str; 3] = ["alone", "--budget", "10"];
+
+const IN_ROUNDS: [&str; 3] = ["rounds", "--budget", "10"];
 
 /// Whichever read fails, also the one that would find the end, nothing but the line of the fault is
 /// written.
 #[test]
 fn each_read_fails(rt: HostRuntime) -> Result<(), Fail> {
     for read in &[1, 2, 3, 4] {
-        fail_at_read(&rt, rt.alloc(), *read)?;
+        fail_at_read(&rt, &ALONE, *read)?;
+        fail_at_read(&rt, &IN_ROUNDS, *read)?;
     }
     Ok(())
 }
 
-fn fail_at_read(rt: &impl Abort, alloc: Global, read: u32) -> Result<(), Fail> {
+fn fail_at_read<R: AllocGlobal + Abort + Threads + Sync>(
+    rt: &R,
+    words: &[&str],
+    read: u32,
+) -> Result<(), Fail>
+    requires { IsSync R.row }
+{
+    let alloc = rt.alloc();
     let fails = Items::from_slice(alloc, &[read])?;
     let source = MemSource::new(Items::from_slice(alloc, FIRST)?, 16, fails);
-    let run = call(alloc, &WORDS, source, roomy_sink(alloc)?)?;
+    let run = call(rt, words, source, roomy_sink(alloc)?)?;
     run.expect(rt, 3, "", "read fault\n");
     assert_eq!(rt; run.events(), None);
     Ok(())
@@ -34,18 +45,28 @@ fn fail_at_read(rt: &impl Abort, alloc: Global, read: u32) -> Result<(), Fail> {
 /// Whichever write fails, what was written before it stands there, and the run is kept.
 #[test]
 fn each_write_fails(rt: HostRuntime) -> Result<(), Fail> {
-    let alloc = rt.alloc();
-    fail_at_write(&rt, alloc, 1, "")?;
-    fail_at_write(&rt, alloc, 2, "out(")?;
-    fail_at_write(&rt, alloc, 3, "out(s)\nq")?;
-    fail_at_write(&rt, alloc, 4, "out(s)\nquies")?;
-    fail_at_write(&rt, alloc, 5, "out(s)\nquiescent")
+    for words in [&ALONE, &IN_ROUNDS] {
+        fail_at_write(&rt, words, 1, "")?;
+        fail_at_write(&rt, words, 2, "out(")?;
+        fail_at_write(&rt, words, 3, "out(s)\nq")?;
+        fail_at_write(&rt, words, 4, "out(s)\nquies")?;
+        fail_at_write(&rt, words, 5, "out(s)\nquiescent")?;
+    }
+    Ok(())
 }
 
-fn fail_at_write(rt: &impl Abort, alloc: Global, write: u32, written: &str) -> Result<(), Fail> {
+fn fail_at_write<R: AllocGlobal + Abort + Threads + Sync>(
+    rt: &R,
+    words: &[&str],
+    write: u32,
+    written: &str,
+) -> Result<(), Fail>
+    requires { IsSync R.row }
+{
+    let alloc = rt.alloc();
     let fails = Items::from_slice(alloc, &[write])?;
     let out = MemSink::new(alloc, 64, 4, fails)?;
-    let run = call(alloc, &WORDS, source_of(alloc, FIRST)?, out)?;
+    let run = call(rt, words, source_of(alloc, FIRST)?, out)?;
     run.expect(rt, 4, written, "write fault\n");
     assert_eq!(rt; run.events(), Some(1));
     Ok(())
@@ -57,7 +78,7 @@ fn one_write_is_enough(rt: HostRuntime) -> Result<(), Fail> {
     let alloc = rt.alloc();
     let fails = Items::from_slice(alloc, &[2])?;
     let out = MemSink::new(alloc, 64, 64, fails)?;
-    let run = call(alloc, &WORDS, source_of(alloc, FIRST)?, out)?;
+    let run = call(&rt, &ALONE, source_of(alloc, FIRST)?, out)?;
     run.expect(&rt, 0, "out(s)\nquiescent\n", "");
     Ok(())
 }
@@ -68,8 +89,8 @@ fn a_text_past_the_limit(rt: HostRuntime) -> Result<(), Fail> {
     let alloc = rt.alloc();
     let blanks = vec![in alloc; b' '; 1_048_580]?;
     let mut run = call(
-        alloc,
-        &WORDS,
+        &rt,
+        &ALONE,
         source_of(alloc, blanks.as_slice())?,
         roomy_sink(alloc)?,
     )?;
@@ -82,37 +103,28 @@ fn a_text_past_the_limit(rt: HostRuntime) -> Result<(), Fail> {
 /// A line that isn't taken whole leaves the status of its cause.
 #[test]
 fn the_line_of_a_fault_is_cut(rt: HostRuntime) -> Result<(), Fail> {
-    let alloc = rt.alloc();
-    let err = MemSink::new(alloc, 3, 8, Items::new(alloc))?;
-    refuse_into(&rt, alloc, b"", err, b"gra")
+    let err = MemSink::new(rt.alloc(), 3, 8, Items::new(rt.alloc()))?;
+    refuse_into(&rt, "", err, "gra")
 }
 
 /// And so does one that isn't taken at all.
 #[test]
 fn the_line_of_a_fault_is_lost(rt: HostRuntime) -> Result<(), Fail> {
-    let alloc = rt.alloc();
-    let fails = Items::from_slice(alloc, &[1])?;
-    let err = MemSink::new(alloc, 64, 8, fails)?;
-    refuse_into(&rt, alloc, b"site s [ none : q() ]", err, b"")
+    let fails = Items::from_slice(rt.alloc(), &[1])?;
+    let err = MemSink::new(rt.alloc(), 64, 8, fails)?;
+    refuse_into(&rt, "site s [ none : q() ]", err, "")
 }
 
-fn refuse_into(
-    rt: &impl Abort,
-    alloc: Global,
-    text: &[u8],
+fn refuse_into<R: AllocGlobal + Abort + Threads + Sync>(
+    rt: &R,
+    text: &str,
     err: MemSink,
-    line: &[u8],
-) -> Result<(), Fail> {
-    let mut source = source_of(alloc, text)?;
-    let mut out = roomy_sink(alloc)?;
-    let mut err = err;
-    let words = [
-        String::from_str(alloc, "alone")?,
-        String::from_str(alloc, "--budget")?,
-        String::from_str(alloc, "1")?,
-    ];
-    let ended = run_join(alloc, &words, &mut source, &mut out, &mut err, &OpenGate);
-    assert_eq!(rt; ended.status, 1);
-    assert_eq!(rt; err.taken(), line);
+    line: &str,
+) -> Result<(), Fail>
+    requires { IsSync R.row }
+{
+    let source = source_of(rt.alloc(), text.as_bytes())?;
+    let run = call_into(rt, &ALONE, source, roomy_sink(rt.alloc())?, err)?;
+    run.expect(rt, 1, "", line);
     Ok(())
 }

@@ -3,6 +3,8 @@
 #![tactic(auto)]
 
 #[cfg(test)]
+mod calls;
+#[cfg(test)]
 mod cases;
 #[cfg(test)]
 mod faults;
@@ -12,6 +14,8 @@ mod lines;
 mod outcome;
 #[cfg(test)]
 mod refusals;
+#[cfg(test)]
+mod rounds;
 #[cfg(test)]
 mod terms;
 #[cfg(test)]

@@ -232,19 +232,9 @@ const LINES: &[Case] = &[
         text: &[(1, "site s [ none : 0 ]")],
         ..USAGE
     },
-    // Well formed, but threads can not be had yet.
-    Case {
-        words: &["rounds"],
-        text: &[(1, "site s [ none : 0 ]")],
-        ..USAGE
-    },
+    // Well formed, but free threads can not be had yet.
     Case {
         words: &["run", "--workers=2", "--log"],
-        text: &[(1, "site s [ none : 0 ]")],
-        ..USAGE
-    },
-    Case {
-        words: &["gen", "5", "--by", "rounds"],
         text: &[(1, "site s [ none : 0 ]")],
         ..USAGE
     },

@@ -1,10 +1,13 @@
 // One call of the top call over memory, and what it left.
+ghost use denote.Param.Send.{IsSync};
 
 use chem_model::{Event, Items, Memory};
 use join_base::{MemSink, MemSource};
-use join_top::{Ended, OpenGate, run_join};
+use join_top::{Ended, OpenGate, Threaded, run_join};
 use std::alloc::Global;
+use std::marker::Sync;
 use std::process::Abort;
+use std::thread::Threads;
 
 /// More bytes than any line or text of these tests has.
 const ROOM: u32 = 4096;
@@ -29,20 +32,24 @@ pub fn roomy_sink(alloc: Global) -> Result<MemSink, Memory> {
     MemSink::new(alloc, ROOM, ROOM, Items::new(alloc))
 }
 
-/// Runs the words over a source and a sink of their own.
-pub fn call(
-    alloc: Global,
+/// Runs the words over a source and two sinks.
+pub fn call_into<R: AllocGlobal + Abort + Threads + Sync>(
+    rt: &R,
     words: &[&str],
     source: MemSource,
     out: MemSink,
-) -> Result<Outcome, Memory> {
+    err: MemSink,
+) -> Result<Outcome, Memory>
+    requires { IsSync R.row }
+{
+    let alloc = rt.alloc();
     let mut owned = Vec::new(alloc);
     for word in words {
         owned.push(String::from_str(alloc, word)?)?;
     }
     let mut source = source;
     let mut out = out;
-    let mut err = roomy_sink(alloc)?;
+    let mut err = err;
     let ended = run_join(
         alloc,
         owned.as_slice(),
@@ -50,6 +57,7 @@ pub fn call(
         &mut out,
         &mut err,
         &OpenGate,
+        &Threaded::new(rt),
     );
     Ok(Outcome {
         ended,
@@ -59,15 +67,29 @@ pub fn call(
     })
 }
 
-/// Runs a text with a budget.
-pub fn run(alloc: Global, budget: &str, text: &str) -> Result<Outcome, Memory> {
-    let source = source_of(alloc, text.as_bytes())?;
-    call(
-        alloc,
-        &["alone", "--budget", budget],
-        source,
-        roomy_sink(alloc)?,
-    )
+/// Runs the words over a source and a sink, and a sink of their own for errors.
+pub fn call<R: AllocGlobal + Abort + Threads + Sync>(
+    rt: &R,
+    words: &[&str],
+    source: MemSource,
+    out: MemSink,
+) -> Result<Outcome, Memory>
+    requires { IsSync R.row }
+{
+    call_into(rt, words, source, out, roomy_sink(rt.alloc())?)
+}
+
+/// Runs a text with a budget, on one thread.
+pub fn run<R: AllocGlobal + Abort + Threads + Sync>(
+    rt: &R,
+    budget: &str,
+    text: &str,
+) -> Result<Outcome, Memory>
+    requires { IsSync R.row }
+{
+    let source = source_of(rt.alloc(), text.as_bytes())?;
+    let out = roomy_sink(rt.alloc())?;
+    call(rt, &["alone", "--budget", budget], source, out)
 }
 
 impl Outcome {

@@ -1,4 +1,5 @@
 // Terms, programs and events: what is made, kept, copied and dropped.
+ghost use denote.Param.Send.{IsSync};
 
 use crate::outcome::run;
 use chem_model::{
@@ -7,7 +8,10 @@ use chem_model::{
 };
 use chem_plain::replay;
 use std::alloc::Global;
+use std::marker::Sync;
+use std::process::Abort;
 use std::test::Fail;
+use std::thread::Threads;
 
 /// `def none in (def none in ( .. halt()))`, so many levels deep, each in a parallel composition.
 fn nested(alloc: Global, levels: u32) -> Result<Proc, Memory> {
@@ -66,7 +70,7 @@ fn a_place_and_its_copy(rt: HostRuntime) -> Result<(), Fail> {
 #[test]
 fn a_journal_and_its_copy(rt: HostRuntime) -> Result<(), Fail> {
     let alloc = rt.alloc();
-    let run = run(alloc, "2", "site s [ x() => x() : x() ]")?;
+    let run = run(&rt, "2", "site s [ x() => x() : x() ]")?;
     let kept = run.ended.kept.as_ref().ok_or("nothing is kept")?;
     let copy = kept.journal.copy(alloc)?;
     assert_eq!(rt; copy.len(), 2);
@@ -95,11 +99,7 @@ fn observables_and_their_copy(rt: HostRuntime) -> Result<(), Fail> {
 #[test]
 fn the_program_of_a_text(rt: HostRuntime) -> Result<(), Fail> {
     let alloc = rt.alloc();
-    let run = run(
-        alloc,
-        "10",
-        "observe out/1; site s [ x(u) => out(u) : x(s) ]",
-    )?;
+    let run = run(&rt, "10", "observe out/1; site s [ x(u) => out(u) : x(s) ]")?;
     let kept = run.ended.kept.as_ref().ok_or("nothing is kept")?;
     let program = kept.program.copy(alloc)?;
     assert_eq!(rt; program.tops, 2);
@@ -122,11 +122,7 @@ fn the_program_of_a_text(rt: HostRuntime) -> Result<(), Fail> {
 /// The root has the number 0 and the channel 1, so that the rule is 0.2 and the message 0.3.
 #[test]
 fn the_kept_event(rt: HostRuntime) -> Result<(), Fail> {
-    let run = run(
-        rt.alloc(),
-        "10",
-        "observe out/1; site s [ x(u) => out(u) : x(s) ]",
-    )?;
+    let run = run(&rt, "10", "observe out/1; site s [ x(u) => out(u) : x(s) ]")?;
     let took = match run.first_event() {
         Some(Event::React { rule, took }) => took.as_slice().first().map(|atom| (*rule, *atom)),
         _ => None,
@@ -140,17 +136,22 @@ fn the_kept_event(rt: HostRuntime) -> Result<(), Fail> {
 
 /// How many observables, and how many messages and requests, the replay of a kept journal ends
 /// with.
-fn replayed(alloc: Global, text: &str) -> Result<Option<(usize, usize)>, Memory> {
-    let run = run(alloc, "10", text)?;
+fn replayed<R: AllocGlobal + Abort + Threads + Sync>(
+    rt: &R,
+    text: &str,
+) -> Result<Option<(usize, usize)>, Memory>
+    requires { IsSync R.row }
+{
+    let run = run(rt, "10", text)?;
     let Some(kept) = run.ended.kept.as_ref() else {
         return Ok(None);
     };
-    let reached = replay(alloc, &kept.program, &kept.journal)?;
+    let reached = replay(rt.alloc(), &kept.program, &kept.journal)?;
     Ok(reached.map(|solution| (solution.trace.len(), solution.atoms.len())))
 }
 
 #[test]
 fn the_kept_journal_replays(rt: HostRuntime) {
     let text = "observe out/1; site s [ x(u) => out(u) and y(u) => 0 : x(s) ]";
-    assert_eq!(rt; replayed(rt.alloc(), text), Ok(Some((1, 0))));
+    assert_eq!(rt; replayed(&rt, text), Ok(Some((1, 0))));
 }

@@ -1,14 +1,23 @@
 // Words that leave the source unread, and rings.
+ghost use denote.Param.Send.{IsSync};
 
 use crate::outcome::{call, roomy_sink, source_of};
 use join_base::Source;
-use std::alloc::Global;
+use std::marker::Sync;
 use std::process::Abort;
 use std::test::Fail;
+use std::thread::Threads;
 
 /// That no byte of the source is taken, and that the call ends with this status.
-fn expect_unread(rt: &impl Abort, alloc: Global, words: &[&str], status: u8) -> Result<(), Fail> {
-    let mut run = call(alloc, words, source_of(alloc, b"abc")?, roomy_sink(alloc)?)?;
+fn expect_unread<R: AllocGlobal + Abort + Threads + Sync>(
+    rt: &R,
+    words: &[&str],
+    status: u8,
+) -> Result<(), Fail>
+    requires { IsSync R.row }
+{
+    let alloc = rt.alloc();
+    let mut run = call(rt, words, source_of(alloc, b"abc")?, roomy_sink(alloc)?)?;
     assert_eq!(rt; run.ended.status, status);
     let mut buffer = [0u8; 8];
     assert_eq!(rt; run.source.read(&mut buffer), Ok(3));
@@ -17,12 +26,13 @@ fn expect_unread(rt: &impl Abort, alloc: Global, words: &[&str], status: u8) -> 
 
 #[test]
 fn the_source_is_unread(rt: HostRuntime) -> Result<(), Fail> {
-    expect_unread(&rt, rt.alloc(), &[], 2)?;
-    expect_unread(&rt, rt.alloc(), &["fly"], 2)?;
-    expect_unread(&rt, rt.alloc(), &["gen"], 2)?;
-    expect_unread(&rt, rt.alloc(), &["alone", "--budget", "1000001"], 2)?;
-    expect_unread(&rt, rt.alloc(), &["rounds"], 2)?;
-    expect_unread(&rt, rt.alloc(), &["gen", "2"], 0)
+    expect_unread(&rt, &[], 2)?;
+    expect_unread(&rt, &["fly"], 2)?;
+    expect_unread(&rt, &["gen"], 2)?;
+    expect_unread(&rt, &["alone", "--budget", "1000001"], 2)?;
+    expect_unread(&rt, &["run"], 2)?;
+    expect_unread(&rt, &["gen", "2"], 0)?;
+    expect_unread(&rt, &["gen", "2", "--by", "rounds"], 0)
 }
 
 /// No ring has a refusal: with no event left each of them is stopped.
@@ -32,7 +42,7 @@ fn rings_of_all_sizes(rt: HostRuntime) -> Result<(), Fail> {
     for size in 1u32..65 {
         let size = format!(in alloc; "{size}")?;
         let words = ["gen", size.as_str(), "--budget", "0"];
-        let run = call(alloc, &words, source_of(alloc, b"")?, roomy_sink(alloc)?)?;
+        let run = call(&rt, &words, source_of(alloc, b"")?, roomy_sink(alloc)?)?;
         run.expect(&rt, 5, "events 0\nobservables 0\nstopped\n", "");
     }
     Ok(())

@@ -4,8 +4,10 @@
 
 mod case;
 mod programs;
+mod rounds;
 mod small;
 
 pub use case::{Case, QUIET};
 pub use programs::examples;
+pub use rounds::runs_in_rounds;
 pub use small::runs;

@@ -1,0 +1,84 @@
+// Runs in rounds with several numbers of workers.
+ghost use denote.Param.Send.{IsSync};
+
+use crate::cases::expect;
+use crate::outcome::{call, source_of};
+use chem_model::Items;
+use join_base::MemSink;
+use std::alloc::{AllocError, Global};
+use std::marker::Sync;
+use std::process::Abort;
+use std::test::Fail;
+use std::thread::Threads;
+use worked_texts::{Case, examples, runs};
+
+/// More bytes than the log of any of these runs has.
+const ROOM: u32 = 65_536;
+
+/// The words of a case, in rounds and with so many workers.
+fn in_rounds(
+    alloc: Global,
+    case: &Case,
+    workers: &'static str,
+) -> Result<Vec<&'static str>, AllocError> {
+    let mut words = Vec::new(alloc);
+    for word in case.words {
+        words.push(if *word == "alone" { "rounds" } else { *word })?;
+    }
+    words.push("--workers")?;
+    words.push(workers)?;
+    Ok(words)
+}
+
+/// Where no order is open, a text ends in rounds as it does on one thread.
+#[test]
+fn worked_texts_in_rounds(rt: HostRuntime) -> Result<(), Fail> {
+    for case in runs() {
+        for workers in ["1", "4"] {
+            let words = in_rounds(rt.alloc(), case, workers)?;
+            expect(&rt, words.as_slice(), case)?;
+        }
+    }
+    Ok(())
+}
+
+/// The log of a program, in rounds and with so many workers. The program ends quiet.
+fn log_of<R: AllocGlobal + Abort + Threads + Sync>(
+    rt: &R,
+    case: &Case,
+    workers: &'static str,
+) -> Result<Vec<u8>, Fail>
+    requires { IsSync R.row }
+{
+    let alloc = rt.alloc();
+    let mut words = in_rounds(alloc, case, workers)?;
+    words.push("--log")?;
+    let source = case.source(alloc)?;
+    let source = source_of(alloc, source.as_slice())?;
+    let out = MemSink::new(alloc, ROOM, ROOM, Items::new(alloc))?;
+    let run = call(rt, words.as_slice(), source, out)?;
+    assert_eq!(rt; run.ended.status, 0);
+    let mut log = Vec::new(alloc);
+    log.extend_from_slice(run.out.taken())?;
+    Ok(log)
+}
+
+/// A program has one log, whatever the number of workers.
+fn expect_one_log<R: AllocGlobal + Abort + Threads + Sync>(rt: &R, case: &Case) -> Result<(), Fail>
+    requires { IsSync R.row }
+{
+    let first = log_of(rt, case, "1")?;
+    let third = log_of(rt, case, "3")?;
+    let last = log_of(rt, case, "16")?;
+    assert_eq!(rt; third.as_slice(), first.as_slice());
+    assert_eq!(rt; last.as_slice(), first.as_slice());
+    Ok(())
+}
+
+#[test]
+fn examples_in_rounds(rt: HostRuntime) -> Result<(), Fail> {
+    for case in examples() {
+        expect_one_log(&rt, case)?;
+    }
+    Ok(())
+}

@@ -1,0 +1,113 @@
+// A network, and a book that makes the same events.
+
+use chem_model::{Event, Memory, Out, Program};
+use guard_compile::compile;
+use join_base::Front;
+use join_lex::lex;
+use join_parse::parse;
+use net_core::{Choice, Net};
+use scope_check::check;
+use std::alloc::Global;
+use trace_history::{Book, Commit};
+
+/// More events than any run of these tests has.
+const MOST_EVENTS: u32 = 10_000;
+
+/// The network of a program, a book of the same program, and how many sites and guards there are.
+#[derive(Drop)]
+pub struct Both {
+    pub net: Net,
+    pub book: Book,
+    pub sites: u32,
+    pub guards: u32,
+}
+
+/// What became of a choice: it was made, and the book made its event too, where it is one; it isn't
+/// enabled, or there are too many events; or the book doesn't make its event.
+#[derive(Clone, Copy, PartialEq, Eq, Debug)]
+pub enum Step {
+    Made,
+    Not,
+    Refused,
+}
+
+pub fn program_of(alloc: Global, text: &[u8]) -> Result<Program, Front> {
+    let tokens = lex(alloc, text)?;
+    let tree = parse(alloc, &tokens)?;
+    check(alloc, &tree)
+}
+
+/// The network and the book of a text, each after its opening.
+pub fn both_of(alloc: Global, text: &[u8]) -> Result<Both, Front> {
+    let program = program_of(alloc, text)?;
+    let code = compile(alloc, &program)?;
+    let net = Net::start(alloc, &program, &code)?;
+    let book = Book::start(alloc, &program)?;
+    Ok(Both {
+        net,
+        book,
+        sites: program.sites.len() as u32,
+        guards: code.guards.len() as u32,
+    })
+}
+
+fn commit(alloc: Global, book: &mut Book, event: &Event) -> Result<Step, Memory> {
+    if book.journal().len() >= MOST_EVENTS as usize {
+        return Ok(Step::Not);
+    }
+    match book.commit(alloc, event)? {
+        Commit::Place(_) => Ok(Step::Made),
+        Commit::NotEnabled => Ok(Step::Refused),
+    }
+}
+
+fn same_out(one: &Out, other: &Out) -> bool {
+    one.on == other.on && one.args.as_slice() == other.args.as_slice()
+}
+
+fn same_outs(one: &[Out], other: &[Out]) -> bool {
+    if one.len() != other.len() {
+        return false;
+    }
+    for at in 0..one.len() {
+        if !same_out(&one[at], &other[at]) {
+            return false;
+        }
+    }
+    true
+}
+
+impl Both {
+    /// Makes a choice, and its event in the book.
+    pub fn make(&mut self, alloc: Global, choice: &Choice) -> Result<Step, Memory> {
+        if self.net.events() >= MOST_EVENTS || !self.net.enabled(choice) {
+            return Ok(Step::Not);
+        }
+        match self.net.act(alloc, choice)? {
+            Some(event) => commit(alloc, &mut self.book, &event),
+            None => Ok(Step::Made),
+        }
+    }
+
+    /// Delivers what is under way, the first packet first. No event comes of it.
+    pub fn deliver_all(&mut self, alloc: Global) -> Result<Step, Memory> {
+        for _ in 0..MOST_EVENTS {
+            if self.net.flights() == 0 {
+                return Ok(Step::Made);
+            }
+            let step = self.make(alloc, &Choice::Deliver { flight: 0 })?;
+            if step != Step::Made {
+                return Ok(step);
+            }
+        }
+        Ok(Step::Not)
+    }
+
+    /// Whether the network and the book have the same trace, and the book is quiet exactly where
+    /// the network has no next choice.
+    pub fn agree(&self, alloc: Global) -> Result<bool, Memory> {
+        let trace = self.net.trace(alloc)?;
+        let same = same_outs(trace.as_slice(), self.book.trace().as_slice());
+        Ok(same && self.net.next().is_none() == self.book.quiet())
+    }
+}

@@ -1,0 +1,14 @@
+//! Tests of networks: the worked texts, run through a network and a book side by side, whatever
+//! comes next.
+#![tactic(auto)]
+
+#[cfg(test)]
+mod both;
+#[cfg(test)]
+mod forwarding;
+#[cfg(test)]
+mod orders;
+#[cfg(test)]
+mod rounds;
+#[cfg(test)]
+mod worked;

@@ -1,0 +1,225 @@
+// Calls whose arguments are made by hand, each with a test of what it needs before it.
+ghost use Rattle.std.specs.Prelude.{◌≡◌, ◌<◌, ◌∷◌, [], length, slice_get, option_copied};
+ghost use Rattle.std.specs.Prelude.{IsTrue, IfOk, IfSome};
+ghost use Rattle.chem_model.specs.declared.name.Name.TheVariants as name;
+ghost use Rattle.env_store.specs.CodeFacts.{IsCode, IsBodyAt};
+ghost use Rattle.net_laws.specs.ByCode.{counts_at, guards_at};
+
+use crate::calls::{draws, fit};
+use chem_model::{AtomId, Items, Loc, Memory, Name, Names, Nums, RuleId};
+use env_store::{Code, Guard, Level};
+use loc_tree::LocTree;
+use site_solution::{Effects, Site, message_is_there, site_is_kept};
+use std::alloc::Global;
+use std::process::Abort;
+use wire_packet::{Ask, GroupInst, Msg, Parcel, Request};
+
+/// Names that are one location.
+pub fn names_of(alloc: Global, place: Loc) -> Result<Names, Memory>
+    ensures { IfOk result (λ names. names ≡ name.Place place ∷ []) }
+{
+    let mut names = Items::new(alloc);
+    names.push(Name::Place(place))?;
+    Ok(names)
+}
+
+/// A message without arguments.
+pub fn bare(alloc: Global, id: AtomId, on: Name) -> Msg {
+    Msg {
+        id,
+        on,
+        args: Items::new(alloc),
+    }
+}
+
+/// A message with one location.
+pub fn message(alloc: Global, id: AtomId, on: Name, place: Loc) -> Result<Msg, Memory> {
+    let args = names_of(alloc, place)?;
+    Ok(Msg { id, on, args })
+}
+
+/// Puts a message on a channel with this home.
+pub fn put_at(
+    rt: &impl Abort,
+    site: &mut Site,
+    id: AtomId,
+    k: u64,
+    home: Loc,
+    args: Names,
+) -> Result<(), Memory> {
+    assert!(rt; args.len() <= 255);
+    let msg = Msg {
+        id,
+        on: Name::Chan { site: 0, k, home },
+        args,
+    };
+    assert!(rt; site.has(&home));
+    assert!(rt; !site.has_atom(&msg.id));
+    site.put(&home, msg).map_err(|back| back.1)
+}
+
+// The level is there, and has few channels and guards.
+fn is_small(code: &Code, level: u32) -> bool
+    ensures there { IsTrue result → level < length code.now.levels }
+    ensures counts { IsTrue result → length (counts_at (slice_get code.now.levels level)) < 1000 }
+    ensures guards { IsTrue result → guards_at (slice_get code.now.levels level) < 1000 }
+{
+    match code.levels.as_slice().get(level as usize) {
+        Some(level) => level.counts.len() < 1000 && level.guards < 1000,
+        None => false,
+    }
+}
+
+/// Lays a group of a level, as the first one of its site, with these first numbers of site 0 and no
+/// environment.
+pub fn lay_at(
+    rt: &impl Abort,
+    alloc: Global,
+    site: &mut Site,
+    code: &Code,
+    loc: Loc,
+    level: u32,
+    chans: u64,
+    rules: u64,
+) -> Result<(), Memory> {
+    assert!(rt; chans < 1000 && rules < 1000);
+    assert!(rt; is_small(code, level));
+    assert!(rt; site.has(&loc));
+    assert!(rt; site.groups() == 0);
+    let group = GroupInst {
+        loc,
+        level,
+        chans: AtomId { site: 0, k: chans },
+        rules: RuleId { site: 0, k: rules },
+        env: Items::new(alloc),
+    };
+    site.lay(alloc, code, group)
+}
+
+/// Asks for a halt.
+pub fn ask_halt(rt: &impl Abort, site: &mut Site, id: AtomId, loc: Loc) -> Result<(), Memory> {
+    let request = Request {
+        id,
+        loc,
+        ask: Ask::Halt,
+    };
+    assert!(rt; site.has(&loc));
+    assert!(rt; !site.has_atom(&id));
+    site.ask(request)
+}
+
+pub fn host_at(rt: &impl Abort, site: &mut Site, loc: Loc) -> Result<(), Memory> {
+    assert!(rt; !site.has(&loc));
+    site.host(&loc)
+}
+
+pub fn drop_at(rt: &impl Abort, site: &mut Site, atom: AtomId) {
+    assert!(rt; site.request(&atom).is_some());
+    site.drop_request(&atom);
+}
+
+/// Pours one message at a location.
+pub fn emit_at(
+    rt: &impl Abort,
+    alloc: Global,
+    site: &mut Site,
+    tree: &LocTree,
+    counts: &Nums,
+    loc: Loc,
+    on: Name,
+    args: Names,
+) -> Result<Effects, Memory> {
+    assert!(rt; site.in_tree(tree));
+    draws(rt, site, tree);
+    assert!(rt; site.has(&loc));
+    assert!(rt; tree.holds(&loc));
+    assert!(rt; tree.alive(&loc));
+    assert!(rt; args.len() <= 255);
+    let id = AtomId { site: 0, k: 0 };
+    let told = Msg { id, on, args };
+    assert!(rt; message_is_there(tree, &told));
+    let Msg { id: _, on, args } = told;
+    site.emit(alloc, tree, counts, &loc, on, args)
+}
+
+fn guard_at(code: &Code, number: usize) -> Option<&Guard>
+    ensures { option_copied result ≡ slice_get code.now.guards number }
+{
+    code.guards.as_slice().get(number)
+}
+
+fn level_at(code: &Code, number: u32) -> Option<&Level>
+    ensures { option_copied result ≡ slice_get code.now.levels number }
+{
+    code.levels.as_slice().get(number as usize)
+}
+
+fn count_at(level: &Level, chan: u32) -> Option<u32>
+    ensures { result ≡ slice_get level.now.counts chan }
+{
+    level.counts.as_slice().get(chan as usize).copied()
+}
+
+// The facts of code hold. It does nothing.
+fn code_is_kept(code: &Code)
+    ensures { IsCode code.now }
+{
+    let _guards = &code.guards;
+}
+
+// The body of a guard of one channel, and how many names it begins with.
+fn body_of(code: &Code, guard: usize) -> Option<(u32, usize)>
+    ensures { IfSome result (λ r. IsBodyAt code.now r.1 r.0) }
+{
+    code_is_kept(code);
+    let guard = guard_at(code, guard)?;
+    let level = level_at(code, guard.level)?;
+    if guard.chans.len() != 1 {
+        return None;
+    }
+    let chan = *guard.chans.as_slice().first()?;
+    let count = count_at(level, chan)?;
+    Some((guard.body, level.depth as usize + count as usize))
+}
+
+/// Pours the body of a guard of one channel at a location, under this location alone.
+pub fn pour_at(
+    rt: &impl Abort,
+    alloc: Global,
+    site: &mut Site,
+    code: &Code,
+    tree: &LocTree,
+    loc: Loc,
+    guard: usize,
+) -> Result<Effects, Memory> {
+    fit(rt, site, code, tree);
+    draws(rt, site, tree);
+    assert!(rt; site.has(&loc));
+    assert!(rt; tree.holds(&loc));
+    assert!(rt; tree.alive(&loc));
+    let env = names_of(alloc, loc)?;
+    match body_of(code, guard) {
+        Some((body, 1)) => site.pour(alloc, code, tree, &loc, body, &env),
+        _ => Err(Memory),
+    }
+}
+
+/// Takes in a location with one group and nothing else, at a site without groups.
+pub fn take_in_at(
+    rt: &impl Abort,
+    alloc: Global,
+    site: &mut Site,
+    code: &Code,
+    parcel: &Parcel,
+) -> Result<(), Memory> {
+    site_is_kept(site);
+    assert!(rt; site.groups() == 0);
+    assert!(rt; !site.has(&parcel.loc));
+    assert!(rt; parcel.waiting.is_empty());
+    assert!(rt; parcel.requests.is_empty());
+    assert_eq!(rt; parcel.groups.len(), 1);
+    let group = &parcel.groups.as_slice()[0];
+    assert!(rt; group.chans.k < 1000 && group.rules.k < 1000);
+    assert!(rt; is_small(code, group.level));
+    site.take_in(alloc, code, parcel)
+}

@@ -1,0 +1,120 @@
+// A move whose memory may be refused. `bench/refused.sh` refuses each of its allocations in turn.
+
+use crate::calls::move_over;
+use crate::net::{Net, Pair, atom, has_at, hosts, loc, net_of, stands};
+use chem_model::{Items, Memory, Text};
+use loc_tree::LocTree;
+use site_solution::Site;
+use std::alloc::Global;
+use std::process::Abort;
+use std::test::Fail;
+use wire_packet::{Packet, encode};
+
+/// The location that moves.
+const M: Pair = (0, 1);
+
+/// The location is 0.1. There wait 0.7 on the channel that its process makes, and 0.8 and 0.9 on
+/// another; it asks to go by 0.10, to detect by 0.11 and to halt by 0.12. The continuation is 1.4.
+fn traveller() -> &'static [u8] {
+    b"observe out/1; \
+      site a [ m[ p(u) | k() => out(u) : \
+        def z(u) => out(u) in z(m) | p(b) | p(b) | go(b, k) | fail(a, k) | halt() ] : 0 ] \
+      site b [ x() => 0 : x() ]"
+}
+
+// What stands at a location of a site, as bytes.
+fn tell(alloc: Global, site: &Site, place: Pair, text: &mut Text) -> Result<(), Memory> {
+    text.push(u8::from(site.has(&loc(place))))?;
+    let parcel = site.pack(alloc, &loc(place))?;
+    let bytes = encode(alloc, &Packet::Parcel(parcel))?;
+    text.extend_from_slice(bytes.as_slice())
+}
+
+// All that a site holds, as bytes.
+fn tell_all(alloc: Global, site: &Site, text: &mut Text) -> Result<(), Memory> {
+    tell(alloc, site, (0, 0), text)?;
+    tell(alloc, site, M, text)?;
+    tell(alloc, site, (1, 0), text)?;
+    text.extend_from_slice(&site.made().to_be_bytes())
+}
+
+// Where the tree has a location, as bytes.
+fn tell_place(tree: &LocTree, place: Pair, text: &mut Text) -> Result<(), Memory> {
+    let place = loc(place);
+    if tree.holds(&place) {
+        text.extend_from_slice(&tree.root(&place).to_be_bytes())?;
+        text.push(u8::from(tree.alive(&place)))?;
+    }
+    Ok(())
+}
+
+// All that the sites and the tree hold, as bytes.
+fn told(alloc: Global, net: &Net) -> Result<Text, Memory> {
+    let mut text = Items::new(alloc);
+    for site in net.sites.iter() {
+        tell_all(alloc, site, &mut text)?;
+    }
+    tell_place(&net.tree, (0, 0), &mut text)?;
+    tell_place(&net.tree, M, &mut text)?;
+    tell_place(&net.tree, (1, 0), &mut text)?;
+    Ok(text)
+}
+
+// Whether the location is made to move.
+fn goes(rt: &impl Abort, alloc: Global, net: &mut Net) -> Result<bool, Memory> {
+    let Net {
+        code,
+        counts: _,
+        tree,
+        sites,
+    } = net;
+    assert!(rt; sites.len() == 2);
+    let mut from = sites.remove(0);
+    let moved = match sites.get_mut(0) {
+        Some(into) => move_over(rt, alloc, &mut from, into, tree, code, atom((0, 10))).is_ok(),
+        None => false,
+    };
+    sites.insert(0, from)?;
+    Ok(moved)
+}
+
+// Whether the location moved; where memory ran out on the way, the sites and the tree are as they
+// were.
+fn has_moved(rt: &impl Abort, alloc: Global, net: &mut Net) -> Result<bool, Memory> {
+    let before = told(alloc, net)?;
+    let moved = goes(rt, alloc, net)?;
+    let after = told(alloc, net)?;
+    assert_eq!(rt; after.as_slice() == before.as_slice(), !moved);
+    Ok(moved)
+}
+
+// It stands at the second site, with all that stood there.
+fn expect_moved(rt: &impl Abort, alloc: Global, net: &Net) -> Result<(), Memory> {
+    stands(rt, net, M, 1, true);
+    hosts(rt, net, 0, M, false);
+    has_at(rt, alloc, net, 0, M, 0, &[])?;
+    let there = [(0, 8), (0, 9), (1, 4), (0, 7), (0, 11), (0, 12)];
+    has_at(rt, alloc, net, 1, M, 2, &there)
+}
+
+// Whether the location moved, with all that stands there.
+fn moves(rt: &impl Abort, alloc: Global) -> Result<bool, Memory> {
+    let mut net = net_of(rt, alloc, traveller())?;
+    let moved = has_moved(rt, alloc, &mut net)?;
+    if moved {
+        expect_moved(rt, alloc, &net)?;
+    }
+    Ok(moved)
+}
+
+/// It says how it ended. Where all memory is there, the location moves.
+#[test]
+fn a_move_is_whole_or_not_made(rt: HostRuntime) -> Result<(), Fail> {
+    let ended = match moves(&rt, rt.alloc()) {
+        Ok(true) => "moved",
+        Ok(false) => "as before",
+        Err(_) => "beside the move",
+    };
+    println!(rt; "{ended}")?;
+    Ok(())
+}

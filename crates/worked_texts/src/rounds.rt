@@ -1,0 +1,366 @@
+// Texts that are run in rounds, and beside them on one thread where that differs.
+
+use crate::case::{Case, QUIET};
+
+const IN_ROUNDS: &[Case] = &[
+    // Each site reacts as often as its share of the budget allows, whatever the number of workers.
+    Case {
+        words: &["rounds", "--budget", "10", "--workers", "1", "--log"],
+        text: &[(
+            1,
+            "site s [ x() => 0 : x() | x() ] site t [ y() => 0 : y() | y() ]",
+        )],
+        out: r"joinlog 1
+source 63
+site s [ x() => 0 : x() | x() ] site t [ y() => 0 : y() | y() ]
+budget 10
+events 4
+react 0.2 0.3
+react 0.2 0.4
+react 1.2 1.3
+react 1.2 1.4
+trace 10
+quiescent
+",
+        events: Some(4),
+        ..QUIET
+    },
+    Case {
+        words: &["rounds", "--budget", "10", "--workers", "4", "--log"],
+        text: &[(
+            1,
+            "site s [ x() => 0 : x() | x() ] site t [ y() => 0 : y() | y() ]",
+        )],
+        out: r"joinlog 1
+source 63
+site s [ x() => 0 : x() | x() ] site t [ y() => 0 : y() | y() ]
+budget 10
+events 4
+react 0.2 0.3
+react 0.2 0.4
+react 1.2 1.3
+react 1.2 1.4
+trace 10
+quiescent
+",
+        events: Some(4),
+        ..QUIET
+    },
+    // The shares are the whole budget.
+    Case {
+        words: &["rounds", "--budget", "4", "--log"],
+        text: &[(
+            1,
+            "site s [ x() => 0 : x() | x() ] site t [ y() => 0 : y() | y() ]",
+        )],
+        out: r"joinlog 1
+source 63
+site s [ x() => 0 : x() | x() ] site t [ y() => 0 : y() | y() ]
+budget 4
+events 4
+react 0.2 0.3
+react 0.2 0.4
+react 1.2 1.3
+react 1.2 1.4
+trace 10
+quiescent
+",
+        events: Some(4),
+        ..QUIET
+    },
+    // A share of one event for each site. The event that is left then is the next one's.
+    Case {
+        words: &["rounds", "--budget", "3", "--log"],
+        text: &[(
+            1,
+            "site s [ x() => 0 : x() | x() ] site t [ y() => 0 : y() | y() ]",
+        )],
+        status: 5,
+        out: r"joinlog 1
+source 63
+site s [ x() => 0 : x() | x() ] site t [ y() => 0 : y() | y() ]
+budget 3
+events 3
+react 0.2 0.3
+react 1.2 1.3
+react 0.2 0.4
+trace 8
+stopped
+",
+        events: Some(3),
+        ..QUIET
+    },
+    // No event is left.
+    Case {
+        words: &["rounds", "--budget", "2", "--log"],
+        text: &[(
+            1,
+            "site s [ x() => 0 : x() | x() ] site t [ y() => 0 : y() | y() ]",
+        )],
+        status: 5,
+        out: r"joinlog 1
+source 63
+site s [ x() => 0 : x() | x() ] site t [ y() => 0 : y() | y() ]
+budget 2
+events 2
+react 0.2 0.3
+react 1.2 1.3
+trace 8
+stopped
+",
+        events: Some(2),
+        ..QUIET
+    },
+    // Fewer events than sites.
+    Case {
+        words: &["rounds", "--budget", "1", "--log"],
+        text: &[(
+            1,
+            "site s [ x() => 0 : x() | x() ] site t [ y() => 0 : y() | y() ]",
+        )],
+        status: 5,
+        out: r"joinlog 1
+source 63
+site s [ x() => 0 : x() | x() ] site t [ y() => 0 : y() | y() ]
+budget 1
+events 1
+react 0.2 0.3
+trace 8
+stopped
+",
+        events: Some(1),
+        ..QUIET
+    },
+    // What is under way when the budget is used up could be taken: the run is stopped.
+    Case {
+        words: &["rounds", "--budget", "1"],
+        text: &[(
+            1,
+            "observe out/0; site a [ x() => y() : x() ] site b [ y() => out() : 0 ]",
+        )],
+        status: 5,
+        out: "stopped\n",
+        events: Some(1),
+        ..QUIET
+    },
+    // The last event takes what was under way.
+    Case {
+        words: &["rounds", "--budget", "2"],
+        text: &[(
+            1,
+            "observe out/0; site a [ x() => y() : x() ] site b [ y() => out() : 0 ]",
+        )],
+        out: "out()\nquiescent\n",
+        events: Some(2),
+        ..QUIET
+    },
+    // A reaction in each of two rounds.
+    Case {
+        words: &["rounds", "--budget", "10"],
+        text: &[(
+            1,
+            "observe out/0; site a [ x() => y() : x() ] site b [ y() => out() : 0 ]",
+        )],
+        out: "out()\nquiescent\n",
+        events: Some(2),
+        ..QUIET
+    },
+    // What opens a location is made once all sites have worked.
+    Case {
+        words: &["rounds", "--budget", "10"],
+        text: &[(
+            1,
+            "observe out/1; site a [ x() => def m[ none : out(m) ] in 0 : x() ] site b [ \
+            y() => out(b) : y() ]",
+        )],
+        out: "out(b)\nout(m'1)\nquiescent\n",
+        events: Some(2),
+        ..QUIET
+    },
+    // The same on one thread.
+    Case {
+        words: &["alone", "--budget", "10"],
+        text: &[(
+            1,
+            "observe out/1; site a [ x() => def m[ none : out(m) ] in 0 : x() ] site b [ \
+            y() => out(b) : y() ]",
+        )],
+        out: "out(m'1)\nout(b)\nquiescent\n",
+        events: Some(2),
+        ..QUIET
+    },
+    // A location that shows nothing.
+    Case {
+        words: &["rounds", "--budget", "10"],
+        text: &[(1, "site s [ x() => def m[ none : 0 ] in 0 : x() ]")],
+        events: Some(1),
+        ..QUIET
+    },
+    // The message is sent before its location moves, and comes to the old site. That sends it on, in
+    // a round without events.
+    Case {
+        words: &["rounds", "--budget", "10", "--log"],
+        text: &[(
+            1,
+            "observe out/1; site a [ m[ k() | never() => 0 and x(u) => out(u) : go(b, k) \
+            ] : 0 ] site b [ start() => x(b) : start() ]",
+        )],
+        out: r"joinlog 1
+source 120
+observe out/1; site a [ m[ k() | never() => 0 and x(u) => out(u) : go(b, k) ] : 0 ] site b [ start() => x(b) : start() ]
+budget 10
+events 3
+react 1.2 1.3
+move 0.7
+react 0.6 1.4
+trace 17
+out(b)
+quiescent
+",
+        events: Some(3),
+        ..QUIET
+    },
+    // The same on one thread.
+    Case {
+        words: &["alone", "--budget", "10", "--log"],
+        text: &[(
+            1,
+            "observe out/1; site a [ m[ k() | never() => 0 and x(u) => out(u) : go(b, k) \
+            ] : 0 ] site b [ start() => x(b) : start() ]",
+        )],
+        out: r"joinlog 1
+source 120
+observe out/1; site a [ m[ k() | never() => 0 and x(u) => out(u) : go(b, k) ] : 0 ] site b [ start() => x(b) : start() ]
+budget 10
+events 3
+move 0.7
+react 1.2 1.3
+react 0.6 1.5
+trace 17
+out(b)
+quiescent
+",
+        events: Some(3),
+        ..QUIET
+    },
+    // In a round a site reacts 64 times at most.
+    Case {
+        words: &["rounds", "--budget", "1000"],
+        text: &[
+            (1, "observe out/1; site s [ x() => out(s) : x()"),
+            (64, " | x()"),
+            (1, " ] site t [ y() => out(t) : y() ]"),
+        ],
+        out: r"out(s)
+out(s)
+out(s)
+out(s)
+out(s)
+out(s)
+out(s)
+out(s)
+out(s)
+out(s)
+out(s)
+out(s)
+out(s)
+out(s)
+out(s)
+out(s)
+out(s)
+out(s)
+out(s)
+out(s)
+out(s)
+out(s)
+out(s)
+out(s)
+out(s)
+out(s)
+out(s)
+out(s)
+out(s)
+out(s)
+out(s)
+out(s)
+out(s)
+out(s)
+out(s)
+out(s)
+out(s)
+out(s)
+out(s)
+out(s)
+out(s)
+out(s)
+out(s)
+out(s)
+out(s)
+out(s)
+out(s)
+out(s)
+out(s)
+out(s)
+out(s)
+out(s)
+out(s)
+out(s)
+out(s)
+out(s)
+out(s)
+out(s)
+out(s)
+out(s)
+out(s)
+out(s)
+out(s)
+out(s)
+out(t)
+out(s)
+quiescent
+",
+        events: Some(66),
+        ..QUIET
+    },
+    // Rings.
+    Case {
+        words: &["gen", "64", "--budget", "1000", "--by", "rounds"],
+        text: &[(1, "this is not read")],
+        out: "events 640\nobservables 64\nquiescent\n",
+        events: Some(640),
+        ..QUIET
+    },
+    Case {
+        words: &[
+            "gen",
+            "64",
+            "--budget",
+            "1000",
+            "--by=rounds",
+            "--workers=1",
+        ],
+        text: &[(1, "this is not read")],
+        out: "events 640\nobservables 64\nquiescent\n",
+        events: Some(640),
+        ..QUIET
+    },
+    Case {
+        words: &["gen", "1", "--by", "rounds"],
+        text: &[(1, "this is not read")],
+        out: "events 10\nobservables 1\nquiescent\n",
+        events: Some(10),
+        ..QUIET
+    },
+    Case {
+        words: &["--budget", "0", "gen", "5", "--by", "rounds"],
+        text: &[(1, "this is not read")],
+        status: 5,
+        out: "events 0\nobservables 0\nstopped\n",
+        ..QUIET
+    },
+];
+
+/// Runs in rounds, and beside them those on one thread that differ.
+pub fn runs_in_rounds() -> &'static [Case] {
+    IN_ROUNDS
+}
