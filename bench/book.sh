@@ -76,6 +76,55 @@ events() {
     fi
 }
 
+# grown NAME FROM TO: the processor time of an event of a run of so many events, and of one of so many more
+grown() {
+    local name=$1 from=$2 to=$3 before after
+    cat >"$work/text"
+    before=$(nanoseconds "$from")
+    after=$(nanoseconds "$to")
+    echo "$name: $(each 0 "$from" 0 "$before") ns an event up to $from events, $(each 0 "$to" 0 "$after") up to $to"
+}
+
+# most BUDGET: how many kilobytes a run held at most
+most() {
+    local run high=0 now
+    "$JOIN_PROGRAM" alone --budget "$1" <"$work/text" >/dev/null &
+    run=$!
+    while kill -0 "$run" 2>/dev/null; do
+        now=$(awk '/VmHWM/ { print $2 }' "/proc/$run/status" 2>/dev/null || true)
+        [ "${now:-0}" -gt "$high" ] && high=$now
+        sleep 0.01
+    done
+    wait "$run" || true
+    echo "$high"
+}
+
+# held NAME: the bytes that a run of 1,000,000 events holds more than one of 100,000, for each event
+held() {
+    cat >"$work/text"
+    echo "$1: $(each 100000 1000000 "$(($(most 100000) * 1024))" "$(($(most 1000000) * 1024))") bytes an event"
+}
+
+# whole NAME BUDGET: the processor time of a whole run, in milliseconds
+whole() {
+    local name=$1 taken
+    cat >"$work/text"
+    if taken=$(nanoseconds "$2"); then
+        echo "$name: $((taken / 1000000)) ms"
+    else
+        echo "$name: more than $limit seconds"
+        return 1
+    fi
+}
+
+# channels COUNT: a site with so many channels, each with its rule
+channels() {
+    local i
+    printf 'site s [ '
+    for ((i = 1; i < $1; i++)); do printf 'n%d() => 0 and ' "$i"; done
+    printf 'c(x) => c(x) : c(s) ]\n'
+}
+
 # waiting COUNT: an endless reaction beside so many messages that no rule takes
 waiting() {
     printf 'site s [ c(x) => c(x) and idle() | never() => 0 : c(s)'
@@ -132,8 +181,18 @@ site home [
 site away [ none : 0 ]
 TEXT
 done
-for count in 800 2000 8000; do
-    events "an applet server, $count events so far" "$count" $((count + 80)) $((count + 800)) <<'TEXT' || break
+# each event makes a channel with its rule, or an agent with two rules that waits
+for count in 1000 10000 30000 100000; do
+    events "reactions that each make a channel and its rule, $count so far" "$count" $((count + 200)) $((count + 1000)) \
+        <<<'site s [ c() => def d() => 0 in c() : c() ]' || break
+done
+for count in 1000 10000 100000; do
+    events "agents that wait, $count so far" "$count" $((count + 200)) $((count + 1000)) <<'TEXT' || break
+site home [ more() => def agent [ go_on(k) => halt() and rests() => 0 : 0 ] in more() : more() ]
+TEXT
+done
+applets() {
+    cat <<'TEXT'
 site server [
   want(place, k) =>
     def memo [
@@ -151,4 +210,16 @@ site client [
   : again()
 ]
 TEXT
+}
+for count in 800 2000 8000; do
+    events "an applet server, $count events so far" "$count" $((count + 80)) $((count + 800)) < <(applets) || break
 done
+whole 'an applet server, 8,000 events' 8000 < <(applets) || true
+for count in 10000 20000 40000; do
+    whole "the opening of $count channels" 0 < <(channels "$count") || break
+done
+for count in 15000 30000 60000; do
+    whole "the opening of $count messages that wait" 0 < <(waiting "$count") || break
+done
+grown 'an endless reaction' 10000 1000000 <<<'site s [ c(x) => c(x) : c(s) ]' || true
+held 'an endless reaction' <<<'site s [ c(x) => c(x) : c(s) ]' || true

@@ -4,52 +4,7 @@
 # too. Each run must end as it does with memory, or with status 6, `out of memory` on err and nothing on out. It prints
 # how many runs ended which way, and each that ended otherwise, which is a fault: then the status is 1.
 set -eu
-root=$(cd "$(dirname "$0")/.." && pwd)
-work=$(mktemp -d)
-trap 'rm -rf "$work"' EXIT
-
-# Stands before the allocator of the system, and notes how often it was asked and how often it refused.
-cat >"$work/refusing.c" <<'C'
-#define _GNU_SOURCE
-#include <dlfcn.h>
-#include <errno.h>
-#include <stdio.h>
-#include <stdlib.h>
-
-static void *(*real_malloc)(size_t);
-static void *(*real_realloc)(void *, size_t);
-static long asked, refused, first, last;
-
-static int refuses(void) {
-    if (!real_malloc) {
-        real_malloc = dlsym(RTLD_NEXT, "malloc");
-        real_realloc = dlsym(RTLD_NEXT, "realloc");
-        first = atol(getenv("REFUSE_FIRST"));
-        last = atol(getenv("REFUSE_LAST"));
-    }
-    asked++;
-    if (asked < first || last < asked)
-        return 0;
-    refused++;
-    errno = ENOMEM;
-    return 1;
-}
-
-void *malloc(size_t size) { return refuses() ? NULL : real_malloc(size); }
-
-void *realloc(void *old, size_t size) { return refuses() ? NULL : real_realloc(old, size); }
-
-__attribute__((destructor)) static void note(void) {
-    long of_program = refused;
-    last = 0;
-    FILE *file = fopen(getenv("REFUSED"), "w");
-    if (file) {
-        fprintf(file, "%ld\n", of_program);
-        fclose(file);
-    }
-}
-C
-cc -O1 -shared -fPIC -o "$work/refusing.so" "$work/refusing.c" -ldl
+. "$(dirname "$0")/refusing.sh"
 
 printf '%s' 'observe out/1; site s [ x(u) => out(u) : x(s) ]' >"$work/least.join"
 cat >"$work/move.join" <<'TEXT'
@@ -89,8 +44,7 @@ program=$root/crates/join_main/out/join_main
 # runs the program on a text with the allocations refused from the one number to the other; answers its status
 run() {
     local status=0
-    REFUSE_FIRST=$2 REFUSE_LAST=$3 REFUSED=$work/refused LD_PRELOAD=$work/refusing.so \
-        "$program" alone --budget 10 <"$work/$1.join" >"$work/out" 2>"$work/err" || status=$?
+    refusing "$2" "$3" "$program" alone --budget 10 <"$work/$1.join" >"$work/out" 2>"$work/err" || status=$?
     return "$status"
 }
 
@@ -105,7 +59,6 @@ sweep() {
         last=$((number + 1))
         [ "$how" = one ] || last=1000000000
         status=0
-        : >"$work/refused"
         run "$name" $((number + 1)) "$last" || status=$?
         [ "$(cat "$work/refused")" != 0 ] || break
         number=$((number + 1))

@@ -1,7 +1,7 @@
 #!/usr/bin/env bash
-# Measures a run on one thread: prints how many events a second of processor time the program makes on each of a few
-# texts, how that falls with the messages that wait, with locations and with rules, and how long runs take that make
-# names.
+# Measures runs. Prints how many events a second pass on each of a few texts, on one thread and in rounds with 1, 2 and 4
+# workers beside each other. Then, of runs on one thread and in processor time: how that falls with the messages that
+# wait, with locations and with rules, and how long runs take that make names.
 # A measure and no test.
 set -eu
 root=$(cd "$(dirname "$0")/.." && pwd)
@@ -21,6 +21,38 @@ seconds() {
 # events NAME BUDGET: the same in events a second
 events() {
     seconds "$2" | awk -v name="$1" -v budget="$2" '{ printf "%s: %d events a second\n", name, budget / ($1 + 0.0005) }'
+}
+
+# passed BUDGET WORDS..: runs the text on standard input with these words, and prints the seconds that pass
+passed() {
+    local status=0 budget=$1 taken TIMEFORMAT='%R'
+    shift
+    taken=$( { time "$program" "$@" --budget "$budget" >/dev/null; } 2>&1) || status=$?
+    if [ "$status" != 5 ]; then
+        echo "a run ended with status $status" >&2
+        exit 1
+    fi
+    echo "$taken"
+}
+
+# beside NAME BUDGET: events a second that passes, on one thread and in rounds with 1, 2 and 4 workers
+beside() {
+    local text alone one two four
+    text=$(cat)
+    alone=$(passed "$2" alone <<<"$text")
+    one=$(passed "$2" rounds --workers 1 <<<"$text")
+    two=$(passed "$2" rounds --workers 2 <<<"$text")
+    four=$(passed "$2" rounds --workers 4 <<<"$text")
+    awk -v name="$1" -v budget="$2" -v times="$alone $one $two $four" 'BEGIN {
+        split(times, t, " ")
+        for (i in t) t[i] = budget / (t[i] + 0.0005)
+        printf "%s: alone %d, in rounds with 1 worker %d, 2 workers %d, 4 workers %d events a second\n", name, t[1], t[2], t[3], t[4]
+    }'
+}
+
+# endless COUNT: so many sites, each with an endless reaction
+endless() {
+    for ((i = 0; i < $1; i++)); do printf 'site s%d [ c%d(x) => c%d(x) : c%d(s%d) ]\n' "$i" "$i" "$i" "$i" "$i"; done
 }
 
 # waiting COUNT: an endless reaction beside so many messages that no rule takes
@@ -47,16 +79,17 @@ rules() {
 # builds the program where it is missing or old
 "$root/join" alone --budget 0 <"$root/examples/first.join" >/dev/null || true
 
-events 'an endless reaction' 1000000 <<<'site s [ c(x) => c(x) : c(s) ]'
-events 'a ping-pong of two sites' 1000000 <<'TEXT'
+beside 'an endless reaction' 1000000 <<<'site s [ c(x) => c(x) : c(s) ]'
+beside 'a ping-pong of two sites' 1000000 <<'TEXT'
 site a [ ping(x) => pong(x) : ping(a) ]
 site b [ pong(x) => ping(x) : 0 ]
 TEXT
-events 'an agent that tours' 1000000 <<'TEXT'
+beside 'an agent that tours' 1000000 <<'TEXT'
 site a [ none : 0 ]
 site b [ none : 0 ]
 site c [ agent [ to_a() => go(a, to_b) and to_b() => go(b, to_a) : go(a, to_b) ] : 0 ]
 TEXT
+beside '64 sites that each react 10,000 times' 640000 < <(endless 64)
 for count in 100 1000 10000; do
     events "an endless reaction, $count messages waiting" 20000 < <(waiting "$count")
 done

@@ -11,7 +11,8 @@ scratch sites_bench chem_model chem_laws join_base join_lex join_parse scope_nam
 //! Opens the one site of the text on standard input, and makes so many of its reactions as the word after the program's
 //! name says.
 #![tactic(auto)]
-ghost use Rattle.std.specs.Prelude.{IsTrue};
+ghost use Rattle.std.specs.Prelude.{◌≡◌, ◌<◌, ◌^◌, [], IsTrue};
+ghost use Rattle.reducer.specs.Picks.{MayFire};
 ghost use Rattle.reducer.specs.Reacted.{IsFit};
 
 use env_store::Code;
@@ -20,11 +21,30 @@ use join_base::{StdSource, read_all};
 use join_lex::lex;
 use join_parse::parse;
 use loc_tree::LocTree;
-use reducer::{opening, react, ready};
+use reducer::{Pick, opening, react, ready};
 use scope_check::check;
-use site_solution::Site;
+use site_solution::{Effects, Site};
 use std::alloc::Global;
 use std::env;
+
+fn bears_none(effects: &Effects) -> bool
+    ensures { IsTrue result → effects.now.births ≡ [] }
+{
+    effects.births.is_empty()
+}
+
+// Makes a reaction. Whether it was made, and bears no location.
+fn reacts(alloc: Global, site: &mut Site, code: &Code, tree: &LocTree, pick: &Pick) -> bool
+    requires fires { MayFire code.now tree.now site.old pick.now }
+    requires fit { IsFit code.now tree.now site.old }
+    requires few { site.old.made < 2 ^ 63 }
+    ensures { IsTrue result → IsFit code.now tree.now site.new }
+{
+    match react(alloc, site, code, tree, pick) {
+        Ok(effects) => bears_none(&effects),
+        Err(_) => false,
+    }
+}
 
 // One reaction, where one is ready that bears no location.
 fn turn(alloc: Global, site: &mut Site, code: &Code, tree: &LocTree) -> bool
@@ -35,10 +55,7 @@ fn turn(alloc: Global, site: &mut Site, code: &Code, tree: &LocTree) -> bool
         return false;
     }
     match ready(site, code, tree) {
-        Some(pick) => match react(alloc, site, code, tree, &pick) {
-            Ok(effects) => effects.births.is_empty(),
-            Err(_) => false,
-        },
+        Some(pick) => reacts(alloc, site, code, tree, &pick),
         None => false,
     }
 }
@@ -47,14 +64,12 @@ fn turn(alloc: Global, site: &mut Site, code: &Code, tree: &LocTree) -> bool
 fn play(alloc: Global, site: &mut Site, code: &Code, tree: &LocTree, turns: u32) -> u32
     requires { IsFit code.now tree.now site.old }
 {
-    let mut made = 0;
-    for _turn in 0..turns {
+    for made in 0..turns {
         if !turn(alloc, site, code, tree) {
             return made;
         }
-        made += 1;
     }
-    made
+    turns
 }
 
 fn is_fit(site: &Site, code: &Code, tree: &LocTree) -> bool
@@ -102,6 +117,14 @@ fn main(rt: HostRuntime) -> Result<(), anyhow::Error> {
     Ok(())
 }
 PROGRAM
+mkdir -p proofs/play
+cat >proofs/play/Invariants.antt <<'PROOF'
+use Rattle.reducer.specs.Reacted.{IsFit}
+use Rattle.sites_bench.proofs.play.Given as goal
+
+abbrev pub invariant-loop-made : goal.invariant-loop-made
+invariant-loop-made l = IsFit l.code l.tree l.site
+PROOF
 
 # so many messages on one channel, whose rule puts back what it takes
 messages() {
