@@ -2,15 +2,21 @@
 //! calls that the tests make stand beside them, each with a test of what it needs before it.
 #![tactic(auto)]
 
-pub mod by_hand;
-pub mod calls;
+#[cfg(test)]
+mod by_hand;
+#[cfg(test)]
+mod calls;
 #[cfg(test)]
 mod moves;
-pub mod net;
+#[cfg(test)]
+mod net;
 #[cfg(test)]
 mod reactions;
 #[cfg(test)]
 mod refused;
-pub mod shown;
-pub mod steps;
-pub mod texts;
+#[cfg(test)]
+mod shown;
+#[cfg(test)]
+mod steps;
+#[cfg(test)]
+mod texts;
