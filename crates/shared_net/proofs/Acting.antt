@@ -28,7 +28,7 @@ use Rattle.shared_net.specs.declared.turn.Turn.{Turn}
 use Rattle.shared_net.specs.declared.turn.Turn.TheVariants.{Did, Passed, Nothing, NotEnabled, Full}
 use Rattle.shared_net.specs.Mail.{IsMessageFlight}
 use Rattle.shared_net.specs.Choosing.{CanAct}
-use Rattle.shared_net.specs.Making.{AreNone, IsLeft, AfterPick, MeetsAsk, AfterAsk, AfterCrossing, IsSameTree, FitsHere}
+use Rattle.shared_net.specs.Making.{AreNone, IsLeft, AfterPick, MeetsAsk, AfterCrossing, IsSameTree, FitsHere}
 use Rattle.shared_net.proofs.Bearing.{births_new}
 use Rattle.shared_net.proofs.Coming.{are_message_flights}
 use Rattle.shared_net.proofs.Opening.{run_same}
@@ -50,14 +50,7 @@ idle_pick c t s p new e turn (inr (inl is)) h = subst (λ (x : Turn). AfterPick 
 idle_pick c t s p new e turn (inr (inr is)) h = subst (λ (x : Turn). AfterPick c t s p x new e) (sym is) h
 
 module _ (c : CodeParts) (t : Tree) (s : Site) (p : Pick) (x : Picked) (picks : Picks c s p x) (new : Site) (e : Effects) where
-  pub pick_sent : (turn : Turn) → AfterPick c t s p turn new e → Each IsMessageFlight e.sends
-  pick_sent (Did place) h = are_message_flights (outcome_of c t s p x).sends e.sends (h x picks).sends
-  pick_sent NotEnabled h = none_sent e (h x picks).none
-  pick_sent Nothing h = none_sent e h.none
-  pick_sent Full h = none_sent e h.none
-  pick_sent Passed h = none_sent e h.none
-
-  pick_born : (turn : Turn) → AfterPick c t s p turn new e → (e.births ≡ (ran_by c s x).births) ⊎ (e.births ≡ [])
+  pub pick_born : (turn : Turn) → AfterPick c t s p turn new e → (e.births ≡ (ran_by c s x).births) ⊎ (e.births ≡ [])
   pick_born (Did place) h = inl (h x picks).births
   pick_born NotEnabled h = inr (h x picks).none.births
   pick_born Nothing h = inr h.none.births
@@ -106,13 +99,6 @@ module _ (seen : List ℕ) (t : Tree) (s : Site) (a : AtomId) (u : Tree) (new : 
 
   pub ask_met_sent : (ask : Ask) → MeetsAsk ask seen t s a u new e → Each IsMessageFlight e.sends
   ask_met_sent ask h = meets_sent ask h
-
-  pub ask_sent : (turn : Turn) (ask : Ask) → AfterAsk turn ask seen t s a u new e → Each IsMessageFlight e.sends
-  ask_sent (Did place) ask h = meets_sent ask h
-  ask_sent NotEnabled ask h = none_sent e h.0.none
-  ask_sent Nothing ask h = none_sent e h.0.none
-  ask_sent Full ask h = none_sent e h.0.none
-  ask_sent Passed ask h = none_sent e h.0.none
 
 -- ---- two sites
 

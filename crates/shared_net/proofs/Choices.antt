@@ -13,7 +13,7 @@ use Rattle.loc_tree.specs.Tree.{Tree, is_alive}
 use Rattle.net_laws.specs.Site.{Site}
 use Rattle.net_laws.specs.Holding.{request_with}
 use Rattle.reducer.specs.declared.pick.Pick.{Pick}
-use Rattle.reducer.specs.Picks.{Picked, Picks, IsPick, IsCovered, IsToldAs, MayFire}
+use Rattle.reducer.specs.Picks.{Picked, Picks, IsCovered, IsToldAs, MayFire}
 use Rattle.reducer.specs.Ready.{IsReady}
 use Rattle.reducer.proofs.Levels.{level_at, told_as}
 use Rattle.failure.specs.Halts as halts
@@ -22,9 +22,6 @@ use Rattle.migration.specs.Moves as moves
 use Rattle.shared_net.specs.Choosing.{CanAct, may_meet}
 
 module _ (c : CodeParts) (t : Tree) (s : Site) (p : Pick) (act : CanAct c t s) (ready : IsReady c t s p) where
-  pub is_pick : IsPick c s p
-  is_pick = (ready.pick, ready.fires.covers.picks)
-
   pub is_covered : IsCovered c s p
   is_covered = (ready.pick, ready.fires.covers)
 

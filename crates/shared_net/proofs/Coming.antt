@@ -1,5 +1,5 @@
 -- Texts that are worked off one after another.
-use Rattle.std.proofs.Common.{◌≡◌, ℕ, zero, suc, ◌+◌, ◌<◌, ◌≤◌, List, [], ◌∷◌, ◌++◌, length, get_or, take, Some, Bool, true, false, cond, Result, Ok, Err, refl, sym, ap, ◌∙◌, subst, arith, inl, inr, append_assoc}
+use Rattle.std.proofs.Common.{◌≡◌, ℕ, zero, suc, ◌+◌, ◌<◌, ◌≤◌, List, [], ◌∷◌, ◌++◌, length, get_or, take, Some, Bool, true, false, Result, Ok, Err, refl, sym, ap, ◌∙◌, subst, arith, inl, inr, append_assoc}
 use Rattle.std.specs.Prelude.{slice_get}
 use Rattle.std.proofs.lemmas.Option.{slice_get_read}
 use Rattle.chem_model.specs.Each.{Each}
@@ -13,14 +13,11 @@ use Rattle.wire_packet.specs.declared.fault.DecodeEnd.TheVariants as end
 use Rattle.wire_packet.specs.Codec.{IsSpelledBy, IsOrMemory}
 use Rattle.loc_tree.specs.Tree.{Tree}
 use Rattle.net_laws.specs.Site.{Site}
-use Rattle.net_laws.specs.Net.{Addressed, among, address}
-use Rattle.net_laws.specs.Holding.{put}
+use Rattle.net_laws.specs.Net.{Addressed}
 use Rattle.site_solution.specs.InTree.{is_in_tree}
-use Rattle.site_solution.specs.Answers.{IsFlightOf, AreFlights}
-use Rattle.router.specs.Delivering.{can_deliver, home_at, IsDelivery}
-use Rattle.router.specs.declared.routing.Delivery.TheVariants.{Delivered, Forward}
+use Rattle.site_solution.specs.Answers.{AreFlights}
 use Rattle.shared_net.specs.Mail.{IsMessageFlight, AreSpelled}
-use Rattle.shared_net.specs.Arriving.{Arrival, brought, come, all_come, HasCome, ArrivesWhere, Arrives, HasBegun}
+use Rattle.shared_net.specs.Arriving.{Arrival, come, all_come, HasCome, ArrivesWhere, Arrives, HasBegun}
 use Rattle.shared_net.specs.Coming.{Comes, HasComeUpTo}
 
 -- ---- what a text spells
@@ -50,45 +47,6 @@ read_bad m bytes slice e place is spelt same reads =
 
     memory : ◌≡◌ {A = Result Packet DecodeEnd} (Err e) (Err end.Memory) → ⊥
     memory f = let same : e ≡ end.Memory = cc in let other : end.Bad place ≡ end.Memory = sym is ∙ same in cc
-
--- ---- one text
-
-module _ (t : Tree) (s : Site) (text : List ℕ) (m : MessageParts) (spelled : IsSpelledBy (packet.Message m) text) where
-  come_if : (new : Site) (a : Arrival) → come t m s ≡ a → new ≡ a.site → (before more : List Flight) → AreFlights a.on more → Comes t s text before new (before ++ more)
-  come_if new a is at before more flights = record {
-    msg = m;
-    spelled = spelled;
-    site = at ∙ ap (λ (x : Arrival). x.site) (sym is);
-    more = more;
-    flights = subst (λ (x : Arrival). AreFlights x.on more) (sym is) flights;
-    added = refl;
-  }
-
-  as_before : (before : List Flight) (new : Site) (after : List Flight) → Comes t s text before new (before ++ []) → after ≡ before → Comes t s text before new after
-  as_before before new after h e = subst (Comes t s text before new) (append_nil before ∙ sym e) h
-
-  -- it may not be delivered
-  pub dropped : (new : Site) (before after : List Flight) → can_deliver t s m ≡ false → new ≡ s → after ≡ before → Comes t s text before new after
-  dropped new before after refused at e =
-      let is : come t m s ≡ record { site = s; on = [] } = ap (λ (b : Bool). cond b (brought t m s) (record { site = s; on = [] })) refused in
-      as_before before new after (come_if new (record { site = s; on = [] }) is at before [] tt) e
-
-  delivered_is : (b : Bool) → can_deliver t s m ≡ true → among s.locs (home_at s m) ≡ b → come t m s ≡ cond b (record { site = put (home_at s m) m s; on = [] }) (record { site = s; on = record { target = address t (home_at s m); msg = m } ∷ [] })
-  delivered_is b may home =
-      ap (λ (u : Bool). cond u (brought t m s) (record { site = s; on = [] })) may
-      ∙ ap (λ (u : Bool). cond {A = Arrival} u (record { site = put (home_at s m) m s; on = [] }) (record { site = s; on = record { target = address t (home_at s m); msg = m } ∷ [] })) home
-
-  -- it is put
-  pub is_put : (new : Site) (before after : List Flight) → can_deliver t s m ≡ true → IsDelivery t s m Delivered new → after ≡ before → Comes t s text before new after
-  is_put new before after may d e =
-      as_before before new after (come_if new (record { site = put (home_at s m) m s; on = [] }) (delivered_is true may d.0) d.1 before [] tt) e
-
-  -- it goes on
-  pub goes_on : (target : ℕ) (msg : MessageParts) (new : Site) (before after : List Flight) → can_deliver t s m ≡ true → IsDelivery t s m (Forward target msg) new → after ≡ before ++ record { target = target; bytes = text } ∷ [] → Comes t s text before new after
-  goes_on target msg new before after may d e =
-      let flight : IsFlightOf (record { target = address t (home_at s m); msg = m }) (record { target = target; bytes = text }) = record { to = d.1; spelled = spelled } in
-      subst (Comes t s text before new) (sym e)
-      (come_if new (record { site = s; on = record { target = address t (home_at s m); msg = m } ∷ [] }) (delivered_is false may d.0) d.3 before (record { target = target; bytes = text } ∷ []) (flight, tt))
 
 -- ---- one more
 

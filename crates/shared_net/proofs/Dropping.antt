@@ -4,7 +4,6 @@ use Rattle.std.specs.Prelude.{slice_get, slice_set, slice_index_or, is_some, opt
 use Rattle.chem_model.specs.Each.{Each}
 use Rattle.wire_packet.specs.MessageFacts.{MessageParts}
 use Rattle.net_laws.specs.Site.{Group, Site}
-use Rattle.net_laws.specs.Posting.{with_queues}
 use Rattle.site_solution.specs.Held.{queues_in, queues_of, queue_of, without_front, taken_in, taken_at}
 use Rattle.site_solution.specs.New.{gone_at}
 use Rattle.site_solution.proofs.Fronts.{gone-empty, gone-more, taken-is, taken-nothing}
@@ -39,11 +38,6 @@ copied_none None e = refl
 copied_none (Some b) e = cc
 
 module _ (s : Site) (j c : ℕ) where
-  pub front_dropped : (new : Site) → j < length s.groups → ((g : Group) → slice_get s.groups j ≡ Some g → new ≡ with_queues s j g (without_front g.queues c)) → new ≡ taken_at j (c ∷ []) s
-  front_dropped new below is =
-      let at = group_at s.groups j below in
-      is at.0 at.1 ∙ sym (ap (λ (o : Option Group). taken_in o j (c ∷ []) s) at.1)
-
   pub nothing_dropped : (o : Option MessageParts) → j < length s.groups → o ≡ slice_get (queue_of s.groups j c) 0 → is_some o ≡ false → s ≡ taken_at j (c ∷ []) s
   nothing_dropped o below e none =
       let at = group_at s.groups j below in

@@ -15,3 +15,4 @@ pub mod Choices
 pub mod Acting
 pub mod Asking
 pub mod Results
+pub mod Births

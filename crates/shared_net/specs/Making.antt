@@ -3,6 +3,7 @@ use Rattle.std.specs.Prelude.{◌≡◌, ℕ, true, List, [], Some}
 use Rattle.chem_model.specs.declared.event.AtomId.{AtomId}
 use Rattle.chem_model.specs.declared.event.Event.{Event}
 use Rattle.chem_model.specs.declared.event.Event.TheVariants as event
+use Rattle.chem_model.specs.ProgramFacts.{ProgramTerms}
 use Rattle.wire_packet.specs.declared.packet.Ask.{Ask}
 use Rattle.wire_packet.specs.declared.packet.Ask.TheVariants as request
 use Rattle.wire_packet.specs.declared.packet.Request.{Request}
@@ -16,6 +17,7 @@ use Rattle.site_solution.specs.declared.effects.Effects.{Effects}
 use Rattle.reducer.specs.declared.pick.Pick.{Pick}
 use Rattle.reducer.specs.Picks.{Picked, Picks}
 use Rattle.reducer.specs.Fronts.{event_of}
+use Rattle.reducer.specs.Reacting.{RunsProgram}
 use Rattle.reducer.specs.Reacted.{Reacts}
 use Rattle.failure.specs.Halts.{IsHalt}
 use Rattle.failure.specs.Detects.{IsDetection}
@@ -89,6 +91,10 @@ AfterPick c t s p NotEnabled new e =
 AfterPick c t s p Nothing new e = IsLeft s new e
 AfterPick c t s p Full new e = IsLeft s new e
 AfterPick c t s p Passed new e = IsLeft s new e
+
+-- where the site runs a program, nothing is born
+abbrev pub BearsNone : CodeParts → Site → Effects → Type 0
+BearsNone c s e = (q : ProgramTerms) → RunsProgram q c s → e.births ≡ []
 
 pub record MakesHere (c : CodeParts) (t : Tree) (s : Site) (p : Pick) (book : Kept)
     (held : PassKept) (made : Made) (new : Site) (after : Kept) (holds : PassKept) : Type 0 where

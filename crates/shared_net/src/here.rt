@@ -8,7 +8,7 @@ ghost use Rattle.shared_net.specs.declared.choosing.Chosen.TheVariants as choice
 ghost use Rattle.shared_net.specs.Mail.{IsMessageFlight};
 ghost use Rattle.shared_net.specs.Choosing.{CanAct, Chooses, OpensNone};
 ghost use Rattle.shared_net.specs.Offers.{Turned, MayGain, MayHaveCommitted};
-ghost use Rattle.shared_net.specs.Making.{IsEventOf, AfterPick, MakesHere};
+ghost use Rattle.shared_net.specs.Making.{IsEventOf, AfterPick, BearsNone, MakesHere};
 
 use crate::locked::Locked;
 use crate::making::{Made, no_effects};
@@ -21,6 +21,13 @@ use loc_tree::LocTree;
 use reducer::{Pick, event_of, react};
 use site_solution::{Effects, Site, site_is_kept};
 use std::alloc::Global;
+
+// The facts of code hold. It does nothing.
+fn code_is_kept(code: &Code)
+    ensures { IsCode code.now }
+{
+    let _guards = &code.guards;
+}
 
 // The guard with this number.
 pub(crate) fn guard_at(code: &Code, number: u32) -> &Guard
@@ -110,6 +117,7 @@ pub fn make_here<L: Run>(
     requires none_born { OpensNone code.now site.old pick.now }
     ensures made { IfOk result (λ made. MakesHere code.now tree.now site.old pick.now
         locked.old.book pass.old made site.new locked.new.book pass.new) }
+    ensures born { IfOk result (λ made. BearsNone code.now site.old made.effects) }
     ensures sends { IfOk result (λ made. Each IsMessageFlight made.effects.sends) }
     ensures pass { IfOk result (λ made. Turned pass.old made.turn pass.new) }
     ensures memory { OnErr result (MayHaveCommitted
@@ -118,6 +126,8 @@ pub fn make_here<L: Run>(
     ensures gain { OnErr result (MayGain pass.old pass.new) }
     ensures err { OnErr result (site.new ≡ site.old) }
 {
+    site_is_kept(site);
+    code_is_kept(code);
     let event = event_of(alloc, site, code, pick)?;
     let turn = locked.propose(alloc, pass, &event)?;
     let effects = after_pick(alloc, site, tree, code, pick, turn)?;

@@ -1,6 +1,7 @@
 use Rattle.shared_net.specs.declared.choosing.Chosen.TheVariants as choice
 use Rattle.shared_net.specs.Making.{IsEventOf}
 use Rattle.shared_net.proofs.Results.{on_err}
+use Rattle.shared_net.proofs.Births.{bears_none}
 use Rattle.shared_net.proofs.Choices.{is_covered, is_told, may_fire}
 use Rattle.shared_net.proofs.Offering.{proposal_turned, proposal_may, may_gain}
 use Rattle.shared_net.proofs.here.make_here.Goals as goal
@@ -46,3 +47,9 @@ returns-in_err-effects-clause-gain g c = on_err _ _ (
     may_gain is c.args.locked.now.book c.args.pass.now c.propose.new.self.book c.propose.new.pass
     (proposal_may c.args.locked.now.book c.args.pass.now c.in_ok-event.event is c.in_ok-turn.turn c.propose.new.self.book c.propose.new.pass
     (ready.pick, (picks, c.in_ok-event.ensures ready.pick picks)) c.in_ok-turn.ensures.proposed))
+
+pub returns-clause-born : goal.returns-clause-born
+returns-clause-born g c =
+    let ready = c.requires.chosen.1 in
+    bears_none c.args.code.now c.args.tree.now c.args.site.now c.args.pick.now ready.pick c.in_ok-turn.turn c.after_pick.new.site c.in_ok-effects.effects
+    c.code_is_kept.ensures c.site_is_kept.ensures.kept c.requires.chosen.0.coded ready.fires.covers c.requires.none_born c.in_ok-effects.ensures.after
