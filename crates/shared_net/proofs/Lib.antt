@@ -5,3 +5,14 @@ pub mod Going
 pub mod Excludes
 pub mod Counting
 pub mod Agreeing
+pub mod Requests
+pub mod Coming
+pub mod Offering
+pub mod Dropping
+pub mod Bearing
+pub mod Opening
+pub mod Choices
+pub mod Acting
+pub mod Asking
+pub mod Results
+pub mod Births

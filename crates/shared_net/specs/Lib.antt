@@ -8,3 +8,11 @@ pub mod Reports
 pub mod Closes
 pub mod Walk
 pub mod PassLends
+pub mod Mail
+pub mod Arriving
+pub mod Coming
+pub mod Choosing
+pub mod Offers
+pub mod Making
+pub mod Preparing
+pub mod Beginning

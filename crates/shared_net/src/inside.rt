@@ -5,11 +5,17 @@ ghost use Rattle.shared_net.specs.Agrees.{row_of, all_receipts, Agrees};
 ghost use Rattle.shared_net.specs.Causes.{DifferInNumber, Compares};
 ghost use Rattle.shared_net.specs.Walk.{slot_at, Looks, LooksAll, Marks};
 
+pub use crate::across::make_across;
+pub use crate::arriving::arrive;
+pub use crate::choosing::choose;
 use crate::differs::Differs;
+pub use crate::here::make_here;
 use crate::locked::Locked;
 use crate::pass::Passes;
+pub use crate::preparing::prepare;
 use crate::receipt::Receipt;
 use crate::run::Run;
+pub use crate::wide::make_wide;
 use chem_model::{AtomId, Event, Memory};
 use std::alloc::Global;
 

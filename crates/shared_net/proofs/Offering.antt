@@ -1,0 +1,79 @@
+-- Proposals of events that may not fit.
+use Rattle.std.proofs.Common.{◌≡◌, ℕ, ◌<◌, length, Bool, true, false, refl, ap, ◌∙◌, subst, arith, ◌⊎◌, inl, inr}
+use Rattle.std.specs.Prelude.{nat_lt}
+use Rattle.std.proofs.lemmas.Bool.Decides.{nat_tests}
+use Rattle.chem_model.specs.declared.event.Event.{Event}
+use Rattle.trace_history.specs.Kept.{Kept}
+use Rattle.shared_net.specs.declared.turn.Turn.{Turn}
+use Rattle.shared_net.specs.declared.turn.Turn.TheVariants.{Did, Passed, Nothing, NotEnabled, Full}
+use Rattle.shared_net.specs.Passes.{PassKept}
+use Rattle.shared_net.specs.Proposes.{IsFull, Proposes, with_receipt, pass_after}
+use Rattle.shared_net.specs.Offers.{Offers, Turned, MayGain, MayHaveCommitted}
+
+module _ (old : Kept) (held : PassKept) (e : Event) where
+  -- what doesn't fit
+  pub offers_nothing : (Fits : Type 0) → (Fits → ⊥) → (IsFull old held → ⊥) → Offers Fits old held e Nothing old held
+  offers_nothing Fits not full =
+      let below : length old.journal < held.budget = by_order (nat_lt (length old.journal) held.budget) refl in
+      record { answer = (below, inr not); book = refl; pass = refl }
+    where
+      by_order : (b : Bool) → nat_lt (length old.journal) held.budget ≡ b → length old.journal < held.budget
+      by_order true e = grind (arith, nat_tests)
+      by_order false e = absurd (full (grind (arith, nat_tests)))
+
+  -- what fits, or is refused before that is asked
+  pub offers_of : (Fits : Type 0) (turn : Turn) (new : Kept) (after : PassKept) → Fits ⊎ IsFull old held → Proposes old held e turn new after → Offers Fits old held e turn new after
+  offers_of Fits Full new after fits p = record { answer = p.answer; book = p.book; pass = p.pass }
+  offers_of Fits Nothing new after fits p = record { answer = (p.answer.0, inl p.answer.1); book = p.book; pass = p.pass }
+  offers_of Fits NotEnabled new after (inl f) p = record { answer = (record { room = p.answer.0; fits = f }, p.answer.1); book = p.book; pass = p.pass }
+  offers_of Fits NotEnabled new after (inr full) p = absurd (omega (arith, full, p.answer.0.0))
+  offers_of Fits (Did place) new after (inl f) p = record { answer = (record { room = p.answer.0; fits = f }, p.answer.1, p.answer.2); book = p.book; pass = p.pass }
+  offers_of Fits (Did place) new after (inr full) p = absurd (omega (arith, full, p.answer.0.0))
+  offers_of Fits Passed new after fits p = absurd p.answer
+
+  -- the same said of what fits
+  pub offers_as : (P Q : Type 0) (turn : Turn) (new : Kept) (after : PassKept) → (P → Q) → (Q → P) → Offers P old held e turn new after → Offers Q old held e turn new after
+  offers_as P Q Full new after f g h = record { answer = h.answer; book = h.book; pass = h.pass }
+  offers_as P Q Nothing new after f g h = record { answer = (h.answer.0, elim h.answer.1 [ inl behind ↦ inl behind | inr not ↦ inr (λ q. not (g q)) ]); book = h.book; pass = h.pass }
+  offers_as P Q NotEnabled new after f g h = record { answer = (record { room = h.answer.0.room; fits = f h.answer.0.fits }, h.answer.1); book = h.book; pass = h.pass }
+  offers_as P Q (Did place) new after f g h = record { answer = (record { room = h.answer.0.room; fits = f h.answer.0.fits }, h.answer.1, h.answer.2); book = h.book; pass = h.pass }
+  offers_as P Q Passed new after f g h = absurd h.answer
+
+  -- an event that was made fits
+  pub made_fits : (Fits : Type 0) (turn : Turn) (place : ℕ) (new : Kept) (after : PassKept) → Offers Fits old held e turn new after → turn ≡ Did place → Fits
+  made_fits Fits turn place new after h is = (subst (λ (t : Turn). Offers Fits old held e t new after) is h).answer.0.fits
+
+  -- ---- the pass
+
+  turned : (turn : Turn) (after : PassKept) → (turn ≡ Passed → ⊥) → after ≡ pass_after held e turn → Turned held turn after
+  turned (Did place) after not is = (e, is)
+  turned Passed after not is = absurd (not refl)
+  turned Nothing after not is = is
+  turned NotEnabled after not is = is
+  turned Full after not is = is
+
+  pub proposal_turned : (turn : Turn) (new : Kept) (after : PassKept) → Proposes old held e turn new after → Turned held turn after
+  proposal_turned turn new after p = turned turn after (λ is. (subst (λ (t : Turn). Proposes old held e t new after) is p).answer) p.pass
+
+  pub offer_turned : (Fits : Type 0) (turn : Turn) (new : Kept) (after : PassKept) → Offers Fits old held e turn new after → Turned held turn after
+  offer_turned Fits turn new after p = turned turn after (λ is. (subst (λ (t : Turn). Offers Fits old held e t new after) is p).answer) p.pass
+
+  -- ---- want of memory after the book has answered
+
+  pub proposal_may : (Is : Event → Type 0) (turn : Turn) (new : Kept) (after : PassKept) → Is e → Proposes old held e turn new after → MayHaveCommitted Is old held new after
+  proposal_may Is Full new after is p = inl (record { book = p.book; pass = p.pass })
+  proposal_may Is Nothing new after is p = inl (record { book = p.book; pass = p.pass })
+  proposal_may Is NotEnabled new after is p = inl (record { book = p.book; pass = p.pass })
+  proposal_may Is Passed new after is p = absurd p.answer
+  proposal_may Is (Did place) new after is p = inr (record { event = e; event_is = is; book = p.book; pass = p.pass ∙ ap (λ (k : ℕ). with_receipt held k e) p.answer.2 })
+
+  pub offer_may : (Is : Event → Type 0) (Fits : Type 0) (turn : Turn) (new : Kept) (after : PassKept) → Is e → Offers Fits old held e turn new after → MayHaveCommitted Is old held new after
+  offer_may Is Fits Full new after is p = inl (record { book = p.book; pass = p.pass })
+  offer_may Is Fits Nothing new after is p = inl (record { book = p.book; pass = p.pass })
+  offer_may Is Fits NotEnabled new after is p = inl (record { book = p.book; pass = p.pass })
+  offer_may Is Fits Passed new after is p = absurd p.answer
+  offer_may Is Fits (Did place) new after is p = inr (record { event = e; event_is = is; book = p.book; pass = p.pass ∙ ap (λ (k : ℕ). with_receipt held k e) p.answer.2 })
+
+pub may_gain : (Is : Event → Type 0) (old : Kept) (held : PassKept) (new : Kept) (after : PassKept) → MayHaveCommitted Is old held new after → MayGain held after
+may_gain Is old held new after (inl h) = inl h.pass
+may_gain Is old held new after (inr h) = inr (record { place = length old.journal; event = h.event; pass = h.pass })

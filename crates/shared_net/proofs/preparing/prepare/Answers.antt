@@ -1,0 +1,11 @@
+use Rattle.std.proofs.Common.{sym, subst}
+use Rattle.chem_model.specs.Each.{Each}
+use Rattle.net_laws.specs.Opened.{opened_net}
+use Rattle.shared_net.specs.Mail.{IsMessageText}
+use Rattle.shared_net.proofs.Opening.{mails_spelled}
+use Rattle.shared_net.proofs.preparing.prepare.Goals as goal
+
+pub returns-clause-mail : goal.returns-clause-mail
+returns-clause-mail g c =
+    subst (Each (Each IsMessageText)) (sym c.from_vec-2.ensures)
+    (mails_spelled (opened_net c.args.code.now).packets c.in_ok-begun.begun.mails.items c.in_ok-begun.ensures.mail)

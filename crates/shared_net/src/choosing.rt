@@ -1,0 +1,114 @@
+// What a site does next. It takes no memory.
+ghost use Rattle.std.specs.Prelude.{◌≡◌, ◌↔◌, IfNone, IfSome, IsTrue};
+ghost use Rattle.reducer.specs.Ready.{NoneFires, IsReady};
+ghost use Rattle.site_solution.specs.InTree.{is_in_tree};
+ghost use Rattle.shared_net.specs.declared.choosing.Chosen.TheVariants as choice;
+ghost use Rattle.shared_net.specs.Choosing.{CanAct, may_meet, NoneMeets, IsLeastMet};
+ghost use Rattle.shared_net.specs.Choosing.{IsToGo, LeadsTo, Chooses, OpensNone};
+
+use chem_model::{AtomId, Name, Program};
+use env_store::Code;
+use failure::{dead_for, halt_ready};
+use loc_tree::LocTree;
+use migration::move_ready;
+use reducer::{Pick, births, ready};
+use router::address;
+use site_solution::{Site, site_is_kept};
+use wire_packet::Ask;
+
+/// What a site does next.
+#[derive(Clone, Copy, PartialEq, Eq, Debug)]
+pub enum Chosen {
+    /// The reaction of this pick.
+    Pick(Pick),
+    /// It meets the request with this id.
+    Ask(AtomId),
+    Nothing,
+}
+
+// Whether the site has what the calls over it need.
+pub(crate) fn can_act(site: &Site, code: &Code, tree: &LocTree) -> bool
+    ensures { IsTrue result ↔ CanAct code.now tree.now site.now }
+{
+    site.in_tree(tree) && site.in_code(code, tree) && site.can_draw(tree)
+}
+
+// Whether the site has a request with this id that may be met.
+fn may_meet(site: &Site, tree: &LocTree, atom: &AtomId) -> bool
+    requires { IsTrue (is_in_tree tree.now site.now) }
+    ensures { result ≡ may_meet tree.now site.now atom.now }
+{
+    move_ready(site, tree, atom)
+        || halt_ready(site, tree, atom)
+        || dead_for(site, tree, atom).is_some()
+}
+
+// Of the requests that may be met the one with the least id.
+fn least_met(site: &Site, tree: &LocTree) -> Option<AtomId>
+    requires { IsTrue (is_in_tree tree.now site.now) }
+    ensures none { IfNone result (NoneMeets tree.now site.now) }
+    ensures some { IfSome result (IsLeastMet tree.now site.now) }
+{
+    site_is_kept(site);
+    let mut index = 0;
+    while let Some(request) = site.request_at(index) {
+        if may_meet(site, tree, &request.id) {
+            return Some(request.id);
+        }
+        index += 1;
+    }
+    None
+}
+
+/// What the site does next: the reaction that is ready; where none is, the request with the least
+/// id that may be met. It is nothing exactly where there is neither, or where the site, the tree
+/// and the code don't fit together, as the tests of the site tell.
+///
+/// The program is for rules that depend on its version. There is none so far.
+pub fn choose(site: &Site, program: &Program, code: &Code, tree: &LocTree) -> Chosen
+    ensures { Chooses code.now tree.now site.now result }
+{
+    let _ = program;
+    if !can_act(site, code, tree) {
+        return Chosen::Nothing;
+    }
+    if let Some(pick) = ready(site, code, tree) {
+        return Chosen::Pick(pick);
+    }
+    match least_met(site, tree) {
+        Some(atom) => Chosen::Ask(atom),
+        None => Chosen::Nothing,
+    }
+}
+
+/// Whether the pick that the site chose opens no location.
+pub(crate) fn opens_none(site: &Site, code: &Code, tree: &LocTree, pick: &Pick) -> bool
+    requires { Chooses code.now tree.now site.now (choice.Pick pick.now) }
+    ensures { IsTrue result ↔ OpensNone code.now site.now pick.now }
+{
+    let _ = tree;
+    births(code, site, pick) == 0
+}
+
+/// Where the request is one to go to a location of the tree, the number of the site that hosts
+/// that.
+pub(crate) fn leads_to(site: &Site, tree: &LocTree, atom: &AtomId) -> Option<u32>
+    ensures some { IfSome result (LeadsTo tree.now site.now atom.now) }
+    ensures goes { IfSome result (λ _. IsToGo atom.now site.now) }
+{
+    match site.request(atom) {
+        Some(request) => match request.ask {
+            Ask::Go {
+                target: Name::Place(target),
+                cont: _,
+            } => {
+                if !tree.holds(&target) {
+                    return None;
+                }
+                Some(address(tree, &target))
+            }
+            _ => None,
+        },
+        None => None,
+    }
+}

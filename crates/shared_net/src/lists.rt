@@ -1,0 +1,84 @@
+// The sites of a run, and their mail.
+ghost use Rattle.std.specs.Prelude.{◌≡◌};
+
+use chem_model::Texts;
+use site_solution::Site;
+use std::marker::Model;
+
+/// The sites by their numbers.
+#[derive(Drop)]
+pub struct Sites {
+    list: Vec<Site>,
+}
+
+impl Model for Sites {
+    ghost use Rattle.std.specs.Prelude.{List};
+    ghost use Rattle.std.specs.Coded.{coded_list};
+    ghost use Rattle.net_laws.specs.Site.{Site as site_of_net};
+    ghost use Rattle.site_solution.specs.contracts.site.Site as site;
+
+    ghost Value = { List site_of_net };
+
+    ghost coded = { coded_list site.the_row.coded };
+
+    ghost view = { λ s. s.list.items };
+}
+
+impl Sites {
+    pub(crate) fn from_vec(list: Vec<Site>) -> Sites
+        ensures { result ≡ list.items }
+    {
+        Sites { list }
+    }
+
+    pub(crate) fn into_vec(self) -> Vec<Site>
+        ensures { result.items ≡ self }
+    {
+        let Sites { list } = self;
+        list
+    }
+
+    pub fn as_slice(&self) -> &[Site]
+        ensures { result.now ≡ self.now }
+    {
+        self.list.as_slice()
+    }
+}
+
+/// The mail of each site, by their numbers: each text is the spelling of a packet with a message.
+#[derive(Drop)]
+pub struct Mails {
+    list: Vec<Texts>,
+}
+
+impl Model for Mails {
+    ghost use Rattle.std.specs.Prelude.{List, ℕ};
+    ghost use Rattle.std.specs.Coded.{coded_list, coded_ℕ};
+
+    ghost Value = { List (List (List ℕ)) };
+
+    ghost coded = { coded_list (coded_list (coded_list coded_ℕ)) };
+
+    ghost view = { λ m. m.list.items };
+}
+
+impl Mails {
+    pub(crate) fn from_vec(list: Vec<Texts>) -> Mails
+        ensures { result ≡ list.items }
+    {
+        Mails { list }
+    }
+
+    pub(crate) fn into_vec(self) -> Vec<Texts>
+        ensures { result.items ≡ self }
+    {
+        let Mails { list } = self;
+        list
+    }
+
+    pub fn as_slice(&self) -> &[Texts]
+        ensures { result.now ≡ self.now }
+    {
+        self.list.as_slice()
+    }
+}

@@ -1,0 +1,191 @@
+// What stands behind the locks of a run at its opening.
+ghost use Rattle.std.specs.Prelude.{◌≡◌, ◌+◌, ◌<◌, ◌≤◌, [], length, IfOk, OnOk};
+ghost use Rattle.chem_model.specs.Each.{Each};
+ghost use Rattle.chem_model.specs.Opening.{opening};
+ghost use Rattle.chem_model.specs.ProgramFacts.{IsProgram};
+ghost use Rattle.chem_model.specs.declared.name.Loc.{Loc as loc_seen};
+ghost use Rattle.env_store.specs.Reading.{IsCodeOf};
+ghost use Rattle.env_store.specs.Laws.{rules_of_group};
+ghost use Rattle.loc_tree.specs.Tree.{unmarked_roots};
+ghost use Rattle.net_laws.specs.Net.{Stands};
+ghost use Rattle.net_laws.specs.Opened.{with_tops, opened_net};
+ghost use Rattle.reducer.specs.Opens.{IsOfProgram};
+ghost use Rattle.shared_net.specs.Beginning.{bare, with_text, with_flights, IsUpTo};
+ghost use Rattle.shared_net.specs.Mail.{IsMessageText};
+ghost use Rattle.shared_net.specs.Passes.{new_passes};
+ghost use Rattle.shared_net.specs.Preparing.{IsOpenedAs};
+
+use crate::lists::{Mails, Sites};
+use crate::locked::{Locked, open};
+use crate::pass::Passes;
+use crate::run::Run;
+use crate::wide::add_births;
+use chem_model::{Items, Memory, Program, Text, Texts};
+use env_store::Code;
+use loc_tree::LocTree;
+use reducer::opening;
+use site_solution::Site;
+use std::alloc::Global;
+use std::sync::ledger::Blank;
+use trace_history::Book;
+use wire_packet::Flight;
+
+/// What stands behind the locks of a run: the tree, the sites with their mail, and the book.
+#[derive(Drop)]
+pub struct Opened<L: Run> {
+    pub tree: LocTree,
+    pub sites: Sites,
+    pub mail: Mails,
+    pub locked: Locked<L>,
+}
+
+// What is opened so far.
+#[derive(Drop)]
+struct Begun {
+    sites: Vec<Site>,
+    tree: LocTree,
+    mails: Vec<Texts>,
+}
+
+// ---- mail
+
+// A mail without a text for each of so many sites.
+fn empty_mails(alloc: Global, count: usize) -> Result<Vec<Texts>, Memory>
+    ensures count { IfOk result (λ mails. length mails.items ≡ count) }
+    ensures none { IfOk result (λ mails. Each (λ mail. mail ≡ []) mails.items) }
+{
+    let mut mails = Vec::new(alloc);
+    for _site in 0..count {
+        mails.push(Items::new(alloc))?;
+    }
+    Ok(mails)
+}
+
+// Adds a text to the mail of the site with this number, if there is one.
+fn add_text(mails: &mut [Texts], target: u32, text: Text) -> Result<(), Memory>
+    ensures { OnOk result (mails.new ≡ with_text target text mails.old) }
+{
+    let at = target as usize;
+    if at >= mails.len() {
+        return Ok(());
+    }
+    mails[at].push(text)
+}
+
+// Adds what flights carry to the mail of their targets.
+fn add_flights(alloc: Global, mails: &mut [Texts], flights: &[Flight]) -> Result<(), Memory>
+    ensures { OnOk result (mails.new ≡ with_flights flights.now mails.old) }
+{
+    for flight in flights {
+        let text = flight.bytes.copy(alloc)?;
+        add_text(mails, flight.target, text)?;
+    }
+    Ok(())
+}
+
+// ---- sites
+
+// The tree with all site-level locations, before any site is opened.
+fn first_tree(alloc: Global, code: &Code) -> Result<LocTree, Memory>
+    requires { Each (λ (l : loc_seen). l.site < length code.now.sites) code.now.tops }
+    ensures { IfOk result (λ tree.
+        bare tree ≡ with_tops (unmarked_roots (length code.now.sites)) code.now.tops) }
+{
+    let mut tree = LocTree::start(alloc, code.sites.len() as u32)?;
+    for loc in code.tops.as_slice() {
+        if !tree.holds(loc) {
+            tree.reserve(alloc, 1)?;
+            tree.birth(*loc, loc.site);
+        }
+    }
+    Ok(tree)
+}
+
+// Opens the site with this number, where those before it are opened.
+fn open_site(alloc: Global, begun: &mut Begun, code: &Code, number: u32) -> Result<(), Memory>
+    requires number { number < length code.now.sites }
+    requires before { IsUpTo code.now number begun.old.sites.items begun.old.tree
+        begun.old.mails.items }
+    ensures { OnOk result (IsUpTo code.now (number + 1) begun.new.sites.items begun.new.tree
+        begun.new.mails.items) }
+{
+    let _tops = &code.tops;
+    let (site, effects) = opening(alloc, code, &begun.tree, number)?;
+    begun.tree.reserve(alloc, effects.births.len() as u32)?;
+    add_births(&mut begun.tree, effects.births.as_slice(), number);
+    add_flights(alloc, &mut begun.mails, effects.sends.as_slice())?;
+    begun.sites.push(site)?;
+    Ok(())
+}
+
+// Opens all sites, in order.
+fn open_all(alloc: Global, code: &Code) -> Result<Begun, Memory>
+    requires { IsOfProgram code.now }
+    ensures { IfOk result (λ begun. IsOpenedAs code.now begun.tree begun.sites.items
+        begun.mails.items) }
+{
+    let _known = &code.tops;
+    let tree = first_tree(alloc, code)?;
+    let mails = empty_mails(alloc, code.sites.len())?;
+    let mut begun = Begun {
+        sites: Vec::new(alloc),
+        tree,
+        mails,
+    };
+    for number in 0..code.sites.len() as u32 {
+        open_site(alloc, &mut begun, code, number)?;
+    }
+    Ok(begun)
+}
+
+// The network that a program's code opens stands for the program's opening. It does nothing.
+fn opened_stands(program: &Program, code: &Code)
+    requires { IsCodeOf program.now code.now }
+    ensures is { IsProgram program.now }
+    ensures stands { Stands (rules_of_group program.now) (opened_net code.now)
+        (opening program.now) }
+{
+    let _tops = &program.tops;
+    let _known = &code.tops;
+}
+
+/// What stands behind the locks at a program's opening: the tree, the sites and the book are those
+/// of the opening, and what the openings of the sites send is the mail of their targets, in order.
+/// With it come new passes, numbered from 1. The blank ledger has a part for each.
+pub fn prepare<L: Run>(
+    alloc: Global,
+    program: &Program,
+    code: &Code,
+    passes: u32,
+    budget: u32,
+    blank: Blank,
+) -> Result<(Opened<L>, Passes<L>), Memory>
+    requires code { IsCodeOf program.now code.now }
+    requires passes { (1 ≤ passes) × (passes ≤ 16) }
+    requires budget { budget ≤ 1000000 }
+    requires name { blank.name ≡ L.name }
+    requires parts { blank.parts ≡ L.parts }
+    requires one_each { blank.parts ≡ passes }
+    requires program { program.now ≡ L.program }
+    ensures opened { IfOk result (λ r.
+        IsOpenedAs code.now r.0.tree r.0.sites r.0.mail) }
+    ensures stands { IfOk result (λ _. Stands (rules_of_group program.now)
+        (opened_net code.now) (opening program.now)) }
+    ensures book { IfOk result (λ r.
+        r.0.locked.book ≡ record { program = program.now; journal = [] }) }
+    ensures mail { IfOk result (λ r. Each (Each IsMessageText) r.0.mail) }
+    ensures passes { IfOk result (λ r. r.1 ≡ new_passes budget 1 passes) }
+{
+    opened_stands(program, code);
+    let begun = open_all(alloc, code)?;
+    let book = Book::start(alloc, program)?;
+    let (locked, passes) = open(alloc, blank, book, passes, budget)?;
+    let Begun { sites, tree, mails } = begun;
+    let opened = Opened {
+        tree,
+        sites: Sites::from_vec(sites),
+        mail: Mails::from_vec(mails),
+        locked,
+    };
+    Ok((opened, passes))
+}
