@@ -2,3 +2,4 @@ pub mod Firsts
 pub mod Moves
 pub mod Founds
 pub mod Entries
+pub mod Picking

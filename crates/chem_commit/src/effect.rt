@@ -11,11 +11,12 @@ ghost use Rattle.chem_model.specs.Sound.{IsSound};
 ghost use Rattle.chem_commit.specs.Parts.{poured, moved, halted};
 
 use crate::guesses::{Guesses, can_detect, can_go, find_rule, is_live, root_of};
+use crate::near::{atom_of, received_of};
 use chem_model::{
     AtomId, Atoms, Items, Loc, Made, Memory, Numbered, NumberedAtom, NumberedRule, ProcNode, Ref,
     RuleId,
 };
-use chem_plain::{atom_at, continuation, location_of, made_at, received_all};
+use chem_plain::{continuation, location_of, made_at};
 use std::alloc::Global;
 
 /// What an event pours at a location, and the root above, at whose site it is made.
@@ -58,7 +59,7 @@ fn reaction_of(
     if !is_live(solution, guesses, rule.loc) {
         return Ok(None);
     }
-    match received_all(alloc, &solution.atoms, rule.loc, &rule.pats, took)? {
+    match received_of(alloc, solution, rule.loc, &rule.pats, took)? {
         Some(names) => {
             let at = rule.loc;
             let root = root_of(solution, guesses, at);
@@ -141,7 +142,7 @@ pub(crate) fn departure(
     ensures { IfOk result (λ effect. moved solution.now id effect
         ≡ with_atom (atom_at solution.now.atoms id) (move_atom solution.now id)) }
 {
-    match atom_at(&solution.atoms, id) {
+    match atom_of(solution, id) {
         Some(atom) => move_of(alloc, solution, guesses, id, atom),
         None => Ok(None),
     }
@@ -170,7 +171,7 @@ pub(crate) fn failing(solution: &Numbered, guesses: &Guesses, id: AtomId) -> Opt
     ensures { halted solution.now id result
         ≡ with_atom (atom_at solution.now.atoms id) (halt_atom solution.now id) }
 {
-    match atom_at(&solution.atoms, id) {
+    match atom_of(solution, id) {
         Some(atom) => halt_of(solution, guesses, id, atom),
         None => None,
     }
@@ -232,7 +233,7 @@ pub(crate) fn detection(
         (λ effect. poured (record solution.now { atoms = without id solution.now.atoms }) effect
         ≡ with_atom (atom_at solution.now.atoms id) (detect_atom solution.now id)) }
 {
-    match atom_at(&solution.atoms, id) {
+    match atom_of(solution, id) {
         Some(atom) => detection_of(alloc, solution, guesses, id, atom),
         None => Ok(None),
     }

@@ -5,6 +5,7 @@ mod add;
 mod effect;
 mod guesses;
 mod make;
+mod near;
 mod take;
 
 pub use guesses::{Guesses, can_detect, can_go, is_live, note, root_of};

@@ -1,31 +1,21 @@
 // Changes of the first members of a list alone: what was appended behind them stays as it is.
 ghost use Rattle.std.specs.Prelude.{◌≡◌, ◌≤◌, ◌++◌, length, take, drop, IfSome};
 ghost use Rattle.chem_model.specs.Apply.{without, without_all, with_hosts, with_marks};
-ghost use Rattle.chem_commit.specs.Parts.{place_from, hosted, marked, IsEntry};
-ghost use Rattle.chem_commit.specs.Differ.{PlacesDiffer};
+ghost use Rattle.chem_commit.specs.Parts.{hosted, marked, IsEntry};
+ghost use Rattle.chem_commit.specs.Differ.{PlacesDiffer, AtomsDiffer};
 
+use crate::near::place_of;
 use chem_model::{AtomId, Atoms, Loc, NumberedAtoms, Placed, PlacedList, same_loc};
-use chem_plain::same_atom;
-
-/// The place of the atom with this number.
-fn place_of(atoms: &NumberedAtoms, id: AtomId) -> Option<usize>
-    ensures { result ≡ place_from id 0 atoms.now }
-{
-    for (index, atom) in atoms.as_slice().iter().enumerate() {
-        if same_atom(atom.id, id) {
-            return Some(index);
-        }
-    }
-    None
-}
 
 /// Takes the atom with this number out of the first ones, and answers how many of these are left.
 pub(crate) fn take_out(atoms: &mut NumberedAtoms, count: usize, id: AtomId) -> usize
-    requires { count ≤ length atoms.old }
+    requires within { count ≤ length atoms.old }
+    requires apart { AtomsDiffer (take count atoms.old) }
     ensures left { result ≡ length (without id (take count atoms.old)) }
     ensures out { atoms.new ≡ without id (take count atoms.old) ++ drop count atoms.old }
+    ensures apart { AtomsDiffer (take result atoms.new) }
 {
-    match place_of(atoms, id) {
+    match place_of(atoms, count, id) {
         Some(index) => {
             if index >= count {
                 return count;
@@ -39,7 +29,8 @@ pub(crate) fn take_out(atoms: &mut NumberedAtoms, count: usize, id: AtomId) -> u
 
 /// Takes the atoms with these numbers out of the first ones.
 pub(crate) fn take_out_all(atoms: &mut NumberedAtoms, count: usize, took: &Atoms)
-    requires { count ≤ length atoms.old }
+    requires within { count ≤ length atoms.old }
+    requires apart { AtomsDiffer (take count atoms.old) }
     ensures { atoms.new ≡ without_all took.now (take count atoms.old) ++ drop count atoms.old }
 {
     let mut left = count;

@@ -81,7 +81,7 @@ when_some true x h = refl
 when_some false x h = cc
 
 module _ (size : ℕ) (heard : List Bool) where
-  channel_told : (p : Pat) (q : Process) → is_some (received p q) ≡ true → is_told size heard q ≡ true → is_heard size heard p.on ≡ true
+  pub channel_told : (p : Pat) (q : Process) → is_some (received p q) ≡ true → is_told size heard q ≡ true → is_heard size heard p.on ≡ true
   channel_told p (Msg x vs) h told =
       let fits = when_some (same_ref p.on x && (length p.params == length vs)) (given p.params (known vs)) h in
       let same = (and_parts (same_ref p.on x) (length p.params == length vs) fits).0 in

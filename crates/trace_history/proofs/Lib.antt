@@ -11,3 +11,5 @@ pub mod Hearing
 pub mod Filed
 pub mod Looked
 pub mod Behind
+pub mod Gone
+pub mod Summing

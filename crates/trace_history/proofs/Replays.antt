@@ -37,6 +37,11 @@ pub replaced : (o : Option Numbered) (n m : Numbered) (made : Bool) → Replaces
 replaced None n m made h is = let not = h.0 in cc
 replaced (Some after) n m made h is = ap Some (sym h.1)
 
+-- where it isn't made, nothing changes
+pub unchanged : (o : Option Numbered) (n m : Numbered) (made : Bool) → Replaces o n made m → made ≡ false → m ≡ n
+unchanged None n m made h is = h.1
+unchanged (Some after) n m made h is = let wrong : false ≡ true = sym is ∙ h.0 in cc
+
 -- ---- the counts
 
 pub same_some : {X : Type 0} (x y : X) → Some x ≡ Some y → x ≡ y

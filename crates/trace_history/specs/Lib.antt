@@ -4,3 +4,4 @@ pub mod Book
 pub mod Search
 pub mod Heard
 pub mod Waiting
+pub mod Summed

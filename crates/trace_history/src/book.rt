@@ -11,6 +11,7 @@ ghost use Rattle.trace_history.specs.Book.{Commits, IsAStart, IsAReduction, OnSo
 ghost use Rattle.trace_history.specs.Book.{IsStuck, IsQuiet, Finds, Replays};
 
 use crate::search::{first_event, is_stuck};
+use crate::summary::{Summary, leave_out, sum_up};
 use crate::waiting::{Waiting, file};
 use chem_commit::{Guesses, make_event, note};
 use chem_laws::{event_is_a_reduction, opening_is_a_start, replay_is_a_run, stuck_is_quiet};
@@ -65,6 +66,7 @@ pub struct Book {
     solution: Numbered,
     guesses: Guesses,
     waiting: Waiting,
+    summary: Summary,
 }
 
 impl Model for Book {
@@ -79,14 +81,16 @@ impl Model for Book {
     ghost view = { λ b. record { program = b.program; journal = b.journal } };
 
     ghost use Rattle.trace_history.specs.Waiting.{AreFiled};
+    ghost use Rattle.trace_history.specs.Summed.{IsSummed};
 
     ghost invariant = { λ b. (replay b.program b.journal ≡ Some b.solution)
-        × AreFiled b.waiting.heads.items b.waiting.links.items b.solution.rules };
+        × AreFiled b.waiting.heads.items b.waiting.links.items b.solution.rules
+        × IsSummed b.summary.heard.items b.summary.count b.summary.calm b.solution.atoms };
 }
 
 impl Book {
     /// The book of a program's opening, which stands for a start of the program.
-    #[tactic(auto, using(crate::proofs::Filed::none_filed))]
+    #[tactic(auto, using(crate::proofs::Filed::none_filed, crate::proofs::Summing::none_summed))]
     pub fn start(alloc: Global, program: &Program) -> Result<Book, Memory>
         ensures opening { IfOk result (λ book.
             book ≡ record { program = program.now; journal = [] }) }
@@ -100,12 +104,15 @@ impl Book {
         note(alloc, &mut guesses, &solution)?;
         let mut waiting = Waiting::new(alloc)?;
         file(alloc, &mut waiting, &solution)?;
+        let mut summary = Summary::new(alloc)?;
+        sum_up(alloc, &mut summary, &solution)?;
         Ok(Book {
             program,
             journal: Items::new(alloc),
             solution,
             guesses,
             waiting,
+            summary,
         })
     }
 
@@ -122,11 +129,15 @@ impl Book {
         event_is_a_reduction();
         note(alloc, &mut self.guesses, &self.solution)?;
         file(alloc, &mut self.waiting, &self.solution)?;
+        sum_up(alloc, &mut self.summary, &self.solution)?;
         let place = self.journal.len();
         let copy = event.copy(alloc)?;
         self.journal.push(copy)?;
         match make_event(alloc, &mut self.solution, &self.guesses, event) {
-            Ok(true) => Ok(Commit::Place(place as u64)),
+            Ok(true) => {
+                leave_out(&mut self.summary, event);
+                Ok(Commit::Place(place as u64))
+            }
             Ok(false) => {
                 self.journal.truncate(place);
                 Ok(Commit::NotEnabled)
@@ -152,7 +163,7 @@ impl Book {
     {
         self.is_sound();
         stuck_is_quiet();
-        is_stuck(&self.solution, &self.guesses, &self.waiting)
+        is_stuck(&self.solution, &self.guesses, &self.summary, &self.waiting)
     }
 
     /// The event that comes first, where the site `from` is looked at first, and its site. None
@@ -165,7 +176,14 @@ impl Book {
         ensures memory { OnErr result (IsStuck self.now → ⊥) }
     {
         self.is_sound();
-        first_event(alloc, &self.solution, &self.guesses, &self.waiting, from)
+        first_event(
+            alloc,
+            &self.solution,
+            &self.guesses,
+            &self.summary,
+            &self.waiting,
+            from,
+        )
     }
 
     /// The events since the opening.

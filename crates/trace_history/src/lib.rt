@@ -4,6 +4,7 @@
 mod book;
 mod heard;
 mod search;
+mod summary;
 mod waiting;
 
 pub use book::{Book, Commit, Found};

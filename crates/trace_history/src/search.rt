@@ -10,11 +10,13 @@ ghost use Rattle.trace_history.specs.Search.{IsFirstOf, beats, receives, atom_be
 ghost use Rattle.trace_history.specs.Search.{is_met, AreLeast, is_ready, turn};
 ghost use Rattle.trace_history.specs.Search.{rule_before, can_act, request_before};
 ghost use Rattle.trace_history.specs.Search.{event_of, IsReaction, IsMeeting, IsFound};
+ghost use Rattle.trace_history.specs.Summed.{IsSummed};
 ghost use Rattle.trace_history.specs.Waiting.{AreFiled, Reaches, Betters, IsLookedAt};
 ghost use Rattle.trace_history.specs.Waiting.{IsSlotLookedAt};
 
 use crate::book::Found;
 use crate::heard::{hear_all, may_be_met};
+use crate::summary::{Summary, rest_for, rest_for_requests};
 use crate::waiting::{Waiting, is_same_slot, slot_of_term};
 use chem_commit::{Guesses, can_detect, can_go, is_live, root_of};
 use chem_model::{
@@ -65,13 +67,12 @@ fn is_lesser(atom: &NumberedAtom, least: Option<&NumberedAtom>) -> bool
     }
 }
 
-/// The message with the least number that a pattern receives at a location.
-fn least_message<'a>(numbered: &'a Numbered, at: Loc, pat: &Pat) -> Option<&'a NumberedAtom>
-    ensures { IsFirstOf (receives at pat.now) atom_before numbered.now.atoms
-        (option_copied result) }
+/// The one with the least number, of these, that a pattern receives at a location.
+fn least_of<'a>(atoms: &'a [NumberedAtom], at: Loc, pat: &Pat) -> Option<&'a NumberedAtom>
+    ensures { IsFirstOf (receives at pat.now) atom_before atoms.now (option_copied result) }
 {
     let mut least: Option<&NumberedAtom> = None;
-    for atom in numbered.atoms.as_slice() {
+    for atom in atoms {
         if is_lesser(atom, least) && meets(at, pat, atom) {
             least = Some(atom);
         }
@@ -79,14 +80,37 @@ fn least_message<'a>(numbered: &'a Numbered, at: Loc, pat: &Pat) -> Option<&'a N
     least
 }
 
+/// The message with the least number that a pattern receives at a location.
+fn least_message<'a>(
+    numbered: &'a Numbered,
+    summary: &Summary,
+    at: Loc,
+    pat: &Pat,
+) -> Option<&'a NumberedAtom>
+    requires summed { IsSummed summary.now.heard.items summary.now.count summary.now.calm
+        numbered.now.atoms }
+    ensures { IsFirstOf (receives at pat.now) atom_before numbered.now.atoms
+        (option_copied result) }
+{
+    least_of(rest_for(numbered, summary, pat), at, pat)
+}
+
 /// The least message for each pattern of a rule.
-fn least_messages(alloc: Global, numbered: &Numbered, at: Loc, pats: &Pats) -> Result<Atoms, Memory>
-    requires { list_all (is_met numbered.now.atoms at) pats.now ≡ true }
+fn least_messages(
+    alloc: Global,
+    numbered: &Numbered,
+    summary: &Summary,
+    at: Loc,
+    pats: &Pats,
+) -> Result<Atoms, Memory>
+    requires met { list_all (is_met numbered.now.atoms at) pats.now ≡ true }
+    requires summed { IsSummed summary.now.heard.items summary.now.count summary.now.calm
+        numbered.now.atoms }
     ensures { IfOk result (λ took. AreLeast numbered.now.atoms at pats.now took) }
 {
     let mut took = Items::from_vec(Vec::with_capacity(alloc, pats.len())?);
     for pat in pats.as_slice() {
-        match least_message(numbered, at, pat) {
+        match least_message(numbered, summary, at, pat) {
             Some(atom) => took.push(atom.id)?,
             None => {}
         }
@@ -94,11 +118,10 @@ fn least_messages(alloc: Global, numbered: &Numbered, at: Loc, pats: &Pats) -> R
     Ok(took)
 }
 
-/// Whether a pattern receives a message at a location. The newest ones are tried first.
-fn is_met(numbered: &Numbered, at: Loc, pat: &Pat) -> bool
-    ensures { result ≡ is_met numbered.now.atoms at pat.now }
+/// Whether a pattern receives one of these at a location. The newest ones are tried first.
+fn is_met_by(atoms: &[NumberedAtom], at: Loc, pat: &Pat) -> bool
+    ensures { result ≡ is_met atoms.now at pat.now }
 {
-    let atoms = numbered.atoms.as_slice();
     let mut left = atoms.len();
     while left > 0 {
         left -= 1;
@@ -109,16 +132,27 @@ fn is_met(numbered: &Numbered, at: Loc, pat: &Pat) -> bool
     false
 }
 
+/// Whether a pattern receives a message at a location.
+fn is_met(numbered: &Numbered, summary: &Summary, at: Loc, pat: &Pat) -> bool
+    requires summed { IsSummed summary.now.heard.items summary.now.count summary.now.calm
+        numbered.now.atoms }
+    ensures { result ≡ is_met numbered.now.atoms at pat.now }
+{
+    is_met_by(rest_for(numbered, summary, pat), at, pat)
+}
+
 /// Whether a rule stands at a live location and each of its patterns receives a message.
-fn is_ready(numbered: &Numbered, guesses: &Guesses, rule: &NumberedRule) -> bool
-    requires { IsSound numbered.now }
+fn is_ready(numbered: &Numbered, guesses: &Guesses, summary: &Summary, rule: &NumberedRule) -> bool
+    requires sound { IsSound numbered.now }
+    requires summed { IsSummed summary.now.heard.items summary.now.count summary.now.calm
+        numbered.now.atoms }
     ensures { result ≡ is_ready numbered.now rule.now }
 {
     if !is_live(numbered, guesses, rule.loc) {
         return false;
     }
     for pat in rule.pats.as_slice() {
-        if !is_met(numbered, rule.loc, pat) {
+        if !is_met(numbered, summary, rule.loc, pat) {
             return false;
         }
     }
@@ -151,16 +185,19 @@ fn is_earlier_rule(
 fn first_of_few<'a>(
     numbered: &'a Numbered,
     guesses: &Guesses,
+    summary: &Summary,
     from: u32,
 ) -> Option<&'a NumberedRule>
-    requires { IsSound numbered.now }
+    requires sound { IsSound numbered.now }
+    requires summed { IsSummed summary.now.heard.items summary.now.count summary.now.calm
+        numbered.now.atoms }
     ensures { IsFirstOf (is_ready numbered.now) (rule_before numbered.now from) numbered.now.rules
         (option_copied result) }
 {
     let mut first: Option<&NumberedRule> = None;
     for rule in numbered.rules.as_slice() {
         if is_earlier_rule(numbered, guesses, from, rule, first)
-            && is_ready(numbered, guesses, rule)
+            && is_ready(numbered, guesses, summary, rule)
         {
             first = Some(rule);
         }
@@ -173,6 +210,7 @@ fn first_of_few<'a>(
 fn is_better(
     numbered: &Numbered,
     guesses: &Guesses,
+    summary: &Summary,
     size: u64,
     heard: &[bool],
     from: u32,
@@ -180,6 +218,8 @@ fn is_better(
     first: Option<&NumberedRule>,
 ) -> bool
     requires sound { IsSound numbered.now }
+    requires summed { IsSummed summary.now.heard.items summary.now.count summary.now.calm
+        numbered.now.atoms }
     requires size { 0 < size }
     requires told { are_told size heard.now numbered.now.atoms ≡ true }
     ensures { result ≡ (beats (rule_before numbered.now from) rule.now (option_copied first.entry)
@@ -188,7 +228,8 @@ fn is_better(
     if !may_be_met(size, heard, &rule.pats) {
         return false;
     }
-    is_earlier_rule(numbered, guesses, from, rule, first) && is_ready(numbered, guesses, rule)
+    is_earlier_rule(numbered, guesses, from, rule, first)
+        && is_ready(numbered, guesses, summary, rule)
 }
 
 /// The better one of the rule at this place of the list, where it is ready, and the one that was
@@ -196,6 +237,7 @@ fn is_better(
 fn better_at<'a>(
     numbered: &'a Numbered,
     guesses: &Guesses,
+    summary: &Summary,
     size: u64,
     heard: &[bool],
     from: u32,
@@ -203,6 +245,8 @@ fn better_at<'a>(
     found: Option<&'a NumberedRule>,
 ) -> Option<&'a NumberedRule>
     requires sound { IsSound numbered.now }
+    requires summed { IsSummed summary.now.heard.items summary.now.count summary.now.calm
+        numbered.now.atoms }
     requires size { 0 < size }
     requires told { are_told size heard.now numbered.now.atoms ≡ true }
     ensures better { Betters numbered.now from (option_copied found.entry) (option_copied result) }
@@ -210,7 +254,7 @@ fn better_at<'a>(
 {
     match numbered.rules.as_slice().get(place) {
         Some(rule) => {
-            if is_better(numbered, guesses, size, heard, from, rule, found) {
+            if is_better(numbered, guesses, summary, size, heard, from, rule, found) {
                 Some(rule)
             } else {
                 found
@@ -224,6 +268,7 @@ fn better_at<'a>(
 fn best_of_chain<'a>(
     numbered: &'a Numbered,
     guesses: &Guesses,
+    summary: &Summary,
     links: &[u32],
     size: u64,
     heard: &[bool],
@@ -232,6 +277,8 @@ fn best_of_chain<'a>(
     found: Option<&'a NumberedRule>,
 ) -> Option<&'a NumberedRule>
     requires sound { IsSound numbered.now }
+    requires summed { IsSummed summary.now.heard.items summary.now.count summary.now.calm
+        numbered.now.atoms }
     requires size { 0 < size }
     requires told { are_told size heard.now numbered.now.atoms ≡ true }
     ensures better { Betters numbered.now from (option_copied found.entry) (option_copied result) }
@@ -245,7 +292,16 @@ fn best_of_chain<'a>(
         left -= 1;
         match links.get(place as usize) {
             Some(next) => {
-                best = better_at(numbered, guesses, size, heard, from, place as usize, best);
+                best = better_at(
+                    numbered,
+                    guesses,
+                    summary,
+                    size,
+                    heard,
+                    from,
+                    place as usize,
+                    best,
+                );
                 place = *next;
             }
             None => return best,
@@ -258,6 +314,7 @@ fn best_of_chain<'a>(
 fn best_of_slot<'a>(
     numbered: &'a Numbered,
     guesses: &Guesses,
+    summary: &Summary,
     waiting: &Waiting,
     size: u64,
     heard: &[bool],
@@ -266,6 +323,8 @@ fn best_of_slot<'a>(
     found: Option<&'a NumberedRule>,
 ) -> Option<&'a NumberedRule>
     requires sound { IsSound numbered.now }
+    requires summed { IsSummed summary.now.heard.items summary.now.count summary.now.calm
+        numbered.now.atoms }
     requires size { 0 < size }
     requires told { are_told size heard.now numbered.now.atoms ≡ true }
     requires within { IfSome slot (λ s. s < length waiting.now.heads.items) }
@@ -277,7 +336,9 @@ fn best_of_slot<'a>(
         Some(slot) => {
             let head = waiting.heads[slot];
             let links = waiting.links.as_slice();
-            best_of_chain(numbered, guesses, links, size, heard, from, head, found)
+            best_of_chain(
+                numbered, guesses, summary, links, size, heard, from, head, found,
+            )
         }
         None => found,
     }
@@ -287,6 +348,7 @@ fn best_of_slot<'a>(
 fn best_of_next_slot<'a>(
     numbered: &'a Numbered,
     guesses: &Guesses,
+    summary: &Summary,
     waiting: &Waiting,
     size: u64,
     heard: &[bool],
@@ -296,6 +358,8 @@ fn best_of_next_slot<'a>(
     found: Option<&'a NumberedRule>,
 ) -> Option<&'a NumberedRule>
     requires sound { IsSound numbered.now }
+    requires summed { IsSummed summary.now.heard.items summary.now.count summary.now.calm
+        numbered.now.atoms }
     requires size { 0 < size }
     requires told { are_told size heard.now numbered.now.atoms ≡ true }
     requires within { IfSome slot (λ s. s < length waiting.now.heads.items) }
@@ -308,7 +372,9 @@ fn best_of_next_slot<'a>(
     if is_same_slot(slot, last) {
         found
     } else {
-        best_of_slot(numbered, guesses, waiting, size, heard, from, slot, found)
+        best_of_slot(
+            numbered, guesses, summary, waiting, size, heard, from, slot, found,
+        )
     }
 }
 
@@ -316,12 +382,15 @@ fn best_of_next_slot<'a>(
 fn best_of_rest<'a>(
     numbered: &'a Numbered,
     guesses: &Guesses,
+    summary: &Summary,
     noted: usize,
     size: u64,
     heard: &[bool],
     from: u32,
 ) -> Option<&'a NumberedRule>
     requires sound { IsSound numbered.now }
+    requires summed { IsSummed summary.now.heard.items summary.now.count summary.now.calm
+        numbered.now.atoms }
     requires size { 0 < size }
     requires told { are_told size heard.now numbered.now.atoms ≡ true }
     ensures better { Betters numbered.now from None (option_copied result) }
@@ -332,7 +401,7 @@ fn best_of_rest<'a>(
     let mut best = None;
     let mut place = noted;
     while place < count {
-        best = better_at(numbered, guesses, size, heard, from, place, best);
+        best = better_at(numbered, guesses, summary, size, heard, from, place, best);
         place += 1;
     }
     best
@@ -343,12 +412,15 @@ fn best_of_rest<'a>(
 fn first_waiting<'a>(
     numbered: &'a Numbered,
     guesses: &Guesses,
+    summary: &Summary,
     waiting: &Waiting,
     size: u64,
     heard: &[bool],
     from: u32,
 ) -> Option<&'a NumberedRule>
     requires sound { IsSound numbered.now }
+    requires summed { IsSummed summary.now.heard.items summary.now.count summary.now.calm
+        numbered.now.atoms }
     requires filed { AreFiled waiting.now.heads.items waiting.now.links.items numbered.now.rules }
     requires size { 0 < size }
     requires told { are_told size heard.now numbered.now.atoms ≡ true }
@@ -357,12 +429,12 @@ fn first_waiting<'a>(
 {
     let slots = waiting.heads.as_slice().len() as u64;
     let noted = waiting.links.as_slice().len();
-    let mut best = best_of_rest(numbered, guesses, noted, size, heard, from);
+    let mut best = best_of_rest(numbered, guesses, summary, noted, size, heard, from);
     let mut last = None;
     for atom in numbered.atoms.as_slice() {
         let slot = slot_of_term(slots, &atom.term);
         best = best_of_next_slot(
-            numbered, guesses, waiting, size, heard, from, slot, last, best,
+            numbered, guesses, summary, waiting, size, heard, from, slot, last, best,
         );
         last = slot;
     }
@@ -373,74 +445,87 @@ fn first_waiting<'a>(
 fn first_by_no_table<'a>(
     numbered: &'a Numbered,
     guesses: &Guesses,
+    summary: &Summary,
     waiting: &Waiting,
     from: u32,
 ) -> Option<&'a NumberedRule>
     requires sound { IsSound numbered.now }
+    requires summed { IsSummed summary.now.heard.items summary.now.count summary.now.calm
+        numbered.now.atoms }
     requires filed { AreFiled waiting.now.heads.items waiting.now.links.items numbered.now.rules }
     ensures { IsFirstOf (is_ready numbered.now) (rule_before numbered.now from) numbered.now.rules
         (option_copied result) }
 {
     let heard: [bool; 0] = [];
-    first_waiting(numbered, guesses, waiting, 1, &heard, from)
+    first_waiting(numbered, guesses, summary, waiting, 1, &heard, from)
 }
 
 /// The same where there are more: by a small table of the channels that have a message.
 fn first_by_small_table<'a>(
     numbered: &'a Numbered,
     guesses: &Guesses,
+    summary: &Summary,
     waiting: &Waiting,
     from: u32,
 ) -> Option<&'a NumberedRule>
     requires sound { IsSound numbered.now }
+    requires summed { IsSummed summary.now.heard.items summary.now.count summary.now.calm
+        numbered.now.atoms }
     requires filed { AreFiled waiting.now.heads.items waiting.now.links.items numbered.now.rules }
     ensures { IsFirstOf (is_ready numbered.now) (rule_before numbered.now from) numbered.now.rules
         (option_copied result) }
 {
     let mut heard = [false; 1024];
     hear_all(1024, &mut heard, &numbered.atoms);
-    first_waiting(numbered, guesses, waiting, 1024, &heard, from)
+    first_waiting(numbered, guesses, summary, waiting, 1024, &heard, from)
 }
 
 /// The same by a large table.
 fn first_by_large_table<'a>(
     numbered: &'a Numbered,
     guesses: &Guesses,
+    summary: &Summary,
     waiting: &Waiting,
     from: u32,
 ) -> Option<&'a NumberedRule>
     requires sound { IsSound numbered.now }
+    requires summed { IsSummed summary.now.heard.items summary.now.count summary.now.calm
+        numbered.now.atoms }
     requires filed { AreFiled waiting.now.heads.items waiting.now.links.items numbered.now.rules }
     ensures { IsFirstOf (is_ready numbered.now) (rule_before numbered.now from) numbered.now.rules
         (option_copied result) }
 {
     let mut heard = [false; 65_536];
     hear_all(65_536, &mut heard, &numbered.atoms);
-    first_waiting(numbered, guesses, waiting, 65_536, &heard, from)
+    first_waiting(numbered, guesses, summary, waiting, 65_536, &heard, from)
 }
 
-/// The first of the rules that are ready. Few rules are all looked at; of many, those that wait for
-/// a message that is there.
+/// The first of the rules that are ready. Few rules are all looked at, also where there are many
+/// messages for each; of many rules, those that wait for a message that is there.
 fn first_rule<'a>(
     numbered: &'a Numbered,
     guesses: &Guesses,
+    summary: &Summary,
     waiting: &Waiting,
     from: u32,
 ) -> Option<&'a NumberedRule>
     requires sound { IsSound numbered.now }
+    requires summed { IsSummed summary.now.heard.items summary.now.count summary.now.calm
+        numbered.now.atoms }
     requires filed { AreFiled waiting.now.heads.items waiting.now.links.items numbered.now.rules }
     ensures { IsFirstOf (is_ready numbered.now) (rule_before numbered.now from) numbered.now.rules
         (option_copied result) }
 {
     let atoms = numbered.atoms.len();
-    if numbered.rules.len() < 4 {
-        first_of_few(numbered, guesses, from)
+    let rules = numbered.rules.len();
+    if rules < 4 || rules < summary.count / 8 {
+        first_of_few(numbered, guesses, summary, from)
     } else if atoms < 8 {
-        first_by_no_table(numbered, guesses, waiting, from)
+        first_by_no_table(numbered, guesses, summary, waiting, from)
     } else if atoms < 128 {
-        first_by_small_table(numbered, guesses, waiting, from)
+        first_by_small_table(numbered, guesses, summary, waiting, from)
     } else {
-        first_by_large_table(numbered, guesses, waiting, from)
+        first_by_large_table(numbered, guesses, summary, waiting, from)
     }
 }
 
@@ -486,18 +571,19 @@ fn is_earlier_request(
     }
 }
 
-/// The first of the requests that can be met.
-fn first_request<'a>(
-    numbered: &'a Numbered,
+/// The first of these that are requests that can be met.
+fn first_request_of<'a>(
+    numbered: &Numbered,
     guesses: &Guesses,
     from: u32,
+    atoms: &'a [NumberedAtom],
 ) -> Option<&'a NumberedAtom>
     requires { IsSound numbered.now }
-    ensures { IsFirstOf (can_act numbered.now) (request_before numbered.now from) numbered.now.atoms
+    ensures { IsFirstOf (can_act numbered.now) (request_before numbered.now from) atoms.now
         (option_copied result) }
 {
     let mut first: Option<&NumberedAtom> = None;
-    for atom in numbered.atoms.as_slice() {
+    for atom in atoms {
         if is_earlier_request(numbered, guesses, from, atom, first)
             && can_act(numbered, guesses, atom)
         {
@@ -507,18 +593,42 @@ fn first_request<'a>(
     first
 }
 
+/// The first of the requests that can be met.
+fn first_request<'a>(
+    numbered: &'a Numbered,
+    guesses: &Guesses,
+    summary: &Summary,
+    from: u32,
+) -> Option<&'a NumberedAtom>
+    requires sound { IsSound numbered.now }
+    requires summed { IsSummed summary.now.heard.items summary.now.count summary.now.calm
+        numbered.now.atoms }
+    ensures { IsFirstOf (can_act numbered.now) (request_before numbered.now from) numbered.now.atoms
+        (option_copied result) }
+{
+    first_request_of(
+        numbered,
+        guesses,
+        from,
+        rest_for_requests(numbered, summary),
+    )
+}
+
 /// The reaction of a rule, by the least message for each of its patterns.
 fn reaction(
     alloc: Global,
     numbered: &Numbered,
     guesses: &Guesses,
+    summary: &Summary,
     rule: &NumberedRule,
 ) -> Result<Found, Memory>
     requires sound { IsSound numbered.now }
+    requires summed { IsSummed summary.now.heard.items summary.now.count summary.now.calm
+        numbered.now.atoms }
     requires ready { is_ready numbered.now rule.now ≡ true }
     ensures { IfOk result (λ found. IsReaction numbered.now rule.now found) }
 {
-    let took = least_messages(alloc, numbered, rule.loc, &rule.pats)?;
+    let took = least_messages(alloc, numbered, summary, rule.loc, &rule.pats)?;
     Ok(Found {
         site: root_of(numbered, guesses, rule.loc).site,
         event: Event::React {
@@ -560,31 +670,34 @@ pub(crate) fn first_event(
     alloc: Global,
     numbered: &Numbered,
     guesses: &Guesses,
+    summary: &Summary,
     waiting: &Waiting,
     from: u32,
 ) -> Result<Option<Found>, Memory>
     requires sound { IsSound numbered.now }
+    requires summed { IsSummed summary.now.heard.items summary.now.count summary.now.calm
+        numbered.now.atoms }
     requires filed { AreFiled waiting.now.heads.items waiting.now.links.items numbered.now.rules }
     ensures found { IfOk result (λ found. IsFound numbered.now from found) }
     ensures memory { OnErr result (IsFound numbered.now from None → ⊥) }
 {
-    match first_rule(numbered, guesses, waiting, from) {
-        Some(rule) => match first_request(numbered, guesses, from) {
+    match first_rule(numbered, guesses, summary, waiting, from) {
+        Some(rule) => match first_request(numbered, guesses, summary, from) {
             Some(request) => {
                 if turn(numbered, guesses, from, request.loc)
                     < turn(numbered, guesses, from, rule.loc)
                 {
                     return Ok(meeting(numbered, guesses, request));
                 }
-                let found = reaction(alloc, numbered, guesses, rule)?;
+                let found = reaction(alloc, numbered, guesses, summary, rule)?;
                 Ok(Some(found))
             }
             None => {
-                let found = reaction(alloc, numbered, guesses, rule)?;
+                let found = reaction(alloc, numbered, guesses, summary, rule)?;
                 Ok(Some(found))
             }
         },
-        None => match first_request(numbered, guesses, from) {
+        None => match first_request(numbered, guesses, summary, from) {
             Some(request) => Ok(meeting(numbered, guesses, request)),
             None => Ok(None),
         },
@@ -592,14 +705,21 @@ pub(crate) fn first_event(
 }
 
 /// Whether no event is possible.
-pub(crate) fn is_stuck(numbered: &Numbered, guesses: &Guesses, waiting: &Waiting) -> bool
+pub(crate) fn is_stuck(
+    numbered: &Numbered,
+    guesses: &Guesses,
+    summary: &Summary,
+    waiting: &Waiting,
+) -> bool
     requires sound { IsSound numbered.now }
+    requires summed { IsSummed summary.now.heard.items summary.now.count summary.now.calm
+        numbered.now.atoms }
     requires filed { AreFiled waiting.now.heads.items waiting.now.links.items numbered.now.rules }
     ensures { IsTrue result ↔ IsFound numbered.now 0 None }
 {
-    match first_rule(numbered, guesses, waiting, 0) {
+    match first_rule(numbered, guesses, summary, waiting, 0) {
         Some(_) => false,
-        None => match first_request(numbered, guesses, 0) {
+        None => match first_request(numbered, guesses, summary, 0) {
             Some(_) => false,
             None => true,
         },

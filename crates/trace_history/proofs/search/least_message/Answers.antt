@@ -1,9 +1,8 @@
--- All members were looked at.
+-- Those that are left out aren't received.
 use Rattle.std.specs.Option.{option_copied}
 use Rattle.trace_history.specs.Search.{receives, atom_before}
-use Rattle.trace_history.proofs.FirstOf.{finds_at_end}
-use Rattle.trace_history.proofs.Founds.{messages_order}
+use Rattle.trace_history.proofs.Summing.{behind_first}
 use Rattle.trace_history.proofs.search.least_message.Goals as goal
 
 pub returns : goal.returns
-returns c = finds_at_end (receives c.args.at c.args.pat.now) atom_before messages_order c.args.numbered.now.atoms c.as_slice-atom-items.result.now c.loop-atom.atom-index (option_copied c.loop-atom.least) c.as_slice-atom-items.ensures.members c.loop-atom-test.false c.loop-atom.invariant
+returns c = behind_first (receives c.args.at c.args.pat.now) atom_before c.args.numbered.now.atoms c.rest_for.result.now (option_copied c.least_of.result) (c.rest_for.ensures c.args.at) c.least_of.ensures

@@ -3,7 +3,7 @@ use Rattle.std.specs.Prelude.{None}
 use Rattle.std.specs.Option.{option_copied}
 use Rattle.trace_history.specs.Search.{can_act, request_before}
 use Rattle.trace_history.proofs.FirstOf.{first_of}
-use Rattle.trace_history.proofs.search.first_request.Given as goal
+use Rattle.trace_history.proofs.search.first_request_of.Given as goal
 
 abbrev pub invariant-loop-atom : goal.invariant-loop-atom
-invariant-loop-atom l = first_of (can_act l.numbered) (request_before l.numbered l.from) (option_copied l.first) (drop l.atom-index l.atom-items) ≡ first_of (can_act l.numbered) (request_before l.numbered l.from) None l.atom-items
+invariant-loop-atom l = first_of (can_act l.numbered) (request_before l.numbered l.from) (option_copied l.first) (drop l.atom-index l.atoms) ≡ first_of (can_act l.numbered) (request_before l.numbered l.from) None l.atoms
