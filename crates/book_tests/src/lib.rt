@@ -4,10 +4,16 @@
 #[cfg(test)]
 mod books;
 #[cfg(test)]
+mod both;
+#[cfg(test)]
+mod by_lists;
+#[cfg(test)]
 mod calling;
 #[cfg(test)]
 mod reading;
 #[cfg(test)]
 mod rings;
+#[cfg(test)]
+mod side_by_side;
 #[cfg(test)]
 mod texts;

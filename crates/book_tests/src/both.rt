@@ -1,0 +1,176 @@
+// A book, and the plain program that does the same on copies of whole lists.
+
+use crate::by_lists::first_by_lists;
+use chem_model::{Event, Memory, Named, Numbered, Out, Program};
+use chem_plain::{apply, is_enabled, opening};
+use join_base::Front;
+use join_lex::lex;
+use join_parse::parse;
+use scope_check::check;
+use std::alloc::Global;
+use trace_history::{Book, Commit, Found};
+
+/// More events than any run of these tests has.
+const MOST_EVENTS: usize = 10_000;
+
+/// A book, the solution of the plain program, and the site that both look at first.
+#[derive(Drop)]
+pub struct Both {
+    pub book: Book,
+    pub plain: Numbered,
+    pub from: u32,
+}
+
+/// How a run ended: both found that nothing is possible; all events were made that the run may
+/// have; or the two weren't the same.
+#[derive(Clone, Copy, PartialEq, Eq, Debug)]
+pub enum End {
+    Quiet,
+    Spent,
+    Differ,
+}
+
+fn program_of(alloc: Global, text: &[u8]) -> Result<Program, Front> {
+    let tokens = lex(alloc, text)?;
+    let tree = parse(alloc, &tokens)?;
+    check(alloc, &tree)
+}
+
+fn both_started(alloc: Global, program: &Program) -> Result<Both, Memory> {
+    let plain = opening(alloc, program)?;
+    let book = Book::start(alloc, program)?;
+    Ok(Both {
+        book,
+        plain,
+        from: 0,
+    })
+}
+
+/// A text's book and the plain program, each after the opening.
+pub fn both_of(alloc: Global, text: &[u8]) -> Result<Both, Front> {
+    let program = program_of(alloc, text)?;
+    Ok(both_started(alloc, &program)?)
+}
+
+fn is_same_event(one: &Event, other: &Event) -> bool {
+    match (one, other) {
+        (
+            Event::React { rule, took },
+            Event::React {
+                rule: other_rule,
+                took: other_took,
+            },
+        ) => *rule == *other_rule && took.as_slice() == other_took.as_slice(),
+        (Event::Move { atom }, Event::Move { atom: other_atom }) => *atom == *other_atom,
+        (Event::Halt { atom }, Event::Halt { atom: other_atom }) => *atom == *other_atom,
+        (Event::Detect { atom }, Event::Detect { atom: other_atom }) => *atom == *other_atom,
+        _ => false,
+    }
+}
+
+/// Whether both are the same event at the same site, or none.
+fn is_same_found(one: &Option<Found>, other: &Option<Found>) -> bool {
+    match (one, other) {
+        (Some(found), Some(against)) => {
+            found.site == against.site && is_same_event(&found.event, &against.event)
+        }
+        (None, None) => true,
+        _ => false,
+    }
+}
+
+/// The event that comes first in a book, and its site.
+fn first_of_book(alloc: Global, book: &Book, from: u32) -> Result<Option<Found>, Memory> {
+    if from as usize >= book.program().sites.len() {
+        return Ok(None);
+    }
+    book.first_enabled(alloc, from)
+}
+
+/// Whether a book makes an event, and this then stands last in its journal.
+fn is_made(alloc: Global, book: &mut Book, event: &Event) -> Result<bool, Memory> {
+    let place = book.journal().len();
+    if place >= MOST_EVENTS {
+        return Ok(false);
+    }
+    let made = book.commit(alloc, event)?;
+    Ok(made == Commit::Place(place as u64))
+}
+
+fn are_same_outs(one: &[Out], other: &[Out]) -> bool {
+    if one.len() != other.len() {
+        return false;
+    }
+    for at in 0..one.len() {
+        if one[at].on != other[at].on || one[at].args.as_slice() != other[at].args.as_slice() {
+            return false;
+        }
+    }
+    true
+}
+
+/// The site whose turn comes after this one.
+fn after(sites: usize, site: u32) -> u32 {
+    let next = site.saturating_add(1);
+    if next as usize >= sites { 0 } else { next }
+}
+
+impl Both {
+    /// The event that comes first by the plain search, and whether the book finds the same one and
+    /// is quiet exactly where there is none.
+    fn found(&self, alloc: Global) -> Result<(bool, Option<Found>), Memory> {
+        let by_book = first_of_book(alloc, &self.book, self.from)?;
+        let by_lists = first_by_lists(alloc, &self.plain, self.from)?;
+        let is_same = is_same_found(&by_book, &by_lists);
+        Ok((is_same && self.book.quiet() == by_lists.is_none(), by_lists))
+    }
+
+    /// Whether both say of an event that it is possible.
+    fn allow(&self, event: &Event) -> bool {
+        self.book.enabled(event) && is_enabled(&self.plain, event)
+    }
+
+    /// Whether both make an event, and go on from the site after this one.
+    fn make(&mut self, alloc: Global, found: &Found) -> Result<bool, Memory> {
+        self.from = after(self.plain.counts.len(), found.site);
+        match apply(alloc, &self.plain, &found.event)? {
+            Some(reached) => {
+                self.plain = reached;
+                is_made(alloc, &mut self.book, &found.event)
+            }
+            None => Ok(false),
+        }
+    }
+
+    /// One event more, unless both are quiet. It answers how the run ends, if it does.
+    fn step(&mut self, alloc: Global) -> Result<Option<End>, Memory> {
+        match self.found(alloc)? {
+            (true, Some(found)) => {
+                if self.allow(&found.event) && self.make(alloc, &found)? {
+                    Ok(None)
+                } else {
+                    Ok(Some(End::Differ))
+                }
+            }
+            (true, None) => Ok(Some(End::Quiet)),
+            (false, _) => Ok(Some(End::Differ)),
+        }
+    }
+
+    /// So many events at most, one after another.
+    pub fn run(&mut self, alloc: Global, budget: u32) -> Result<End, Memory> {
+        for _ in 0..budget {
+            if let Some(end) = self.step(alloc)? {
+                return Ok(end);
+            }
+        }
+        Ok(End::Spent)
+    }
+
+    /// Whether both have the same observables, and gave the same names to the same binders.
+    pub fn agree(&self) -> bool {
+        let names: &[Named] = self.book.names().as_slice();
+        names == self.plain.named.as_slice()
+            && are_same_outs(self.book.trace().as_slice(), self.plain.trace.as_slice())
+    }
+}
