@@ -31,7 +31,7 @@ impl Sites {
         Sites { list }
     }
 
-    pub(crate) fn into_vec(self) -> Vec<Site>
+    pub fn into_vec(self) -> Vec<Site>
         ensures { result.items ≡ self }
     {
         let Sites { list } = self;
@@ -69,7 +69,7 @@ impl Mails {
         Mails { list }
     }
 
-    pub(crate) fn into_vec(self) -> Vec<Texts>
+    pub fn into_vec(self) -> Vec<Texts>
         ensures { result.items ≡ self }
     {
         let Mails { list } = self;
