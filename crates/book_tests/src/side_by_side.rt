@@ -9,18 +9,10 @@ use worked_texts::{examples, runs};
 /// So many events of a worked text are made at most.
 const EVENTS: u32 = 100;
 
-/// Ten agents at a time are born, go to the other site and ask there for the next one, beside 120
-/// messages that wait for another. Each agent has three events.
-const AGENTS: &[(u32, &str)] = &[
-    (
-        1,
-        "observe out/1; site s [ next() => def m[ k() => out(m) | next() : go(t, k) ] in 0 and \
-        idle() | never() => 0 : ",
-    ),
-    (120, "idle() | "),
-    (9, "next() | "),
-    (1, "next() ] site t [ none : 0 ]"),
-];
+/// Two agents are born. One goes to the other site and asks there for the next two, the other one
+/// stays.
+const AGENTS: &str = "observe out/1; site s [ next() => def m[ k() => next() : go(t, k) ] and \
+    n[ h() => 0 : h() ] in out(n) and idle() | never() => 0 : ";
 
 /// The pieces, each so many times.
 fn text_of(alloc: Global, pieces: &[(u32, &str)]) -> Result<Vec<u8>, AllocError> {
@@ -31,6 +23,17 @@ fn text_of(alloc: Global, pieces: &[(u32, &str)]) -> Result<Vec<u8>, AllocError>
         }
     }
     Ok(text)
+}
+
+/// Ten agents that go at a time, beside so many messages that wait for another.
+fn agents(alloc: Global, idle: u32) -> Result<Vec<u8>, AllocError> {
+    let pieces = [
+        (1, AGENTS),
+        (idle, "idle() | "),
+        (9, "next() | "),
+        (1, "next() ] site t [ none : 0 ]"),
+    ];
+    text_of(alloc, &pieces)
 }
 
 /// How the run of a text ends, how many events there are then, whether both agree, and how many
@@ -75,11 +78,21 @@ fn examples_in_both(rt: HostRuntime) -> Result<(), Fail> {
     Ok(())
 }
 
-/// The two sites, and 2,000 agents and more.
+/// The two sites and 2,010 agents: twenty are born in ten of the first twenty events, and two in
+/// each of 995 rounds of four events (a move, what it asks for, the birth, and what stays).
 #[test]
 fn two_thousand_agents_in_both(rt: HostRuntime) -> Result<(), Fail> {
-    let source = text_of(rt.alloc(), AGENTS)?;
-    let made = outcome(rt.alloc(), source.as_slice(), 6_000);
-    assert_eq!(rt; made, Ok((End::Spent, 6_000, true, 2_010)));
+    let source = agents(rt.alloc(), 0)?;
+    let made = outcome(rt.alloc(), source.as_slice(), 4_000);
+    assert_eq!(rt; made, Ok((End::Spent, 4_000, true, 2_012)));
+    Ok(())
+}
+
+/// The two sites and 310 agents, beside more messages than the book's lesser table is for.
+#[test]
+fn agents_beside_messages_in_both(rt: HostRuntime) -> Result<(), Fail> {
+    let source = agents(rt.alloc(), 120)?;
+    let made = outcome(rt.alloc(), source.as_slice(), 600);
+    assert_eq!(rt; made, Ok((End::Spent, 600, true, 312)));
     Ok(())
 }
