@@ -16,3 +16,7 @@ pub mod Acting
 pub mod Asking
 pub mod Results
 pub mod Births
+pub mod Posting
+pub mod Starting
+pub mod Owners
+pub mod Sharing

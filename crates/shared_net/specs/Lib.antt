@@ -16,3 +16,7 @@ pub mod Offers
 pub mod Making
 pub mod Preparing
 pub mod Beginning
+pub mod Net
+pub mod Turning
+pub mod TurnParts
+pub mod Crosses

@@ -1,0 +1,113 @@
+// What of a network may go to another thread, and what threads may share. Nothing here does
+// anything.
+ghost use denote.Param.Send.{IsSend, IsSync};
+ghost use Rattle.shared_net.specs.Crosses.{BookCrosses, TreeCrosses, SiteCrosses, LockedCrosses};
+ghost use Rattle.shared_net.specs.Crosses.{MailboxCrosses, ProgramIsShared, CodeIsShared};
+ghost use Rattle.shared_net.specs.Crosses.{TreeIsShared, LockedTreeIsShared};
+ghost use Rattle.shared_net.specs.Crosses.{LockedSitesAreShared, LockedMailIsShared};
+ghost use Rattle.shared_net.specs.Crosses.{PartsAreShared};
+
+use crate::locked::Locked;
+use crate::mail::Mailbox;
+use crate::net::{LockedMail, LockedSites, LockedTree, Parts};
+use crate::run::Run;
+use chem_model::Program;
+use env_store::Code;
+use loc_tree::LocTree;
+use site_solution::Site;
+use trace_history::Book;
+
+// Values of this type may go to another thread.
+fn crosses<T: Send>()
+    ensures { IsSend T.row }
+{}
+
+// Threads may share values of this type.
+fn is_shared<T: Sync>()
+    ensures { IsSync T.row }
+{}
+
+fn book_crosses()
+    ensures { BookCrosses }
+{
+    crosses::<Book>();
+}
+
+fn tree_crosses()
+    ensures { TreeCrosses }
+{
+    crosses::<LocTree>();
+}
+
+fn site_crosses()
+    ensures { SiteCrosses }
+{
+    crosses::<Site>();
+}
+
+fn program_is_shared()
+    ensures { ProgramIsShared }
+{
+    is_shared::<Program>();
+}
+
+fn code_is_shared()
+    ensures { CodeIsShared }
+{
+    is_shared::<Code>();
+}
+
+fn tree_is_shared()
+    ensures { TreeIsShared }
+{
+    is_shared::<LocTree>();
+}
+
+fn mailbox_crosses()
+    ensures { MailboxCrosses }
+{
+    crosses::<Mailbox>();
+}
+
+fn locked_tree_is_shared()
+    ensures { LockedTreeIsShared }
+{
+    tree_crosses();
+    tree_is_shared();
+    is_shared::<LockedTree>();
+}
+
+fn locked_sites_are_shared()
+    ensures { LockedSitesAreShared }
+{
+    site_crosses();
+    is_shared::<LockedSites>();
+}
+
+fn locked_mail_is_shared()
+    ensures { LockedMailIsShared }
+{
+    mailbox_crosses();
+    is_shared::<LockedMail>();
+}
+
+// All of a network but its book may be shared.
+pub(crate) fn parts_are_shared()
+    ensures { PartsAreShared }
+{
+    program_is_shared();
+    code_is_shared();
+    locked_tree_is_shared();
+    locked_sites_are_shared();
+    locked_mail_is_shared();
+    is_shared::<Parts>();
+}
+
+// The locked book may go to another thread.
+pub(crate) fn locked_crosses<L: Run + Send + Sync>()
+    ensures { LockedCrosses L.row (record { program = L.program })
+        (record { name = L.name; parts = L.parts }) }
+{
+    book_crosses();
+    crosses::<Locked<L>>();
+}

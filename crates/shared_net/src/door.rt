@@ -1,0 +1,114 @@
+// What the workers of a run ask of the book behind its lock.
+ghost use Rattle.std.specs.Prelude.{◌≡◌, ◌≢◌, IfOk, OnErr};
+ghost use Rattle.chem_model.specs.Each.{Each};
+ghost use Rattle.shared_net.specs.declared.choosing.Chosen.TheVariants as choice;
+ghost use Rattle.shared_net.specs.Mail.{IsMessageFlight};
+ghost use Rattle.shared_net.specs.Choosing.{Chooses, OpensNone, IsToGo};
+ghost use Rattle.shared_net.specs.Offers.{Turned, MayGain};
+
+use crate::choosing::Chosen;
+use crate::inside::{make_across, make_here, make_wide};
+use crate::locked::Locked;
+use crate::making::Made;
+use crate::pass::Pass;
+use crate::run::Run;
+use chem_model::{AtomId, Memory, Program};
+use env_store::Code;
+use loc_tree::LocTree;
+use reducer::Pick;
+use site_solution::Site;
+use std::alloc::Global;
+
+/// What stands behind the book's lock, as far as a turn knows it: the calls that make an event, by
+/// what they do to the pass and what they send. Only the locked book is one. A turn is written over
+/// any, so that its proof names no type with the run's parameter beside the pass.
+pub(crate) trait Desk<L: Run> {
+    fn here(
+        &mut self,
+        alloc: Global,
+        site: &mut Site,
+        tree: &LocTree,
+        code: &Code,
+        pass: &mut Pass<L>,
+        pick: &Pick,
+    ) -> Result<Made, Memory>
+        requires chosen { Chooses code.now tree.now site.old (choice.Pick pick.now) }
+        requires none_born { OpensNone code.now site.old pick.now }
+        ensures pass { IfOk result (λ made. Turned pass.old made.turn pass.new) }
+        ensures sends { IfOk result (λ made. Each IsMessageFlight made.effects.sends) }
+        ensures gain { OnErr result (MayGain pass.old pass.new) };
+
+    fn wide(
+        &mut self,
+        alloc: Global,
+        site: &mut Site,
+        tree: &mut LocTree,
+        program: &Program,
+        code: &Code,
+        pass: &mut Pass<L>,
+        chosen: &Chosen,
+    ) -> Result<Made, Memory>
+        requires chosen { Chooses code.now tree.old site.old chosen.now }
+        requires some { chosen.now ≢ choice.Nothing }
+        ensures pass { IfOk result (λ made. Turned pass.old made.turn pass.new) }
+        ensures sends { IfOk result (λ made. Each IsMessageFlight made.effects.sends) }
+        ensures gain { OnErr result (MayGain pass.old pass.new) };
+
+    fn across(
+        &mut self,
+        alloc: Global,
+        site: &mut Site,
+        into: &mut Site,
+        tree: &mut LocTree,
+        program: &Program,
+        code: &Code,
+        pass: &mut Pass<L>,
+        atom: &AtomId,
+    ) -> Result<Made, Memory>
+        requires chosen { Chooses code.now tree.old site.old (choice.Ask atom.now) }
+        requires goes { IsToGo atom.now site.old }
+        ensures pass { IfOk result (λ made. Turned pass.old made.turn pass.new) }
+        ensures sends { IfOk result (λ made. Each IsMessageFlight made.effects.sends) }
+        ensures gain { OnErr result (MayGain pass.old pass.new) };
+}
+
+impl<L: Run> Desk<L> for Locked<L> {
+    fn here(
+        &mut self,
+        alloc: Global,
+        site: &mut Site,
+        tree: &LocTree,
+        code: &Code,
+        pass: &mut Pass<L>,
+        pick: &Pick,
+    ) -> Result<Made, Memory> {
+        make_here(alloc, site, tree, code, self, pass, pick)
+    }
+
+    fn wide(
+        &mut self,
+        alloc: Global,
+        site: &mut Site,
+        tree: &mut LocTree,
+        program: &Program,
+        code: &Code,
+        pass: &mut Pass<L>,
+        chosen: &Chosen,
+    ) -> Result<Made, Memory> {
+        make_wide(alloc, site, tree, program, code, self, pass, chosen)
+    }
+
+    fn across(
+        &mut self,
+        alloc: Global,
+        site: &mut Site,
+        into: &mut Site,
+        tree: &mut LocTree,
+        program: &Program,
+        code: &Code,
+        pass: &mut Pass<L>,
+        atom: &AtomId,
+    ) -> Result<Made, Memory> {
+        make_across(alloc, site, into, tree, program, code, self, pass, atom)
+    }
+}

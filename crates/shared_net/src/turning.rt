@@ -1,0 +1,362 @@
+// A turn at one site.
+ghost use Rattle.std.specs.Prelude.{◌≡◌, ◌≢◌, ◌<◌, IfOk, OnErr};
+ghost use Rattle.chem_model.specs.Each.{Each};
+ghost use Rattle.shared_net.specs.declared.choosing.Chosen.TheVariants as choice;
+ghost use Rattle.shared_net.specs.Choosing.{Chooses, OpensNone, IsToGo};
+ghost use Rattle.shared_net.specs.Mail.{IsMessageFlight};
+ghost use Rattle.shared_net.specs.Offers.{Turned, MayGain};
+ghost use Rattle.shared_net.specs.Passes.{PassKept};
+ghost use Rattle.shared_net.specs.Turning.{Turns};
+ghost use Rattle.shared_net.specs.TurnParts.{Steps, StepsFirst};
+
+use crate::choosing::{Chosen, leads_to, opens_none};
+use crate::door::Desk;
+use crate::gate::{Gate, Phase};
+use crate::inside::{arrive, choose};
+use crate::making::Made;
+use crate::net::{Parts, SharedNet};
+use crate::pass::Pass;
+use crate::run::Run;
+use crate::turn::Turn;
+use chem_model::{AtomId, Memory};
+use env_store::Code;
+use loc_tree::LocTree;
+use reducer::Pick;
+use site_solution::Site;
+use std::alloc::Global;
+use std::sync::{Mutex, Wait};
+use wire_packet::Flights;
+
+// What the part of a turn under the tree's read lock came to.
+enum Step {
+    Ended(Turn),
+    // The write lock is needed. Whether messages went into mailboxes.
+    Wide(bool),
+}
+
+// What a turn answers that made an event or not, where messages of its first step went into
+// mailboxes or not.
+fn passed_or(turn: Turn, passed: bool) -> Turn
+    ensures { (old new : PassKept) → Turned old turn new → Steps old result new }
+{
+    match turn {
+        Turn::Nothing if passed => Turn::Passed,
+        turn => turn,
+    }
+}
+
+impl Parts {
+    // ---- mail
+
+    // Puts each flight into the mailbox of its target, and drops those whose target is no site.
+    // Whether one went into a mailbox.
+    fn post<R: Wait>(&self, rt: &R, alloc: Global, flights: &Flights) -> Result<bool, Memory>
+        requires { Each IsMessageFlight flights.now }
+    {
+        let mut posted = false;
+        for flight in flights.as_slice() {
+            let target = flight.target as usize;
+            if target < self.mail.list.len() {
+                let text = flight.bytes.copy(alloc)?;
+                self.mail.list[target].lock(rt).put(text)?;
+                posted = true;
+            }
+        }
+        Ok(posted)
+    }
+
+    // Empties the mailbox of a site whose lock is held, and works the mail off. Whether a message
+    // went on into a mailbox.
+    fn receive<R: Wait>(
+        &self,
+        rt: &R,
+        alloc: Global,
+        site: &mut Site,
+        tree: &LocTree,
+        at: usize,
+    ) -> Result<bool, Memory>
+        requires { at < self.now.sites }
+    {
+        let mail = self.mail.list[at].lock(rt).empty(alloc);
+        let flights = arrive(alloc, site, tree, &mail)?;
+        self.post(rt, alloc, &flights)
+    }
+
+    // Posts what an event sent, and answers its turn.
+    fn send<R: Wait>(&self, rt: &R, alloc: Global, made: &Made) -> Result<Turn, Memory>
+        requires { Each IsMessageFlight made.now.effects.sends }
+        ensures { IfOk result (λ turn. turn ≡ made.now.turn) }
+    {
+        self.post(rt, alloc, &made.effects.sends)?;
+        Ok(made.turn)
+    }
+
+    // ---- under the tree's read lock
+
+    // Makes the reaction of a pick that opens no location.
+    fn react<L: Run, K: Desk<L>, R: Wait>(
+        &self,
+        rt: &R,
+        alloc: Global,
+        door: &Mutex<K>,
+        pass: &mut Pass<L>,
+        site: &mut Site,
+        tree: &LocTree,
+        code: &Code,
+        pick: &Pick,
+    ) -> Result<Turn, Memory>
+        requires chosen { Chooses code.now tree.now site.old (choice.Pick pick.now) }
+        requires none_born { OpensNone code.now site.old pick.now }
+        ensures turn { IfOk result (λ turn. Turned pass.old turn pass.new) }
+        ensures gain { OnErr result (MayGain pass.old pass.new) }
+    {
+        let mut desk = door.lock(rt);
+        let made = desk.here(alloc, site, tree, code, pass, pick)?;
+        drop(desk);
+        self.send(rt, alloc, &made)
+    }
+
+    // What the site does next, where that leaves the tree as it is.
+    fn act_here<L: Run, K: Desk<L>, G: Gate, R: Wait>(
+        &self,
+        rt: &R,
+        alloc: Global,
+        door: &Mutex<K>,
+        pass: &mut Pass<L>,
+        site: &mut Site,
+        tree: &LocTree,
+        gate: &G,
+        count: u64,
+        passed: bool,
+    ) -> Result<Step, Memory>
+        ensures step { IfOk result (λ step. StepsFirst pass.old step pass.new) }
+        ensures gain { OnErr result (MayGain pass.old pass.new) }
+    {
+        let code = &self.code;
+        let Chosen::Pick(pick) = choose(site, &self.program, code, tree) else {
+            return Ok(Step::Wide(passed));
+        };
+        if !opens_none(site, code, tree, &pick) {
+            return Ok(Step::Wide(passed));
+        }
+        gate.pass(pass.number(), count, Phase::Held);
+        let turn = self.react(rt, alloc, door, pass, site, tree, code, &pick)?;
+        Ok(Step::Ended(passed_or(turn, passed)))
+    }
+
+    // The part of a turn under the tree's read lock and the site's.
+    fn turn_here<L: Run, K: Desk<L>, G: Gate, R: Wait>(
+        &self,
+        rt: &R,
+        alloc: Global,
+        door: &Mutex<K>,
+        pass: &mut Pass<L>,
+        at: usize,
+        gate: &G,
+        count: u64,
+    ) -> Result<Step, Memory>
+        requires { at < self.now.sites }
+        ensures step { IfOk result (λ step. StepsFirst pass.old step pass.new) }
+        ensures gain { OnErr result (MayGain pass.old pass.new) }
+    {
+        let tree = self.tree.lock.read(rt);
+        let mut site = self.sites.list[at].lock(rt);
+        let passed = self.receive(rt, alloc, &mut *site, &*tree, at)?;
+        self.act_here(
+            rt, alloc, door, pass, &mut *site, &*tree, gate, count, passed,
+        )
+    }
+
+    // ---- under its write lock
+
+    // Makes the event of a choice that stays at the site.
+    fn make_wide<L: Run, K: Desk<L>, R: Wait>(
+        &self,
+        rt: &R,
+        alloc: Global,
+        door: &Mutex<K>,
+        pass: &mut Pass<L>,
+        site: &mut Site,
+        tree: &mut LocTree,
+        code: &Code,
+        chosen: &Chosen,
+    ) -> Result<Turn, Memory>
+        requires chosen { Chooses code.now tree.old site.old chosen.now }
+        requires some { chosen.now ≢ choice.Nothing }
+        ensures turn { IfOk result (λ turn. Turned pass.old turn pass.new) }
+        ensures gain { OnErr result (MayGain pass.old pass.new) }
+    {
+        let mut desk = door.lock(rt);
+        let made = desk.wide(alloc, site, tree, &self.program, code, pass, chosen)?;
+        drop(desk);
+        self.send(rt, alloc, &made)
+    }
+
+    // Makes the move to a location of another site.
+    fn make_across<L: Run, K: Desk<L>, R: Wait>(
+        &self,
+        rt: &R,
+        alloc: Global,
+        door: &Mutex<K>,
+        pass: &mut Pass<L>,
+        site: &mut Site,
+        into: &mut Site,
+        tree: &mut LocTree,
+        code: &Code,
+        atom: &AtomId,
+    ) -> Result<Turn, Memory>
+        requires chosen { Chooses code.now tree.old site.old (choice.Ask atom.now) }
+        requires goes { IsToGo atom.now site.old }
+        ensures turn { IfOk result (λ turn. Turned pass.old turn pass.new) }
+        ensures gain { OnErr result (MayGain pass.old pass.new) }
+    {
+        let mut desk = door.lock(rt);
+        let made = desk.across(alloc, site, into, tree, &self.program, code, pass, atom)?;
+        drop(desk);
+        self.send(rt, alloc, &made)
+    }
+
+    // Meets a request of the site: a move to another site takes that site's lock too.
+    fn meet<L: Run, K: Desk<L>, R: Wait>(
+        &self,
+        rt: &R,
+        alloc: Global,
+        door: &Mutex<K>,
+        pass: &mut Pass<L>,
+        site: &mut Site,
+        tree: &mut LocTree,
+        at: usize,
+        code: &Code,
+        atom: &AtomId,
+    ) -> Result<Turn, Memory>
+        requires chosen { Chooses code.now tree.old site.old (choice.Ask atom.now) }
+        ensures turn { IfOk result (λ turn. Turned pass.old turn pass.new) }
+        ensures gain { OnErr result (MayGain pass.old pass.new) }
+    {
+        if let Some(number) = leads_to(site, tree, atom) {
+            let target = number as usize;
+            if target != at && target < self.sites.list.len() {
+                let mut into = self.sites.list[target].lock(rt);
+                return self.make_across(rt, alloc, door, pass, site, &mut *into, tree, code, atom);
+            }
+        }
+        self.make_wide(rt, alloc, door, pass, site, tree, code, &Chosen::Ask(*atom))
+    }
+
+    // What the site does next.
+    fn act_wide<L: Run, K: Desk<L>, G: Gate, R: Wait>(
+        &self,
+        rt: &R,
+        alloc: Global,
+        door: &Mutex<K>,
+        pass: &mut Pass<L>,
+        site: &mut Site,
+        tree: &mut LocTree,
+        at: usize,
+        gate: &G,
+        count: u64,
+    ) -> Result<Turn, Memory>
+        ensures turn { IfOk result (λ turn. Turned pass.old turn pass.new) }
+        ensures gain { OnErr result (MayGain pass.old pass.new) }
+    {
+        let code = &self.code;
+        let chosen = choose(site, &self.program, code, tree);
+        match &chosen {
+            Chosen::Nothing => Ok(Turn::Nothing),
+            Chosen::Ask(atom) => {
+                gate.pass(pass.number(), count, Phase::Held);
+                self.meet(rt, alloc, door, pass, site, tree, at, code, atom)
+            }
+            Chosen::Pick(_) => {
+                gate.pass(pass.number(), count, Phase::Held);
+                self.make_wide(rt, alloc, door, pass, site, tree, code, &chosen)
+            }
+        }
+    }
+
+    // The part of a turn under the tree's write lock and the site's. Messages went into mailboxes
+    // before, or not.
+    fn turn_wide<L: Run, K: Desk<L>, G: Gate, R: Wait>(
+        &self,
+        rt: &R,
+        alloc: Global,
+        door: &Mutex<K>,
+        pass: &mut Pass<L>,
+        at: usize,
+        gate: &G,
+        count: u64,
+        passed: bool,
+    ) -> Result<Turn, Memory>
+        requires { at < self.now.sites }
+        ensures step { IfOk result (λ turn. Steps pass.old turn pass.new) }
+        ensures gain { OnErr result (MayGain pass.old pass.new) }
+    {
+        let mut tree = self.tree.lock.write(rt);
+        let mut site = self.sites.list[at].lock(rt);
+        let again = self.receive(rt, alloc, &mut *site, &*tree, at)?;
+        let turn = self.act_wide(
+            rt, alloc, door, pass, &mut *site, &mut *tree, at, gate, count,
+        )?;
+        Ok(passed_or(turn, passed || again))
+    }
+
+    // ---- both
+
+    // A turn at a site. It may wait.
+    pub(crate) fn turn<L: Run, K: Desk<L>, G: Gate, R: Wait>(
+        &self,
+        rt: &R,
+        alloc: Global,
+        door: &Mutex<K>,
+        pass: &mut Pass<L>,
+        site: u32,
+        gate: &G,
+    ) -> Result<Turn, Memory>
+        requires { site < self.now.sites }
+        ensures turn { IfOk result (λ turn. Turns pass.old turn pass.new) }
+        ensures gain { OnErr result (MayGain pass.old pass.new) }
+    {
+        let at = site as usize;
+        let count = pass.begin();
+        let turn = match self.turn_here(rt, alloc, door, pass, at, gate, count)? {
+            Step::Ended(turn) => turn,
+            Step::Wide(passed) => {
+                self.turn_wide(rt, alloc, door, pass, at, gate, count, passed)?
+            }
+        };
+        pass.note(turn);
+        if let Turn::Did(_) = turn {
+            gate.pass(pass.number(), count, Phase::Done);
+        }
+        Ok(turn)
+    }
+}
+
+impl<L: Run> SharedNet<L> {
+    /// A turn of the worker of this pass at a site: works off the site's mail, and makes at most
+    /// one event. It may wait.
+    ///
+    /// Under the tree's read lock the site makes a reaction that opens no location, where one is
+    /// ready. All else it does under the tree's write lock, after its mail was worked off once
+    /// more; a move to another site takes that site's lock too. What is sent goes into the
+    /// mailboxes of its targets. The gate is passed inside the site's lock before the book's is
+    /// taken, and after a turn that made an event.
+    ///
+    /// `Passed` is answered where no event was made and a message that came went on into a mailbox.
+    /// On want of memory the pass is as before, or has one receipt more, of the event that was
+    /// made, and its worker makes no further turn.
+    pub fn turn<G: Gate, R: Wait>(
+        &self,
+        rt: &R,
+        alloc: Global,
+        pass: &mut Pass<L>,
+        site: u32,
+        gate: &G,
+    ) -> Result<Turn, Memory>
+        requires { site < self.now.sites }
+        ensures turn { IfOk result (λ turn. Turns pass.old turn pass.new) }
+        ensures gain { OnErr result (MayGain pass.old pass.new) }
+    {
+        self.parts.turn(rt, alloc, &self.locked, pass, site, gate)
+    }
+}
