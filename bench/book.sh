@@ -12,11 +12,7 @@ limit=${1:-60}
 work=$(mktemp -d)
 trap 'rm -rf "$work"' EXIT
 
-# builds the program where it is missing or old; another one may be named
-if [ -z "${JOIN_PROGRAM:-}" ]; then
-    "$root/join" alone --budget 0 <"$root/examples/first.join" >/dev/null || true
-    JOIN_PROGRAM=$root/crates/join_main/out/join_main
-fi
+. "$root/bench/program.sh"
 
 # ran STATUS: whether a run ended as one that its budget ends, with status 5, or as one that took too long, with 124
 ran() {
@@ -166,7 +162,7 @@ for count in 200 2000 20000 60000; do
     events "an endless reaction, $count messages waiting" 20 40 1000 < <(waiting "$count") || break
 done
 for count in 200 2000 20000 60000; do
-    events "an endless reaction, $count messages in its queue" 20 40 1000 < <(queued "$count") || break
+    events "an endless reaction, $count messages in its queue" 64 192 1000 < <(queued "$count") || break
 done
 # an agent is born, reacts, moves, reacts, halts, its death is seen, and that reacts: 7 events
 for count in 100 500 1000 5000 10000; do

@@ -1,12 +1,14 @@
 #!/usr/bin/env bash
-# Refuses memory to the program. Of each of a few texts it refuses first the first allocation of the run, then the
-# second, and so on until a run asks for no more; and once more so that all later allocations of the run are refused
-# too. Each run must end as it does with memory, or with status 6, `out of memory` on err and nothing on out. It prints
+# Refuses memory to the program. Of each of a few texts, by each command, it refuses first the first allocation of the
+# run, then the second, and so on until a run asks for no more; and once more so that all later allocations of the run
+# are refused too. Each run must end within ten seconds, as it does with memory, or with status 6, `out of memory` on err
+# and nothing on out. Where threads share a run, which allocation is the tenth, say, is another one at times. It prints
 # how many runs ended which way, and each that ended otherwise, which is a fault: then the status is 1.
 set -eu
 . "$(dirname "$0")/refusing.sh"
 
 printf '%s' 'observe out/1; site s [ x(u) => out(u) : x(s) ]' >"$work/least.join"
+printf '%s\n' 'out(s)' quiescent >"$work/least.out"
 cat >"$work/move.join" <<'TEXT'
 observe out/1;
 site a [
@@ -15,6 +17,7 @@ site a [
 ]
 site b [ none : 0 ]
 TEXT
+printf '%s\n' 'out(m)' 'out(a)' quiescent >"$work/move.out"
 cat >"$work/agent.join" <<'TEXT'
 observe log/2;
 # an agent asks a shop for a price and comes home
@@ -35,48 +38,57 @@ site shop [
   : 0
 ]
 TEXT
+printf '%s\n' 'log(shop, cheap)' 'log(home, agent)' quiescent >"$work/agent.out"
 echo 'out of memory' >"$work/line"
 
-# builds the program where it is missing or old
-"$root/join" alone --budget 0 <"$root/examples/first.join" >/dev/null || true
-program=$root/crates/join_main/out/join_main
+# the commands, and the texts of which a command may print the lines in another order
+commands=('alone' 'rounds --workers 2' 'run --workers 2')
+declare -A other_order=(['run --workers 2 move']=1)
 
-# runs the program on a text with the allocations refused from the one number to the other; answers its status
+. "$root/bench/program.sh"
+
+# runs a text by a command with the allocations refused from the one number to the other; answers its status
 run() {
     local status=0
-    refusing "$2" "$3" "$program" alone --budget 10 <"$work/$1.join" >"$work/out" 2>"$work/err" || status=$?
+    # shellcheck disable=SC2086
+    refusing "$3" "$4" "$JOIN_PROGRAM" $2 --budget 10 <"$work/$1.join" >"$work/out" 2>"$work/err" || status=$?
     return "$status"
 }
 
+# whether a text's run by a command ended as it does with memory
+is_usual() {
+    [ ! -s "$work/err" ] || return 1
+    cmp -s "$work/out" "$work/$1.out" && return
+    [ -n "${other_order["$2 $1"]:-}" ] && cmp -s <(sort "$work/out") <(sort "$work/$1.out")
+}
+
 others=0
-# the runs of a text, each with one allocation refused, or with that and all later ones
+# the runs of a text by a command, each with one allocation refused, or with that and all later ones
 sweep() {
-    local name=$1 how=$2 number=0 short=0 usual=0 usual_status=0 status last
-    run "$name" 1 0 || usual_status=$?
-    cp "$work/out" "$work/usual_out"
-    cp "$work/err" "$work/usual_err"
+    local name=$1 command=$2 how=$3 number=0 short=0 usual=0 status last
     while :; do
         last=$((number + 1))
         [ "$how" = one ] || last=1000000000
         status=0
-        run "$name" $((number + 1)) "$last" || status=$?
+        run "$name" "$command" $((number + 1)) "$last" || status=$?
         [ "$(cat "$work/refused")" != 0 ] || break
         number=$((number + 1))
         if [ "$status" = 6 ] && [ ! -s "$work/out" ] && cmp -s "$work/err" "$work/line"; then
             short=$((short + 1))
-        elif [ "$status" = "$usual_status" ] && cmp -s "$work/out" "$work/usual_out" &&
-            cmp -s "$work/err" "$work/usual_err"; then
+        elif [ "$status" = 0 ] && is_usual "$name" "$command"; then
             usual=$((usual + 1))
         else
             others=$((others + 1))
-            echo "$name, $how: with allocation $number refused it ended with status $status: $(head -c 200 "$work/err")"
+            echo "$name, $command, $how: with allocation $number refused it ended with status $status: $(head -c 200 "$work/err")"
         fi
     done
-    echo "$name, $how: $number refused, $short ended with status 6, $usual as usual"
+    echo "$name, $command, $how: $number refused, $short ended with status 6, $usual as usual"
 }
 
-for name in least move agent; do
-    sweep "$name" one
-    sweep "$name" 'one and all later'
+for command in "${commands[@]}"; do
+    for name in least move agent; do
+        sweep "$name" "$command" one
+        sweep "$name" "$command" 'one and all later'
+    done
 done
 [ "$others" = 0 ]

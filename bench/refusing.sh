@@ -1,5 +1,5 @@
 # Read by the scripts beside it: makes a folder of its own, which is removed at the end, with a library that refuses a
-# program's allocations.
+# program's allocations, on whichever of its threads.
 
 root=$(cd "$(dirname "${BASH_SOURCE[0]}")/.." && pwd)
 work=$(mktemp -d)
@@ -26,10 +26,10 @@ static int refuses(void) {
         first = atol(getenv("REFUSE_FIRST"));
         last = atol(getenv("REFUSE_LAST"));
     }
-    asked++;
-    if (asked < first || last < asked)
+    long number = __atomic_add_fetch(&asked, 1, __ATOMIC_SEQ_CST);
+    if (number < first || last < number)
         return 0;
-    refused++;
+    __atomic_add_fetch(&refused, 1, __ATOMIC_SEQ_CST);
     errno = ENOMEM;
     return 1;
 }
@@ -58,10 +58,10 @@ C
 cc -O1 -shared -fPIC -o "$work/refusing.so" "$work/refusing.c" -ldl
 
 # refusing FIRST LAST PROGRAM WORD..: runs the program with the allocations refused from the one number to the other, and
-# answers its status. How many were refused stands in the file refused.
+# answers its status, or 124 where it didn't end within ten seconds. How many were refused stands in the file refused.
 refusing() {
     local first=$1 last=$2
     shift 2
     : >"$work/refused"
-    REFUSE_FIRST=$first REFUSE_LAST=$last REFUSED=$work/refused LD_PRELOAD=$work/refusing.so "$@"
+    timeout 10 env REFUSE_FIRST="$first" REFUSE_LAST="$last" REFUSED="$work/refused" LD_PRELOAD="$work/refusing.so" "$@"
 }

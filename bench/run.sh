@@ -1,6 +1,6 @@
 #!/usr/bin/env bash
-# Measures runs. Prints how many events a second pass on each of a few texts, on one thread and in rounds with 1, 2 and 4
-# workers beside each other. Then, of runs on one thread and in processor time: how that falls with the messages that
+# Measures runs. Prints how many events a second pass on each of a few texts, on one thread, and in rounds and on free
+# threads with 1, 2 and 4 workers, beside each other. Then, of runs on one thread and in processor time: how that falls with the messages that
 # wait, with locations and with rules, and how long runs take that make names.
 # A measure and no test.
 set -eu
@@ -35,18 +35,21 @@ passed() {
     echo "$taken"
 }
 
-# beside NAME BUDGET: events a second that passes, on one thread and in rounds with 1, 2 and 4 workers
+# beside NAME BUDGET: events a second that passes, on one thread, and in rounds and on free threads with 1, 2 and 4 workers
 beside() {
-    local text alone one two four
+    local text times command workers
     text=$(cat)
-    alone=$(passed "$2" alone <<<"$text")
-    one=$(passed "$2" rounds --workers 1 <<<"$text")
-    two=$(passed "$2" rounds --workers 2 <<<"$text")
-    four=$(passed "$2" rounds --workers 4 <<<"$text")
-    awk -v name="$1" -v budget="$2" -v times="$alone $one $two $four" 'BEGIN {
+    times=$(passed "$2" alone <<<"$text")
+    for command in rounds run; do
+        for workers in 1 2 4; do
+            times+=" $(passed "$2" "$command" --workers "$workers" <<<"$text")"
+        done
+    done
+    awk -v name="$1" -v budget="$2" -v times="$times" 'BEGIN {
         split(times, t, " ")
         for (i in t) t[i] = budget / (t[i] + 0.0005)
-        printf "%s: alone %d, in rounds with 1 worker %d, 2 workers %d, 4 workers %d events a second\n", name, t[1], t[2], t[3], t[4]
+        printf "%s, events a second: alone %d; in rounds with 1 worker %d, 2 workers %d, 4 workers %d; on free threads with 1 worker %d, 2 workers %d, 4 workers %d\n", \
+            name, t[1], t[2], t[3], t[4], t[5], t[6], t[7]
     }'
 }
 
@@ -106,3 +109,18 @@ printed='observe out/1; site s [ c() => def d() => 0 in out(d) | c() : c() ]'
 for count in 1000 10000 30000; do
     echo "$count reactions that each make a name and print it: $(seconds "$count" <<<"$printed") seconds"
 done
+
+# of an event of an endless reaction by one free worker: all instructions, and those under the book's lock, where the
+# event is committed and the site changed
+if command -v valgrind >/dev/null; then
+    counted=$(mktemp)
+    valgrind --tool=callgrind --callgrind-out-file="$counted" "$program" run --workers 1 --budget 20000 \
+        <<<'site s [ c(x) => c(x) : c(s) ]' >/dev/null 2>&1 || true
+    callgrind_annotate --inclusive=yes --threshold=100 "$counted" | tr -d ',' | awk '
+        /PROGRAM TOTALS/ { all = $1 }
+        /locked::Locked::propose/ || /reducer::reacting::react / { held += $1 }
+        END { printf "an event by a free worker: %d instructions, %d of them under the lock of the book\n", all / 20000, held / 20000 }'
+    rm -f "$counted"
+fi
+
+"$root/bench/book.sh"

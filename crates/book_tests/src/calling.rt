@@ -1,6 +1,6 @@
 // The crates as a library, by the lines of docs/CALLING.md.
 
-use chem_model::Text;
+use chem_model::{Memory, Program, Text};
 use join_base::Front;
 use join_lex::lex;
 use join_parse::parse;
@@ -10,13 +10,17 @@ use std::test::Fail;
 use trace_history::Book;
 use trace_text::{Ending, trace_bytes};
 
-/// What a text's program shows after the event that comes first, where one is possible.
-fn after_one_event(alloc: Global, text: &str) -> Result<Text, Front> {
+/// The program of a text.
+fn program_of(alloc: Global, text: &str) -> Result<Program, Front> {
     let tokens = lex(alloc, text.as_bytes())?;
     let tree = parse(alloc, &tokens)?;
-    let program = check(alloc, &tree)?;
+    check(alloc, &tree)
+}
+
+/// What a program shows after the event that comes first, where one is possible.
+fn after_one_event(alloc: Global, program: &Program) -> Result<Text, Memory> {
     let _ = &program.tops;
-    let mut book = Book::start(alloc, &program)?;
+    let mut book = Book::start(alloc, program)?;
     if let Some(found) = book.first_enabled(alloc, 0)? {
         book.commit(alloc, &found.event)?;
     }
@@ -25,13 +29,14 @@ fn after_one_event(alloc: Global, text: &str) -> Result<Text, Front> {
     } else {
         Ending::Stopped
     };
-    Ok(trace_bytes(alloc, &book, ending)?)
+    trace_bytes(alloc, &book, ending)
 }
 
 #[test]
 fn the_lines_of_the_document(rt: HostRuntime) -> Result<(), Fail> {
     let text = "observe out/1; site s [ x(u) => out(u) : x(s) ]";
-    let shown = after_one_event(rt.alloc(), text).or(Err("the text is refused"))?;
+    let program = program_of(rt.alloc(), text).or(Err("the text is refused"))?;
+    let shown = after_one_event(rt.alloc(), &program)?;
     assert_eq!(rt; shown.as_slice(), b"out(s)\nquiescent\n".as_slice());
     Ok(())
 }

@@ -4,7 +4,7 @@ use crate::both::{End, both_of};
 use join_base::Front;
 use std::alloc::{AllocError, Global};
 use std::test::Fail;
-use worked_texts::{examples, runs};
+use worked_texts::{examples_of_locations, examples_of_messages, runs};
 
 /// So many events of a worked text are made at most.
 const EVENTS: u32 = 100;
@@ -69,11 +69,13 @@ fn worked_texts_in_both(rt: HostRuntime) -> Result<(), Fail> {
 /// Each example ends, after as many events as it has.
 #[test]
 fn examples_in_both(rt: HostRuntime) -> Result<(), Fail> {
-    for case in examples() {
-        let source = case.source(rt.alloc())?;
-        let made = outcome(rt.alloc(), source.as_slice(), EVENTS);
-        assert!(rt; is_fine(&made), "{made:?}");
-        assert_eq!(rt; made.map(|all| all.1), Ok(case.events.unwrap_or(0)));
+    for cases in [examples_of_messages(), examples_of_locations()] {
+        for case in cases {
+            let source = case.source(rt.alloc())?;
+            let made = outcome(rt.alloc(), source.as_slice(), EVENTS);
+            assert!(rt; is_fine(&made), "{made:?}");
+            assert_eq!(rt; made.map(|all| all.1), Ok(case.events.unwrap_or(0)));
+        }
     }
     Ok(())
 }

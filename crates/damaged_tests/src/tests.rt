@@ -2,6 +2,7 @@
 
 use crate::logs::log_wrong_at;
 use crate::packets::packet_wrong_at;
+use crate::rows::{LOGS, PACKETS};
 use chem_model::{Items, Memory, Text};
 use std::alloc::Global;
 use std::process::Abort;
@@ -99,6 +100,21 @@ fn each_byte_of_a_log(rt: HostRuntime) -> Result<(), Fail> {
         }
         text.set(at, *old);
         expect_log(&rt, alloc, &LOG[..at]);
+        assert!(rt; read(alloc, &LOG[..at]) != Ok(None));
     }
     Ok(())
+}
+
+/// The table, judged by the product and by the small reader.
+#[test]
+fn the_first_wrong_field(rt: HostRuntime) {
+    let alloc = rt.alloc();
+    for (bytes, place) in PACKETS {
+        assert_eq!(rt; decoded(alloc, *bytes), Ok(Some(*place)));
+        assert_eq!(rt; packet_wrong_at(alloc, *bytes), Ok(Some(*place)));
+    }
+    for (bytes, place) in LOGS {
+        assert_eq!(rt; read(alloc, *bytes), Ok(Some(*place)));
+        assert_eq!(rt; log_wrong_at(*bytes), Ok(Some(*place)));
+    }
 }

@@ -6,9 +6,12 @@ use crate::outcome::{call, roomy_sink, source_of};
 use crate::refusals::refusals;
 use std::marker::Sync;
 use std::process::Abort;
+use std::sync::Wait;
 use std::test::Fail;
 use std::thread::Threads;
-use worked_texts::{Case, QUIET, examples, runs, runs_in_rounds};
+use worked_texts::{
+    Case, QUIET, examples_of_locations, examples_of_messages, runs, runs_in_rounds,
+};
 
 /// A text that is refused.
 pub const REFUSED: Case = Case {
@@ -26,7 +29,7 @@ pub const USAGE: Case = Case {
 };
 
 /// That a case ends as it says, run with these words.
-pub fn expect<R: AllocGlobal + Abort + Threads + Sync>(
+pub fn expect<R: AllocGlobal + Abort + Threads + Wait + Sync>(
     rt: &R,
     words: &[&str],
     case: &Case,
@@ -44,7 +47,17 @@ pub fn expect<R: AllocGlobal + Abort + Threads + Sync>(
 
 #[test]
 fn worked_cases(rt: HostRuntime) -> Result<(), Fail> {
-    for cases in [runs(), runs_in_rounds(), refusals(), lines(), examples()] {
+    for cases in [runs(), runs_in_rounds(), refusals(), lines()] {
+        for case in cases {
+            expect(&rt, case.words, case)?;
+        }
+    }
+    Ok(())
+}
+
+#[test]
+fn examples_on_one_thread(rt: HostRuntime) -> Result<(), Fail> {
+    for cases in [examples_of_messages(), examples_of_locations()] {
         for case in cases {
             expect(&rt, case.words, case)?;
         }

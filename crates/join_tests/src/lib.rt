@@ -9,6 +9,10 @@ mod cases;
 #[cfg(test)]
 mod faults;
 #[cfg(test)]
+mod free;
+#[cfg(test)]
+mod hostile;
+#[cfg(test)]
 mod lines;
 #[cfg(test)]
 mod outcome;

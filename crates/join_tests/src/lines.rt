@@ -232,16 +232,21 @@ const LINES: &[Case] = &[
         text: &[(1, "site s [ none : 0 ]")],
         ..USAGE
     },
-    // Well formed, but free threads can not be had yet.
+    // Free threads.
     Case {
-        words: &["run", "--workers=2", "--log"],
-        text: &[(1, "site s [ none : 0 ]")],
-        ..USAGE
+        words: &["run", "--workers=2", "--budget", "10", "--log"],
+        text: &[(1, "observe out/1; site s [ x(u) => out(u) : x(s) ]")],
+        out: "joinlog 1\nsource 47\nobserve out/1; site s [ x(u) => out(u) : x(s) ]\nbudget \
+            10\nevents 1\nreact 0.2 0.3\ntrace 17\nout(s)\nquiescent\n",
+        events: Some(1),
+        ..QUIET
     },
     Case {
         words: &["gen", "5", "--by=run"],
-        text: &[(1, "site s [ none : 0 ]")],
-        ..USAGE
+        text: &[(1, "this is not read")],
+        out: "events 50\nobservables 5\nquiescent\n",
+        events: Some(50),
+        ..QUIET
     },
 ];
 

@@ -3,14 +3,36 @@ ghost use denote.Param.Send.{IsSync};
 
 use chem_model::{Event, Items, Memory};
 use join_base::{MemSink, MemSource};
-use join_top::{Ended, OpenGate, Threaded, run_join};
+use join_top::{Ended, FreeTeam, Gate, How, OpenGate, Team, Threaded, run_join};
 use std::alloc::Global;
 use std::marker::Sync;
 use std::process::Abort;
+use std::sync::Wait;
 use std::thread::Threads;
 
 /// More bytes than any line or text of these tests has.
 const ROOM: u32 = 4096;
+
+/// How a run was made, without its report: on free threads with the number of events that the
+/// workers made.
+#[derive(Clone, Copy, Debug, PartialEq, Eq)]
+pub enum Made {
+    Alone,
+    Rounds,
+    Shared(u64),
+    Lone,
+}
+
+impl Made {
+    pub fn of(how: &How) -> Made {
+        match how {
+            How::Alone => Made::Alone,
+            How::Rounds => Made::Rounds,
+            How::Shared { events, .. } => Made::Shared(*events),
+            How::Lone(_) => Made::Lone,
+        }
+    }
+}
 
 /// A source, two sinks, and how a call over them ended.
 #[derive(Drop)]
@@ -32,17 +54,19 @@ pub fn roomy_sink(alloc: Global) -> Result<MemSink, Memory> {
     MemSink::new(alloc, ROOM, ROOM, Items::new(alloc))
 }
 
-/// Runs the words over a source and two sinks.
-pub fn call_into<R: AllocGlobal + Abort + Threads + Sync>(
-    rt: &R,
+/// Runs the words over a source and two sinks, by a team whose free workers pass a gate.
+pub fn call_through<G: Gate, T: Team + FreeTeam<G>>(
+    alloc: Global,
     words: &[&str],
     source: MemSource,
     out: MemSink,
     err: MemSink,
+    gate: &G,
+    team: &T,
 ) -> Result<Outcome, Memory>
-    requires { IsSync R.row }
+    requires ready { T.ready }
+    requires free_ready { T.free_ready }
 {
-    let alloc = rt.alloc();
     let mut owned = Vec::new(alloc);
     for word in words {
         owned.push(String::from_str(alloc, word)?)?;
@@ -56,8 +80,8 @@ pub fn call_into<R: AllocGlobal + Abort + Threads + Sync>(
         &mut source,
         &mut out,
         &mut err,
-        &OpenGate,
-        &Threaded::new(rt),
+        gate,
+        team,
     );
     Ok(Outcome {
         ended,
@@ -67,8 +91,22 @@ pub fn call_into<R: AllocGlobal + Abort + Threads + Sync>(
     })
 }
 
+/// Runs the words over a source and two sinks.
+pub fn call_into<R: AllocGlobal + Abort + Threads + Wait + Sync>(
+    rt: &R,
+    words: &[&str],
+    source: MemSource,
+    out: MemSink,
+    err: MemSink,
+) -> Result<Outcome, Memory>
+    requires { IsSync R.row }
+{
+    let team = Threaded::new(rt);
+    call_through(rt.alloc(), words, source, out, err, &OpenGate, &team)
+}
+
 /// Runs the words over a source and a sink, and a sink of their own for errors.
-pub fn call<R: AllocGlobal + Abort + Threads + Sync>(
+pub fn call<R: AllocGlobal + Abort + Threads + Wait + Sync>(
     rt: &R,
     words: &[&str],
     source: MemSource,
@@ -80,7 +118,7 @@ pub fn call<R: AllocGlobal + Abort + Threads + Sync>(
 }
 
 /// Runs a text with a budget, on one thread.
-pub fn run<R: AllocGlobal + Abort + Threads + Sync>(
+pub fn run<R: AllocGlobal + Abort + Threads + Wait + Sync>(
     rt: &R,
     budget: &str,
     text: &str,
@@ -96,6 +134,11 @@ impl Outcome {
     /// How many events the run kept, where it kept any.
     pub fn events(&self) -> Option<usize> {
         self.ended.kept.as_ref().map(|kept| kept.journal.len())
+    }
+
+    /// How the run was made, where one was kept.
+    pub fn made(&self) -> Option<Made> {
+        self.ended.kept.as_ref().map(|kept| Made::of(&kept.how))
     }
 
     /// The first event of the run.

@@ -8,22 +8,24 @@ use join_base::MemSink;
 use std::alloc::{AllocError, Global};
 use std::marker::Sync;
 use std::process::Abort;
+use std::sync::Wait;
 use std::test::Fail;
 use std::thread::Threads;
-use worked_texts::{Case, examples, runs};
+use worked_texts::{Case, examples_of_locations, examples_of_messages, runs};
 
 /// More bytes than the log of any of these runs has.
 const ROOM: u32 = 65_536;
 
-/// The words of a case, in rounds and with so many workers.
-fn in_rounds(
+/// The words of a case, by another command and with so many workers.
+pub fn words_by(
     alloc: Global,
     case: &Case,
+    command: &'static str,
     workers: &'static str,
 ) -> Result<Vec<&'static str>, AllocError> {
     let mut words = Vec::new(alloc);
     for word in case.words {
-        words.push(if *word == "alone" { "rounds" } else { *word })?;
+        words.push(if *word == "alone" { command } else { *word })?;
     }
     words.push("--workers")?;
     words.push(workers)?;
@@ -35,7 +37,7 @@ fn in_rounds(
 fn worked_texts_in_rounds(rt: HostRuntime) -> Result<(), Fail> {
     for case in runs() {
         for workers in ["1", "4"] {
-            let words = in_rounds(rt.alloc(), case, workers)?;
+            let words = words_by(rt.alloc(), case, "rounds", workers)?;
             expect(&rt, words.as_slice(), case)?;
         }
     }
@@ -43,7 +45,7 @@ fn worked_texts_in_rounds(rt: HostRuntime) -> Result<(), Fail> {
 }
 
 /// The log of a program, in rounds and with so many workers. The program ends quiet.
-fn log_of<R: AllocGlobal + Abort + Threads + Sync>(
+fn log_of<R: AllocGlobal + Abort + Threads + Wait + Sync>(
     rt: &R,
     case: &Case,
     workers: &'static str,
@@ -51,7 +53,7 @@ fn log_of<R: AllocGlobal + Abort + Threads + Sync>(
     requires { IsSync R.row }
 {
     let alloc = rt.alloc();
-    let mut words = in_rounds(alloc, case, workers)?;
+    let mut words = words_by(alloc, case, "rounds", workers)?;
     words.push("--log")?;
     let source = case.source(alloc)?;
     let source = source_of(alloc, source.as_slice())?;
@@ -64,7 +66,10 @@ fn log_of<R: AllocGlobal + Abort + Threads + Sync>(
 }
 
 /// A program has one log, whatever the number of workers.
-fn expect_one_log<R: AllocGlobal + Abort + Threads + Sync>(rt: &R, case: &Case) -> Result<(), Fail>
+fn expect_one_log<R: AllocGlobal + Abort + Threads + Wait + Sync>(
+    rt: &R,
+    case: &Case,
+) -> Result<(), Fail>
     requires { IsSync R.row }
 {
     let first = log_of(rt, case, "1")?;
@@ -77,8 +82,10 @@ fn expect_one_log<R: AllocGlobal + Abort + Threads + Sync>(rt: &R, case: &Case) 
 
 #[test]
 fn examples_in_rounds(rt: HostRuntime) -> Result<(), Fail> {
-    for case in examples() {
-        expect_one_log(&rt, case)?;
+    for cases in [examples_of_messages(), examples_of_locations()] {
+        for case in cases {
+            expect_one_log(&rt, case)?;
+        }
     }
     Ok(())
 }

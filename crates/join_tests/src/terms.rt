@@ -3,13 +3,14 @@ ghost use denote.Param.Send.{IsSync};
 
 use crate::outcome::run;
 use chem_model::{
-    AtomId, Defn, DefnNode, Defs, Event, Items, Loc, Memory, Name, Names, Out, Proc, ProcNode, Ref,
-    RuleId,
+    AtomId, Defn, DefnNode, Defs, Event, Items, Loc, Memory, Name, Names, Out, Proc, ProcNode,
+    Program, Ref, RuleId,
 };
 use chem_plain::replay;
-use std::alloc::Global;
+use std::alloc::{AllocError, Global};
 use std::marker::Sync;
 use std::process::Abort;
+use std::sync::Wait;
 use std::test::Fail;
 use std::thread::Threads;
 
@@ -95,27 +96,37 @@ fn observables_and_their_copy(rt: HostRuntime) -> Result<(), Fail> {
     Ok(())
 }
 
-/// The names that the site defines are the first two binders, and the received name is the third.
-#[test]
-fn the_program_of_a_text(rt: HostRuntime) -> Result<(), Fail> {
-    let alloc = rt.alloc();
-    let run = run(&rt, "10", "observe out/1; site s [ x(u) => out(u) : x(s) ]")?;
-    let kept = run.ended.kept.as_ref().ok_or("nothing is kept")?;
-    let program = kept.program.copy(alloc)?;
-    assert_eq!(rt; program.tops, 2);
+/// The program that a run of a text keeps.
+fn program_of<R: AllocGlobal + Abort + Threads + Wait + Sync>(
+    rt: &R,
+    text: &str,
+) -> Result<Program, Fail>
+    requires { IsSync R.row }
+{
+    let run = run(rt, "10", text)?;
+    let kept = run.ended.kept.ok_or("nothing is kept")?;
+    Ok(kept.program)
+}
+
+/// The spellings of a program's binders, one behind the other.
+fn spellings(alloc: Global, program: &Program) -> Result<Vec<u8>, AllocError> {
     let mut spell = Vec::new(alloc);
     for text in program.spell.as_slice() {
         spell.extend_from_slice(text.as_slice())?;
     }
+    Ok(spell)
+}
+
+/// The names that the site defines are the first two binders, and the received name is the third.
+#[test]
+fn the_program_of_a_text(rt: HostRuntime) -> Result<(), Fail> {
+    let text = "observe out/1; site s [ x(u) => out(u) : x(s) ]";
+    let program = program_of(&rt, text)?.copy(rt.alloc())?;
+    assert_eq!(rt; program.tops, 2);
+    let spell = spellings(rt.alloc(), &program)?;
     assert_eq!(rt; spell.as_slice(), b"sxu".as_slice());
-    assert_eq!(rt;
-        program
-            .seen
-            .as_slice()
-            .first()
-            .map(|declared| declared.count),
-        Some(1)
-    );
+    let declared = program.seen.as_slice().first();
+    assert_eq!(rt; declared.map(|declared| declared.count), Some(1));
     Ok(())
 }
 
@@ -136,7 +147,7 @@ fn the_kept_event(rt: HostRuntime) -> Result<(), Fail> {
 
 /// How many observables, and how many messages and requests, the replay of a kept journal ends
 /// with.
-fn replayed<R: AllocGlobal + Abort + Threads + Sync>(
+fn replayed<R: AllocGlobal + Abort + Threads + Wait + Sync>(
     rt: &R,
     text: &str,
 ) -> Result<Option<(usize, usize)>, Memory>

@@ -5,11 +5,12 @@ use crate::outcome::{call, roomy_sink, source_of};
 use join_base::Source;
 use std::marker::Sync;
 use std::process::Abort;
+use std::sync::Wait;
 use std::test::Fail;
 use std::thread::Threads;
 
 /// That no byte of the source is taken, and that the call ends with this status.
-fn expect_unread<R: AllocGlobal + Abort + Threads + Sync>(
+fn expect_unread<R: AllocGlobal + Abort + Threads + Wait + Sync>(
     rt: &R,
     words: &[&str],
     status: u8,
@@ -30,9 +31,9 @@ fn the_source_is_unread(rt: HostRuntime) -> Result<(), Fail> {
     expect_unread(&rt, &["fly"], 2)?;
     expect_unread(&rt, &["gen"], 2)?;
     expect_unread(&rt, &["alone", "--budget", "1000001"], 2)?;
-    expect_unread(&rt, &["run"], 2)?;
     expect_unread(&rt, &["gen", "2"], 0)?;
-    expect_unread(&rt, &["gen", "2", "--by", "rounds"], 0)
+    expect_unread(&rt, &["gen", "2", "--by", "rounds"], 0)?;
+    expect_unread(&rt, &["gen", "2", "--by", "run"], 0)
 }
 
 /// No ring has a refusal: with no event left each of them is stopped.

@@ -18,14 +18,14 @@ use Rattle.site_runner.specs.declared.outcome.How.{How}
 use Rattle.join_top.specs.Task.{Words, task, ring_asked, text_of}
 use Rattle.join_top.specs.Text.{IsProgramOfText}
 use Rattle.join_top.specs.RunJoin.{OnTold, has_run, EndsAs, IsRunAsked, Keeps, GoesWith, IsMadeBy, IsMadeAsAsked}
-use Rattle.join_top.specs.Ran.{ending_of, IsEnded, IsWholeOfBook, IsMade}
+use Rattle.join_top.specs.Ran.{ending_of, IsEnded, IsWholeOfBook, IsRunBy}
 
 same_solution : (k : Kept) (n m : Numbered) → solution k ≡ Some n → solution k ≡ Some m → n ≡ m
 same_solution k n m e f = cc
 
 -- what a book leaves at the end of a run
 pub ended : (a : Asked) (source : List ℕ) (p : ProgramTerms) (k : Kept) (how : How) (quiet : Bool) (ending : Ending) (text : List ℕ)
-    → IsMade a.by p a.budget (record { book = k; how = how })
+    → IsRunBy a.by a.workers a.budget p (record { book = k; how = how })
     → Replays k → IsRun k.program (erase_all (states k.program k.journal))
     → (IsTrue quiet ↔ IsStuck k) → (IsTrue quiet ↔ IsQuiet k)
     → ending ≡ ending_of quiet
@@ -77,7 +77,7 @@ module _ (words : Words) (told : Option (List ℕ)) (a : Asked) (source : List �
 -- the run that is kept was made by the command that was asked for
 pub made_as_asked : (words : Words) (a : Asked) (it : Ended) (status : ℕ) (kept : Left)
     → it ≡ record { status = status; kept = Some kept } → task words ≡ Some a
-    → IsMadeBy a.by kept.program a.budget kept.journal kept.how → IfSome it.kept (IsMadeAsAsked words)
+    → IsMadeBy a.by a.workers a.budget kept.program kept.journal kept.how → IfSome it.kept (IsMadeAsAsked words)
 made_as_asked words a it status kept e is_asked made =
     let at : IsMadeAsAsked words kept = record { asked = a; is_asked = is_asked; made = made } in
     subst (λ (x : Ended). IfSome x.kept (IsMadeAsAsked words)) (sym e) at

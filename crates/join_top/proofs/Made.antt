@@ -1,5 +1,5 @@
 -- What each command makes of a program's book, and of the network of its code.
-use Rattle.std.proofs.Common.{◌≡◌, ℕ, ◌≤◌, List, [], Result, Ok, Err, Some, IfOk, refl, sym, subst, arith, length}
+use Rattle.std.proofs.Common.{◌≡◌, ℕ, ◌≤◌, List, [], Result, Ok, Err, Some, IfOk, refl, sym, subst, length}
 use Rattle.chem_model.specs.declared.event.Event.{Event}
 use Rattle.chem_model.specs.declared.numbered.Numbered.{Numbered}
 use Rattle.chem_model.specs.declared.memory.Memory.{Memory}
@@ -15,34 +15,30 @@ use Rattle.net_core.specs.Rounds.{RoundsReplay}
 use Rattle.net_core.specs.Whole.{NetParts}
 use Rattle.trace_history.specs.Kept.{Kept}
 use Rattle.site_runner.specs.Run.{RunsOn}
-use Rattle.site_runner.specs.Schedule.{IsSchedule, spent, stuck, first, ScheduleOf}
+use Rattle.site_runner.specs.Schedule.{ScheduleOf}
 use Rattle.site_runner.specs.Rounds.{StandForOne, RunsInRounds, RoundsOf}
+use Rattle.site_runner.specs.Free.{IsFinished, IsFree, first_workers}
 use Rattle.site_runner.specs.declared.outcome.Done.{Done}
 use Rattle.site_runner.specs.declared.outcome.How.TheVariants as how
 use Rattle.join_words.specs.declared.answer.By.TheVariants as by
-use Rattle.join_top.specs.Ran.{IsMade}
+use Rattle.join_top.specs.Ran.{IsRunBy}
 
 -- a program's book without an event
 abbrev pub begun : ProgramTerms → Kept
 begun p = record { program = p; journal = [] }
 
-schedule_within : (budget : ℕ) (n : Numbered) (from : ℕ) (journal : List Event) → IsSchedule budget n from journal → length journal ≤ budget
-schedule_within budget n from journal spent = omega arith
-schedule_within budget n from journal (stuck h) = omega arith
-schedule_within budget n from journal (first h a more) = omega (arith, schedule_within _ _ _ _ more)
-
-module _ (p : ProgramTerms) (budget : ℕ) where
+module _ (p : ProgramTerms) (workers budget : ℕ) where
   -- a run on one thread from there
   alone_begun : (r : Result Done Memory)
       → IfOk r (λ (d : Done). RunsOn (begun p) budget d.book)
       → IfOk r (λ (d : Done). (begun p).journal ≡ [] → ScheduleOf (begun p).program budget d.book.journal)
       → IfOk r (λ (d : Done). d.how ≡ how.Alone)
-      → IfOk r (IsMade by.Alone p budget)
+      → IfOk r (IsRunBy by.Alone workers budget p)
   alone_begun (Err e) runs whole made = tt
   alone_begun (Ok d) runs whole made = record {
     program = runs.program;
     made = (whole refl, made);
-    within = schedule_within budget _ 0 d.book.journal (whole refl);
+    within = runs.within;
     ends = runs.ends;
   }
 
@@ -50,7 +46,7 @@ module _ (p : ProgramTerms) (budget : ℕ) where
       → IfOk r (λ (d : Done). RunsOn book budget d.book)
       → IfOk r (λ (d : Done). book.journal ≡ [] → ScheduleOf book.program budget d.book.journal)
       → IfOk r (λ (d : Done). d.how ≡ how.Alone)
-      → IfOk r (IsMade by.Alone p budget)
+      → IfOk r (IsRunBy by.Alone workers budget p)
   alone_made book r e runs whole made =
       alone_begun r
       (subst (λ (b : Kept). IfOk r (λ (d : Done). RunsOn b budget d.book)) e runs)
@@ -66,7 +62,7 @@ module _ (p : ProgramTerms) (budget : ℕ) where
         → IfOk r (λ (d : Done). RunsInRounds net (begun p) budget d.book)
         → IfOk r (λ (d : Done). (begun p).journal ≡ [] → net.net ≡ opened_net net.code → RoundsOf (begun p).program budget d.book.journal)
         → IfOk r (λ (d : Done). d.how ≡ how.Rounds)
-        → IfOk r (IsMade by.Rounds p budget)
+        → IfOk r (IsRunBy by.Rounds workers budget p)
     rounds_begun law net opened (Err e) runs whole made = tt
     rounds_begun law net opened (Ok d) runs whole made = record {
       program = runs.program;
@@ -79,7 +75,7 @@ module _ (p : ProgramTerms) (budget : ℕ) where
         → IfOk r (λ (d : Done). RunsInRounds net book budget d.book)
         → IfOk r (λ (d : Done). book.journal ≡ [] → net.net ≡ opened_net net.code → RoundsOf book.program budget d.book.journal)
         → IfOk r (λ (d : Done). d.how ≡ how.Rounds)
-        → IfOk r (IsMade by.Rounds p budget)
+        → IfOk r (IsRunBy by.Rounds workers budget p)
     rounds_made law net opened book r e runs whole made =
         rounds_begun law net opened r
         (subst (λ (b : Kept). IfOk r (λ (d : Done). RunsInRounds net b budget d.book)) e runs)
@@ -103,3 +99,16 @@ begun_stand law p fine c is_code of_program net code opened events stands book e
       counted = events;
     } in
     subst (λ (b : Kept). StandForOne b net) (sym e) at
+
+-- a run on free threads
+pub free_made : (p : ProgramTerms) (workers budget : ℕ) (r : Result Done Memory)
+    → IfOk r (λ (d : Done). IsFinished p budget d.book)
+    → IfOk r (λ (d : Done). IsFree (length p.sites) (first_workers workers) p budget d.book.journal d.how)
+    → IfOk r (IsRunBy by.Run workers budget p)
+free_made p workers budget (Err e) finished made = tt
+free_made p workers budget (Ok d) finished made = record {
+  program = finished.program;
+  made = made;
+  within = finished.within;
+  ends = finished.ends;
+}

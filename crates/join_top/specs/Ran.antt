@@ -32,9 +32,9 @@ ReadsPart ring left old new =
 
 -- a run of the program that is made by this command: it has at most so many events, and in the end
 -- no event is possible or it has exactly that many
-pub record IsMade (by : By) (p : ProgramTerms) (budget : ℕ) (done : Done) : Type 0 where
+pub record IsRunBy (by : By) (workers budget : ℕ) (p : ProgramTerms) (done : Done) : Type 0 where
   pub program : done.book.program ≡ p
-  pub made : IsMadeBy by p budget done.book.journal done.how
+  pub made : IsMadeBy by workers budget p done.book.journal done.how
   pub within : length done.book.journal ≤ budget
   pub ends : IsStuck done.book ⊎ (length done.book.journal ≡ budget)
 

@@ -17,6 +17,7 @@ use Rattle.chem_model.specs.Apply.{replay, states}
 use Rattle.chem_model.specs.Laws.{erase_all}
 use Rattle.site_runner.specs.Schedule.{ScheduleOf}
 use Rattle.site_runner.specs.Rounds.{RoundsOf}
+use Rattle.site_runner.specs.Free.{IsFree, first_workers}
 use Rattle.site_runner.specs.declared.outcome.How.{How}
 use Rattle.site_runner.specs.declared.outcome.How.TheVariants as how
 use Rattle.trace_text.specs.declared.text.Ending.{Ending}
@@ -140,18 +141,21 @@ pub record Keeps (words : Words) (told : Option (List ℕ)) (ended : Ended) : Ty
 
 -- ---- how it is made
 
--- each command has a schedule of its own, which the journal is, and says of itself how it was made;
--- no number of workers occurs in either
-abbrev pub IsMadeBy : By → ProgramTerms → (budget : ℕ) → (journal : List Event) → How → Type 0
-IsMadeBy Alone p budget journal made = ScheduleOf p budget journal × (made ≡ how.Alone)
-IsMadeBy Rounds p budget journal made = RoundsOf p budget journal × (made ≡ how.Rounds)
-IsMadeBy Run p budget journal made = ⊥
+-- each command says of itself how it was made; on one thread and in rounds it has a schedule, which
+-- the journal is and in which no number of workers occurs; on free threads the workers have a
+-- receipt for each event that they made
+abbrev pub IsMadeBy : By → (workers budget : ℕ) → ProgramTerms → (journal : List Event) → How
+    → Type 0
+IsMadeBy Alone workers budget p journal made = ScheduleOf p budget journal × (made ≡ how.Alone)
+IsMadeBy Rounds workers budget p journal made = RoundsOf p budget journal × (made ≡ how.Rounds)
+IsMadeBy Run workers budget p journal made =
+    IsFree (length p.sites) (first_workers workers) p budget journal made
 
 -- the run that is kept is made by the command that the words ask for
 pub record IsMadeAsAsked (words : Words) (kept : Kept) : Type 0 where
   pub asked : Asked
   pub is_asked : task words ≡ Some asked
-  pub made : IsMadeBy asked.by kept.program asked.budget kept.journal kept.how
+  pub made : IsMadeBy asked.by asked.workers asked.budget kept.program kept.journal kept.how
 
 -- ---- what is written of it
 

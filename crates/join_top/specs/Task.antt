@@ -1,10 +1,7 @@
--- What the words ask for that can be done, and the text that is run.
-use Rattle.std.specs.Prelude.{ℕ, List, String, string_bytes, map, Bool, true, false, cond}
-use Rattle.std.specs.Prelude.{Option, Some, None, option_and_then}
+-- What the words ask for, and the text that is run.
+use Rattle.std.specs.Prelude.{ℕ, List, String, string_bytes, map, Option, Some, None}
 use Rattle.std.specs.declared.alloc.Global.{Global}
 use Rattle.join_words.specs.declared.answer.Asked.{Asked}
-use Rattle.join_words.specs.declared.answer.By.{By}
-use Rattle.join_words.specs.declared.answer.By.TheVariants.{Alone, Rounds, Run}
 use Rattle.join_words.specs.Asks.{asked}
 use Rattle.ring_source.specs.Ring.{ring_text}
 
@@ -13,18 +10,8 @@ abbrev pub Words : Type 0
 Words = List (String Global)
 
 -- what the words ask for; none where they are not of the line's form
-abbrev pub asked_by : Words → Option Asked
-asked_by words = asked (map string_bytes words)
-
--- a program is run on one thread or in rounds: a run on free threads can't be had yet
-abbrev pub can_be_had : By → Bool
-can_be_had Alone = true
-can_be_had Rounds = true
-can_be_had Run = false
-
--- what the words ask for that can be done: nothing where they ask for free threads
 abbrev pub task : Words → Option Asked
-task words = option_and_then (λ a. cond (can_be_had a.by) (Some a) None) (asked_by words)
+task words = asked (map string_bytes words)
 
 -- the size of the ring that is asked for
 abbrev pub ring_of : Option Asked → Option ℕ
@@ -32,7 +19,7 @@ ring_of None = None
 ring_of (Some a) = a.ring
 
 abbrev pub ring_asked : Words → Option ℕ
-ring_asked words = ring_of (asked_by words)
+ring_asked words = ring_of (task words)
 
 -- the text of the ring of this size, or else what the source tells
 abbrev pub text_of : Option ℕ → Option (List ℕ) → Option (List ℕ)

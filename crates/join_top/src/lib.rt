@@ -1,7 +1,6 @@
 //! Everything that the program does: the words, the text, the run and what is written.
 #![tactic(auto)]
 
-mod gate;
 mod making;
 mod printed;
 mod run;
@@ -9,10 +8,10 @@ mod task;
 mod text;
 mod top;
 
-pub use gate::{Gate, OpenGate, Phase};
 pub use making::begin;
 pub use ring_source::ring_text;
 pub use run::Kept;
-pub use site_runner::{How, Team, Threaded};
+pub use shared_net::{Gate, HoldGate, OpenGate, Phase};
+pub use site_runner::{FreeTeam, How, Team, Threaded};
 pub use text::one_outcome;
 pub use top::{Ended, run_join};

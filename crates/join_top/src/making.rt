@@ -1,46 +1,47 @@
-// The run that is asked for: on one thread, or in rounds.
-ghost use Rattle.std.specs.Prelude.{◌≡◌, ◌≤◌, [], true, IfOk};
+// The run that is asked for: on one thread, in rounds, or on free threads.
+ghost use Rattle.std.specs.Prelude.{◌≡◌, ◌≤◌, [], IfOk};
 ghost use Rattle.net_laws.specs.Opened.{opened_net};
 ghost use Rattle.site_runner.specs.Rounds.{StandForOne};
 ghost use Rattle.join_words.specs.Asks.{IsWithin};
 ghost use Rattle.join_words.specs.declared.answer.By.TheVariants as by;
-ghost use Rattle.join_top.specs.Task.{can_be_had};
-ghost use Rattle.join_top.specs.Ran.{IsMade};
+ghost use Rattle.join_top.specs.Ran.{IsRunBy};
 
 use chem_model::{Memory, Program};
 use guard_compile::compile;
 use join_words::{Asked, By};
 use net_core::{Net, rounds_replay};
 use net_laws::opened_stands;
-use site_runner::{Done, Team, alone};
+use shared_net::Gate;
+use site_runner::{Done, FreeTeam, Team, alone};
 use std::alloc::Global;
 use trace_history::Book;
 
 /// Makes the run of the program that is asked for.
-pub fn make<T: Team>(
+pub fn make<G: Gate, T: Team + FreeTeam<G>>(
     alloc: Global,
     asked: &Asked,
     program: &Program,
+    gate: &G,
     team: &T,
 ) -> Result<Done, Memory>
     requires ready { T.ready }
+    requires free_ready { T.free_ready }
     requires within { IsWithin asked.now }
-    requires can { can_be_had asked.now.by ≡ true }
-    ensures { IfOk result (IsMade asked.now.by program.now asked.now.budget) }
+    ensures { IfOk result (IsRunBy asked.now.by asked.now.workers asked.now.budget program.now) }
 {
     match asked.by {
-        By::Alone => on_one_thread(alloc, program, asked.budget),
+        By::Alone => on_one_thread(alloc, asked, program),
         By::Rounds => in_rounds(alloc, program, asked.workers, asked.budget, team),
-        By::Run => unreachable!(),
+        By::Run => on_free_threads(alloc, program, asked.workers, asked.budget, gate, team),
     }
 }
 
 /// The run on one thread, from the program's book.
-fn on_one_thread(alloc: Global, program: &Program, budget: u32) -> Result<Done, Memory>
-    ensures { IfOk result (IsMade by.Alone program.now budget) }
+fn on_one_thread(alloc: Global, asked: &Asked, program: &Program) -> Result<Done, Memory>
+    ensures { IfOk result (IsRunBy by.Alone asked.now.workers asked.now.budget program.now) }
 {
     let book = Book::start(alloc, program)?;
-    alone(alloc, book, budget)
+    alone(alloc, book, asked.budget)
 }
 
 /// The network of a program's code, and the program's book, before any event. They stand for one
@@ -71,10 +72,28 @@ fn in_rounds<T: Team>(
     requires ready { T.ready }
     requires workers { (1 ≤ workers) × (workers ≤ 16) }
     requires budget { budget ≤ 1000000 }
-    ensures { IfOk result (IsMade by.Rounds program.now budget) }
+    ensures { IfOk result (IsRunBy by.Rounds workers budget program.now) }
 {
     rounds_replay();
     let _tops = &program.tops;
     let (net, book) = begin(alloc, program)?;
     team.rounds(alloc, net, book, workers, budget)
+}
+
+/// The run on free threads, from the beginning.
+fn on_free_threads<G, T: FreeTeam<G>>(
+    alloc: Global,
+    program: &Program,
+    workers: u32,
+    budget: u32,
+    gate: &G,
+    team: &T,
+) -> Result<Done, Memory>
+    requires ready { T.free_ready }
+    requires workers { (1 ≤ workers) × (workers ≤ 16) }
+    requires budget { budget ≤ 1000000 }
+    ensures { IfOk result (IsRunBy by.Run workers budget program.now) }
+{
+    let code = compile(alloc, program)?;
+    team.free(alloc, program, &code, workers, budget, gate)
 }

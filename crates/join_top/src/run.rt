@@ -1,7 +1,6 @@
 //! A run, from its program to its text.
-ghost use Rattle.std.specs.Prelude.{◌≡◌, ◌≤◌, length, true, IfOk};
+ghost use Rattle.std.specs.Prelude.{◌≡◌, ◌≤◌, length, IfOk};
 ghost use Rattle.join_words.specs.Asks.{IsWithin};
-ghost use Rattle.join_top.specs.Task.{can_be_had};
 ghost use Rattle.join_top.specs.RunJoin.{IsMadeBy};
 ghost use Rattle.join_top.specs.Ran.{WhereRead, ending_of, IsEnded};
 
@@ -9,7 +8,8 @@ use crate::making::make;
 use crate::printed::printed;
 use chem_model::{Journal, Memory, Program, Text};
 use join_words::Asked;
-use site_runner::{How, Team};
+use shared_net::Gate;
+use site_runner::{FreeTeam, How, Team};
 use std::alloc::Global;
 use trace_text::Ending;
 
@@ -41,23 +41,25 @@ fn ending_of(quiet: bool) -> Ending
 }
 
 /// Runs the program of a source as it is asked for.
-pub fn run<T: Team>(
+pub fn run<G: Gate, T: Team + FreeTeam<G>>(
     alloc: Global,
     asked: &Asked,
     source: &[u8],
     program: &Program,
+    gate: &G,
     team: &T,
 ) -> Result<Ran, Memory>
     requires ready { T.ready }
+    requires free_ready { T.free_ready }
     requires source { WhereRead asked.now.ring (length source.now ≤ 1048576) }
     requires within { IsWithin asked.now }
-    requires can { can_be_had asked.now.by ≡ true }
     ensures program { IfOk result (λ ran. ran.kept.program ≡ program.now) }
     ensures ended { IfOk result (λ ran. IsEnded asked.now source.now ran.kept ran.text ran.ending) }
     ensures made { IfOk result (λ ran.
-        IsMadeBy asked.now.by program.now asked.now.budget ran.kept.journal ran.kept.how) }
+        IsMadeBy asked.now.by asked.now.workers asked.now.budget program.now
+        ran.kept.journal ran.kept.how) }
 {
-    let done = make(alloc, asked, program, team)?;
+    let done = make(alloc, asked, program, gate, team)?;
     done.book.replays();
     done.book.is_a_run();
     let ending = ending_of(done.book.quiet());

@@ -1,34 +1,29 @@
-// What the words ask for that can be done, and the text that is run.
-ghost use Rattle.std.specs.Prelude.{◌≡◌, ◌≤◌, None, Some, length, true, IfOk, IfSome, OnOk};
+// What the words ask for, and the text that is run.
+ghost use Rattle.std.specs.Prelude.{◌≡◌, ◌≤◌, None, Some, length, IfOk, IfSome, OnOk};
 ghost use Rattle.join_base.specs.Bytes.{TakesCount};
 ghost use Rattle.join_base.specs.Counts.{Rose};
 ghost use Rattle.join_words.specs.Asks.{IsWithin, IsSizeIfAny};
-ghost use Rattle.join_top.specs.Task.{can_be_had, task, ring_asked, text_of};
+ghost use Rattle.join_top.specs.Task.{task, ring_asked, text_of};
 ghost use Rattle.join_top.specs.RunJoin.{OnTold};
 ghost use Rattle.join_top.specs.Ran.{WhereRead, ReadsAll, ReadsPart};
 
 use chem_model::{Memory, Text};
 use join_base::{ReadEnd, Source, read_all};
-use join_words::{Asked, By, WordEnd, read_words};
+use join_words::{Asked, WordEnd, read_words};
 use ring_source::ring_text;
 use std::alloc::Global;
 
 /// The most bytes of a text.
 const MOST_BYTES: u32 = 1_048_576;
 
-/// What the words ask for. None where they are not of the line's form, or ask for free threads,
-/// which can't be had yet.
+/// What the words ask for. None where they are not of the line's form.
 pub fn task(alloc: Global, words: &[String]) -> Result<Option<Asked>, Memory>
     ensures task { IfOk result (λ asked. asked ≡ task words.now) }
     ensures within { IfOk result (λ asked. IfSome asked IsWithin) }
-    ensures can { IfOk result (λ asked. IfSome asked (λ a. can_be_had a.by ≡ true)) }
     ensures ring { IfOk result (λ task. IfSome task (λ a. ring_asked words.now ≡ a.ring)) }
 {
     match read_words(alloc, words) {
-        Ok(asked) => match asked.by {
-            By::Alone | By::Rounds => Ok(Some(asked)),
-            By::Run => Ok(None),
-        },
+        Ok(asked) => Ok(Some(asked)),
         Err(WordEnd::Form) => Ok(None),
         Err(WordEnd::Memory) => Err(Memory),
     }

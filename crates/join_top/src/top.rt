@@ -8,12 +8,12 @@ ghost use Rattle.join_top.specs.RunJoin.{ComesExactly, Reads, Refuses, Keeps, Is
 ghost use Rattle.join_top.specs.RunJoin.{WritesWhole};
 ghost use Rattle.join_top.specs.RunJoin.{GainsLine, Gains, line_of, has_run, GoesWith, IsWritten};
 
-use crate::gate::Gate;
 use crate::run::{Kept, Ran, run};
 use crate::task::{task, text_run};
 use crate::text::{program_of, refusal_line};
 use join_base::{Front, Kind, ReadEnd, Sink, Source, write_piece};
-use site_runner::Team;
+use shared_net::Gate;
+use site_runner::{FreeTeam, Team};
 use std::alloc::Global;
 use trace_text::Ending;
 
@@ -39,8 +39,9 @@ pub struct Ended {
 }
 
 /// Does all that the program does, from its words and the bytes of its source to the bytes on `out`
-/// and `err`. The team works where the words ask for rounds. Only free threads pass the gate, and
-/// there are none yet.
+/// and `err`. The team works where the words ask for rounds or for free threads, which pass the
+/// gate in each of their turns. It returns wherever the calls of the team that it was handed
+/// return, and with `alone` it makes none.
 ///
 /// The clauses are in the words of `specs/RunJoin.antt` and `specs/Task.antt`. They see a source by
 /// the bytes that it has left, and a sink by those that it holds, where these are told.
@@ -49,21 +50,22 @@ pub struct Ended {
 /// |---|---|
 /// | 0 | the run ended quiet, and its whole text was written |
 /// | 1 | the text is refused: it has a fault, which the line on `err` names with its place |
-/// | 2 | the words are not of the line's form, or ask for free threads, which can't be had yet |
+/// | 2 | the words are not of the line's form |
 /// | 3 | a read failed |
 /// | 4 | a write on `out` failed |
 /// | 5 | the budget is used up and something can still happen; the whole text was written |
 /// | 6 | memory ran out |
-pub fn run_join<S: Source, K: Sink, E: Sink, G: Gate, T: Team>(
+pub fn run_join<S: Source, K: Sink, E: Sink, G: Gate, T: Team + FreeTeam<G>>(
     alloc: Global,
     words: &[String],
     source: &mut S,
     out: &mut K,
     err: &mut E,
-    _gate: &G,
+    gate: &G,
     team: &T,
 ) -> Ended
-    requires { T.ready }
+    requires ready { T.ready }
+    requires free_ready { T.free_ready }
 
     ensures known { result.status ≤ 6 }
 
@@ -99,7 +101,7 @@ pub fn run_join<S: Source, K: Sink, E: Sink, G: Gate, T: Team>(
         Err(Front::Refused { kind, place }) => return refuse(alloc, err, kind, place),
         Err(Front::Memory) => return end(err, OUT_OF_MEMORY, None),
     };
-    match run(alloc, &asked, text.as_slice(), &program, team) {
+    match run(alloc, &asked, text.as_slice(), &program, gate, team) {
         Err(_) => end(err, OUT_OF_MEMORY, None),
         Ok(ran) => {
             let status = write_text(out, &ran);

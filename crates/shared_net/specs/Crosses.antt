@@ -7,7 +7,6 @@ use Rattle.chem_model.specs.contracts.program.Program as program
 use Rattle.env_store.specs.contracts.code.Code as code
 use Rattle.loc_tree.specs.contracts.tree.LocTree as tree
 use Rattle.site_solution.specs.contracts.site.Site as site
-use Rattle.trace_history.specs.contracts.book.Book as book
 use Rattle.shared_net.specs.contracts.locked.Locked as locked
 use Rattle.shared_net.specs.contracts.mail.Mailbox as mailbox
 use Rattle.shared_net.specs.contracts.net.LockedTree as locked_tree
@@ -15,9 +14,6 @@ use Rattle.shared_net.specs.contracts.net.LockedSites as locked_sites
 use Rattle.shared_net.specs.contracts.net.LockedMail as locked_mail
 use Rattle.shared_net.specs.contracts.net.Parts as parts
 use Rattle.shared_net.specs.declared.run.Run as Run
-
-abbrev pub BookCrosses : Type 0
-BookCrosses = IsSend book.the_row
 
 abbrev pub TreeCrosses : Type 0
 TreeCrosses = IsSend tree.the_row

@@ -1,7 +1,7 @@
 // What of a network may go to another thread, and what threads may share. Nothing here does
 // anything.
 ghost use denote.Param.Send.{IsSend, IsSync};
-ghost use Rattle.shared_net.specs.Crosses.{BookCrosses, TreeCrosses, SiteCrosses, LockedCrosses};
+ghost use Rattle.shared_net.specs.Crosses.{TreeCrosses, SiteCrosses, LockedCrosses};
 ghost use Rattle.shared_net.specs.Crosses.{MailboxCrosses, ProgramIsShared, CodeIsShared};
 ghost use Rattle.shared_net.specs.Crosses.{TreeIsShared, LockedTreeIsShared};
 ghost use Rattle.shared_net.specs.Crosses.{LockedSitesAreShared, LockedMailIsShared};
@@ -15,7 +15,7 @@ use chem_model::Program;
 use env_store::Code;
 use loc_tree::LocTree;
 use site_solution::Site;
-use trace_history::Book;
+use trace_history::book_crosses;
 
 // Values of this type may go to another thread.
 fn crosses<T: Send>()
@@ -26,12 +26,6 @@ fn crosses<T: Send>()
 fn is_shared<T: Sync>()
     ensures { IsSync T.row }
 {}
-
-fn book_crosses()
-    ensures { BookCrosses }
-{
-    crosses::<Book>();
-}
 
 fn tree_crosses()
     ensures { TreeCrosses }

@@ -78,6 +78,9 @@ impl Parts {
         requires { at < self.now.sites }
     {
         let mail = self.mail.list[at].lock(rt).empty(alloc);
+        if mail.is_empty() {
+            return Ok(false);
+        }
         let flights = arrive(alloc, site, tree, &mail)?;
         self.post(rt, alloc, &flights)
     }

@@ -1,5 +1,5 @@
 -- A run on its way: what it appended so far is the beginning of a schedule.
-use Rattle.std.proofs.Common.{◌≡◌, ℕ, ◌+◌, ◌-◌, ◌<◌, List, [], ◌∷◌, ◌++◌, Option, Some, None, true, false, refl, ap, sym, ◌∙◌, subst, arith, length, length-append, append_assoc, append-nil, inl, inr, is_some}
+use Rattle.std.proofs.Common.{◌≡◌, ℕ, ◌+◌, ◌-◌, ◌<◌, ◌≤◌, List, [], ◌∷◌, ◌++◌, Option, Some, None, true, false, refl, ap, sym, ◌∙◌, subst, arith, length, length-append, append_assoc, append-nil, inl, inr, is_some}
 use Rattle.std.specs.Prelude.{Result, Ok, Err, OnErr}
 use Rattle.chem_model.specs.declared.event.Event.{Event}
 use Rattle.chem_model.specs.declared.numbered.Numbered.{Numbered}
@@ -111,12 +111,13 @@ none_of None e = refl
 none_of (Some m) e = cc
 
 -- where no event is possible
-pub stops : (old : Kept) (budget : ℕ) (now : Kept) (from : ℕ) (g : Goes old budget now from) → IsStuck now → RunsOn old budget now
-stops old budget now from g h = record {
+pub stops : (old : Kept) (budget : ℕ) (now : Kept) (from : ℕ) (g : Goes old budget now from) → length now.journal ≤ budget → IsStuck now → RunsOn old budget now
+stops old budget now from g within h = record {
   program = g.program;
   added = g.added;
   journal = g.journal;
   schedule = λ n e. subst (λ (j : List Event). IsSchedule (budget - length old.journal) n 0 j) (append-nil g.added) (g.schedule n e [] (stuck (λ x. none_of (apply g.last x) (ap (λ o. is_some (apply_if o x)) (sym g.leads) ∙ h x))));
+  within = within;
   ends = inl h;
 }
 
@@ -127,6 +128,7 @@ is_spent old budget now from g h = record {
   added = g.added;
   journal = g.journal;
   schedule = λ n e. subst (λ (j : List Event). IsSchedule (budget - length old.journal) n 0 j) (append-nil g.added) (g.schedule n e [] (nothing (budget - length now.journal) (omega arith)));
+  within = omega (arith, h);
   ends = inr h;
 }
   where

@@ -2,3 +2,4 @@ pub mod Schedule
 pub mod Run
 pub mod Rounds
 pub mod RoundParts
+pub mod Free

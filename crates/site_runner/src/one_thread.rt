@@ -26,14 +26,12 @@ fn after(sites: usize, site: u32) -> u32
 }
 
 /// Makes the event that comes first, from the site after the last one's, until none is possible or
-/// the journal has `budget` events. It begins at the first site. It takes memory only where the
-/// budget leaves an event and one is possible.
-pub fn alone(alloc: Global, book: Book, budget: u32) -> Result<Done, Memory>
+/// the journal has `budget` events. It begins at the first site.
+pub(crate) fn finish(alloc: Global, book: Book, budget: u32) -> Result<Book, Memory>
     requires { length book.journal ≤ budget }
-    ensures run { IfOk result (λ done. RunsOn book budget done.book) }
-    ensures whole { IfOk result (λ done.
-        book.journal ≡ [] → ScheduleOf book.program budget done.book.journal) }
-    ensures how { IfOk result (λ done. done.how ≡ how.Alone) }
+    ensures run { IfOk result (RunsOn book budget) }
+    ensures whole { IfOk result (λ end.
+        book.journal ≡ [] → ScheduleOf book.program budget end.journal) }
     ensures left { OnErr result (length book.journal < budget) }
     ensures possible { OnErr result (IsStuck book → ⊥) }
 {
@@ -48,16 +46,27 @@ pub fn alone(alloc: Global, book: Book, budget: u32) -> Result<Done, Memory>
                 let _commit = run.commit(alloc, &found.event)?;
                 from = after(sites, found.site);
             }
-            None => {
-                return Ok(Done {
-                    book: run,
-                    how: How::Alone,
-                });
-            }
+            None => return Ok(run),
         }
     }
+    Ok(run)
+}
+
+/// Makes the event that comes first, from the site after the last one's, until none is possible or
+/// the journal has `budget` events. It begins at the first site. It takes memory only where the
+/// budget leaves an event and one is possible.
+pub fn alone(alloc: Global, book: Book, budget: u32) -> Result<Done, Memory>
+    requires { length book.journal ≤ budget }
+    ensures run { IfOk result (λ done. RunsOn book budget done.book) }
+    ensures whole { IfOk result (λ done.
+        book.journal ≡ [] → ScheduleOf book.program budget done.book.journal) }
+    ensures how { IfOk result (λ done. done.how ≡ how.Alone) }
+    ensures left { OnErr result (length book.journal < budget) }
+    ensures possible { OnErr result (IsStuck book → ⊥) }
+{
+    let book = finish(alloc, book, budget)?;
     Ok(Done {
-        book: run,
+        book,
         how: How::Alone,
     })
 }

@@ -1,16 +1,23 @@
 // Workers for the runs that want threads.
 ghost use Rattle.std.specs.Prelude.{◌≡◌, [], ◌<◌, ◌≤◌, length, IfOk, OnErr};
+ghost use Rattle.env_store.specs.Reading.{IsCodeOf};
 ghost use Rattle.net_laws.specs.Opened.{opened_net};
+ghost use Rattle.site_runner.specs.Free.{IsFinished, IsFree, first_workers};
 ghost use Rattle.site_runner.specs.Rounds.{StandForOne, RunsInRounds, RoundsOf};
 ghost use Rattle.site_runner.specs.declared.outcome.How.TheVariants as how;
 ghost use denote.Param.Send.{IsSync};
 
 use crate::in_rounds::rounds;
+use crate::on_threads::free_from_opening;
 use crate::outcome::Done;
-use chem_model::Memory;
+use chem_model::{Memory, Program};
+use env_store::Code;
 use net_core::Net;
+use shared_net::{HoldGate, OpenGate};
 use std::alloc::Global;
-use std::marker::Sync;
+use std::marker::{Brand, Sync};
+use std::sync::Wait;
+use std::sync::ledger::Blank;
 use std::thread::Threads;
 use trace_history::Book;
 
@@ -41,6 +48,30 @@ pub trait Team {
         ensures left { OnErr result (length book.journal < budget) };
 }
 
+/// Workers that turn freely at sites and pass a gate of this type.
+pub trait FreeTeam<G> {
+    /// What its call needs of the runtime: that threads may share it.
+    ghost free_ready: { Type 0 };
+
+    /// The run on free threads of a program from its opening, as the function `free` makes it.
+    fn free(
+        &self,
+        alloc: Global,
+        program: &Program,
+        code: &Code,
+        workers: u32,
+        budget: u32,
+        gate: &G,
+    ) -> Result<Done, Memory>
+        requires ready { free_ready }
+        requires code { IsCodeOf program.now code.now }
+        requires workers { (1 ≤ workers) × (workers ≤ 16) }
+        requires budget { budget ≤ 1000000 }
+        ensures run { IfOk result (λ done. IsFinished program.now budget done.book) }
+        ensures how { IfOk result (λ done. IsFree (length program.now.sites) (first_workers workers)
+            program.now budget done.book.journal done.how) };
+}
+
 /// Workers that are threads of a runtime.
 #[derive(Drop)]
 pub struct Threaded<'a, R: Threads + Sync> {
@@ -65,5 +96,43 @@ impl<R: Threads + Sync> Team for Threaded<'_, R> {
         budget: u32,
     ) -> Result<Done, Memory> {
         rounds(self.rt, alloc, net, book, workers, budget)
+    }
+}
+
+impl<R: Threads + Wait + Sync> FreeTeam<OpenGate> for Threaded<'_, R> {
+    ghost free_ready = { IsSync R.row };
+
+    fn free(
+        &self,
+        alloc: Global,
+        program: &Program,
+        code: &Code,
+        workers: u32,
+        budget: u32,
+        gate: &OpenGate,
+    ) -> Result<Done, Memory> {
+        let blank = Blank::new(u64::from(workers));
+        free_from_opening::<Brand, OpenGate, R>(
+            self.rt, alloc, program, code, workers, budget, blank, gate,
+        )
+    }
+}
+
+impl<R: Threads + Wait + Sync> FreeTeam<HoldGate> for Threaded<'_, R> {
+    ghost free_ready = { IsSync R.row };
+
+    fn free(
+        &self,
+        alloc: Global,
+        program: &Program,
+        code: &Code,
+        workers: u32,
+        budget: u32,
+        gate: &HoldGate,
+    ) -> Result<Done, Memory> {
+        let blank = Blank::new(u64::from(workers));
+        free_from_opening::<Brand, HoldGate, R>(
+            self.rt, alloc, program, code, workers, budget, blank, gate,
+        )
     }
 }

@@ -2,12 +2,7 @@
 use Rattle.std.proofs.Common.{◌≡◌, ℕ, ◌≤◌, length, drop, List, [], ◌∷◌, Option, Some, None, Bool, true, false, cond, refl, ap, sym, ◌∙◌, ◌&&◌, ◌⊎◌, inl, inr}
 use Rattle.std.proofs.lemmas.List.{drop_all}
 use Rattle.chem_model.specs.Each.{Each}
-use Rattle.trace_history.specs.Search.{IsIn, IsFirstOf, beats}
-
--- the first of what was found so far and of the rest
-abbrev pub first_of : {X : Type 0} → (X → Bool) → (X → X → Bool) → Option X → List X → Option X
-first_of test before found [] = found
-first_of test before found (x ∷ xs) = first_of test before (cond (beats before x found && test x) (Some x) found) xs
+use Rattle.trace_history.specs.Search.{IsIn, IsFirstOf, first_of, beats}
 
 -- an order: none comes before one that comes before it, and one that comes not before a second, which comes not before a third, comes not before the third
 pub record IsOrder {X : Type 0} (before : X → X → Bool) : Type 0 where
@@ -59,12 +54,12 @@ module _ {X : Type 0} (test : X → Bool) (before : X → X → Bool) (o : IsOrd
       here None c g = cc
       here (Some z) c g = o.along x z y c (g z refl)
 
-  ends : (found : Option X) (xs : List X) (y : X) → first_of test before found xs ≡ Some y → Ends test before found xs y
+  pub ends : (found : Option X) (xs : List X) (y : X) → first_of test before found xs ≡ Some y → Ends test before found xs y
   ends found [] y e = record { from = inl e; members = tt; earlier = λ z is. let same : z ≡ y = cc in ap (before z) (sym same) ∙ itself before o z (before z z) refl }
   ends found (x ∷ xs) y e = more found x xs y (beats before x found) (test x) refl refl (ends (cond (beats before x found && test x) (Some x) found) xs y e)
 
   -- where none was found, none was found before, and no member passes
-  stays : (found : Option X) (xs : List X) → first_of test before found xs ≡ None → (found ≡ None) × Each (λ x. test x ≡ false) xs
+  pub stays : (found : Option X) (xs : List X) → first_of test before found xs ≡ None → (found ≡ None) × Each (λ x. test x ≡ false) xs
   stays found [] e = (e, tt)
   stays found (x ∷ xs) e = go found (test x) refl (stays (cond (beats before x found && test x) (Some x) found) xs e)
     where

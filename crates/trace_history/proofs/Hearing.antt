@@ -1,5 +1,5 @@
 -- A rule of which some channel has no message isn't ready.
-use Rattle.std.proofs.Common.{◌≡◌, ℕ, zero, suc, ◌+◌, ◌<◌, length, take, get_or, set, List, [], ◌∷◌, Option, Some, None, Bool, true, false, cond, refl, ap, sym, ◌∙◌, subst, arith, ◌&&◌, ◌==◌, inl, inr, is_some}
+use Rattle.std.proofs.Common.{◌≡◌, ℕ, zero, suc, ◌+◌, ◌*◌, ◌%◌, ◌++◌, ◌<◌, length, take, get_or, set, List, [], ◌∷◌, Option, Some, None, Bool, true, false, cond, refl, ap, sym, ◌∙◌, subst, arith, ◌&&◌, ◌==◌, inl, inr, is_some}
 use Rattle.std.proofs.lemmas.Bool.{and_parts}
 use Rattle.std.proofs.lemmas.List.{get_or-set_same}
 use Rattle.std.specs.List.{list_all}
@@ -18,6 +18,9 @@ use Rattle.chem_model.specs.Apply.{same_ref, received}
 use Rattle.chem_laws.proofs.Lists.{either_true, true_both}
 use Rattle.chem_laws.proofs.Taking.{same_ref_is}
 use Rattle.trace_history.specs.Search.{receives, is_met, is_ready}
+use Rattle.chem_model.specs.declared.name.Name.TheVariants as name
+use Rattle.chem_model.specs.declared.name.Ref.TheVariants.{Binder, Known}
+use Rattle.trace_history.specs.Older.{Key, channel_of, AreQueued, AreHeard}
 use Rattle.trace_history.specs.Heard.{slot_of, is_heard, Grows, is_told, are_told, may_be_met}
 
 -- ---- one channel more is noted
@@ -118,3 +121,31 @@ module _ (size : ℕ) (heard : List Bool) where
       go : (t : Bool) → list_all (is_met n.atoms r.loc) r.pats ≡ t → false ≡ (b && is_ready n r)
       go true e = let yes = all_told n.atoms r.loc r.pats told e in let wrong : false ≡ true = sym silent ∙ yes in cc
       go false e = neither b (live (standing n.places) r.loc) ∙ ap (λ t. b && (live (standing n.places) r.loc && t)) (sym e)
+
+-- ---- older messages, whose keys are noted
+
+same_value : (c d : ℕ) → Some c ≡ Some d → c ≡ d
+same_value c d e = cc
+
+told_by_key : (size : ℕ) (heard : List Bool) (p : Process) (c : ℕ) → channel_of p ≡ Some c → get_or heard (c % size) true ≡ true → is_told size heard p ≡ true
+told_by_key size heard (Msg (Known (name.Chan s k h)) vs) c e is = ap (λ (d : ℕ). get_or heard (d % size) true) (same_value (k % 4294967296 + s * 7919) c e) ∙ is
+told_by_key size heard (Msg (Known (name.Seen i)) vs) c e is = cc
+told_by_key size heard (Msg (Known (name.Place a)) vs) c e is = cc
+told_by_key size heard (Msg (Binder b) vs) c e is = cc
+told_by_key size heard (Par ps) c e is = cc
+told_by_key size heard (Def ds q) c e is = cc
+told_by_key size heard (Go b k) c e is = cc
+told_by_key size heard (Fail a k) c e is = cc
+told_by_key size heard Halt c e is = cc
+
+still_told : (size : ℕ) (old new : List Bool) → Grows size old new → (xs : List NumberedAtom) → are_told size old xs ≡ true → are_told size new xs ≡ true
+still_told size old new g [] h = refl
+still_told size old new g (a ∷ xs) h =
+    let both = and_parts (is_told size old a.term) (are_told size old xs) h in
+    true_both (is_told size new a.term) (are_told size new xs) (grows_told size old new g a.term both.0) (still_told size old new g xs both.1)
+
+pub told_whole : (size : ℕ) (heard new : List Bool) (old xs : List NumberedAtom) (ks : List Key) → Grows size heard new → are_told size heard xs ≡ true → AreHeard size new ks → AreQueued old ks → are_told size new (old ++ xs) ≡ true
+told_whole size heard new [] xs ks g told here queued = still_told size heard new g xs told
+told_whole size heard new (a ∷ old) xs ks g told here queued =
+    let q = queued a (inl refl) in
+    true_both (is_told size new a.term) (are_told size new (old ++ xs)) (told_by_key size new a.term q.0 q.1 (here (q.0, (a.id.site, a.id.k)) q.2)) (told_whole size heard new old xs ks g told here (λ b at. queued b (inr at)))

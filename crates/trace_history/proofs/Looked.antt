@@ -1,5 +1,5 @@
 -- Where the rules that wait for a message that is there were looked at, and those that were not noted, the best one is the first of all.
-use Rattle.std.proofs.Common.{◌≡◌, ℕ, zero, suc, ◌+◌, ◌<◌, ◌≤◌, length, get_or, take, List, [], ◌∷◌, Option, Some, None, Bool, true, false, refl, ap, sym, ◌∙◌, subst, arith, ◌&&◌, ◌==◌, ◌⊎◌, inl, inr, is_some, eqb, ◌≢◌}
+use Rattle.std.proofs.Common.{◌≡◌, ℕ, zero, suc, ◌+◌, ◌*◌, ◌%◌, ◌++◌, ◌<◌, ◌≤◌, length, get_or, take, List, [], ◌∷◌, Option, Some, None, Bool, true, false, refl, ap, sym, ◌∙◌, subst, arith, ◌&&◌, ◌==◌, ◌⊎◌, inl, inr, is_some, eqb, ◌≢◌}
 use Rattle.std.specs.Prelude.{IfSome}
 use Rattle.std.specs.List.{list_all}
 use Rattle.std.proofs.lemmas.Bool.{and_parts}
@@ -21,7 +21,10 @@ use Rattle.chem_laws.proofs.Lists.{either_true}
 use Rattle.chem_laws.proofs.Taking.{same_ref_is}
 use Rattle.trace_history.specs.Heard.{slot_of}
 use Rattle.trace_history.specs.Search.{IsIn, IsFirstOf, beats, receives, is_met, is_ready, rule_before}
-use Rattle.trace_history.specs.Waiting.{IsAt, Reaches, WaitsAt, AreFiled, Beaten, IsOne, Betters, IsLookedAt, IsSlotLookedAt, slot_of_term}
+use Rattle.trace_history.specs.Waiting.{IsAt, Reaches, WaitsAt, AreFiled, Beaten, IsOne, Betters, IsLookedAt, IsSlotLookedAt, LooksAtNewest, slot_of_term}
+use Rattle.trace_history.specs.Older.{Key, channel_of, AreQueued}
+use Rattle.chem_model.specs.declared.name.Name.TheVariants as name
+use Rattle.chem_model.specs.declared.name.Ref.TheVariants.{Binder, Known}
 use Rattle.trace_history.proofs.FirstOf.{IsOrder}
 use Rattle.trace_history.proofs.Founds.{rules_order}
 use Rattle.trace_history.proofs.Hearing.{some_here, when_some}
@@ -169,7 +172,7 @@ module _ (n : Numbered) (from : ℕ) where
     abbrev pub IsAtomLookedAt : Option NumberedRule → NumberedAtom → Type 0
     IsAtomLookedAt best a = IsSlotLookedAt n from heads links (slot_of_term (length heads) a.term) best
 
-    slot_kept : (s : Option ℕ) (old new : Option NumberedRule) → Betters n from old new → IsSlotLookedAt n from heads links s old → IsSlotLookedAt n from heads links s new
+    pub slot_kept : (s : Option ℕ) (old new : Option NumberedRule) → Betters n from old new → IsSlotLookedAt n from heads links s old → IsSlotLookedAt n from heads links s new
     slot_kept None old new b h = tt
     slot_kept (Some s) old new b h = λ j w. looked_kept j old new b (h j w)
 
@@ -246,10 +249,42 @@ module _ (n : Numbered) (from : ℕ) where
         go r at true e = absurd (h r at e)
     is_first (Some y) one h = (one.0, one.1, each_all (λ r. is_ready n r ≡ true → rule_before n from r y ≡ false) n.rules (λ r at ready. h r at ready))
 
-    pub first_at_end : (atoms : List NumberedAtom) (i : ℕ) (last : Option ℕ) (best : Option NumberedRule) → AreFiled heads links n.rules → atoms ≡ n.atoms → length atoms ≤ i → SoFar atoms i last best → IsFirstOf (is_ready n) (rule_before n from) n.rules best
-    first_at_end atoms i last best filed is h f =
-        let all : take i atoms ≡ n.atoms = take_all i atoms h ∙ is in
-        is_first best f.one (all_beaten best filed f.rest (subst (λ (l : List NumberedAtom). Each (IsAtomLookedAt best) l) all f.messages))
+    pub newest_at_end : (xs atoms : List NumberedAtom) (i : ℕ) (last : Option ℕ) (best : Option NumberedRule) → atoms ≡ xs → length atoms ≤ i → SoFar atoms i last best → LooksAtNewest n from heads links xs best
+    newest_at_end xs atoms i last best is h f = record {
+      one = f.one;
+      rest = f.rest;
+      messages = subst (λ (l : List NumberedAtom). Each (IsAtomLookedAt best) l) (take_all i atoms h ∙ is) f.messages;
+    }
+
+    same_value : (c d : ℕ) → Some c ≡ Some d → c ≡ d
+    same_value c d e = cc
+
+    slot_of_channel : (size : ℕ) (p : Process) (c : ℕ) → channel_of p ≡ Some c → slot_of_term size p ≡ Some (c % size)
+    slot_of_channel size (Msg (Known (name.Chan s k h)) vs) c e = ap (λ (d : ℕ). Some (d % size)) (same_value (k % 4294967296 + s * 7919) c e)
+    slot_of_channel size (Msg (Known (name.Seen i)) vs) c e = cc
+    slot_of_channel size (Msg (Known (name.Place a)) vs) c e = cc
+    slot_of_channel size (Msg (Binder b) vs) c e = cc
+    slot_of_channel size (Par ps) c e = cc
+    slot_of_channel size (Def ds q) c e = cc
+    slot_of_channel size (Go b k) c e = cc
+    slot_of_channel size (Fail a k) c e = cc
+    slot_of_channel size Halt c e = cc
+
+    each_both : (P : NumberedAtom → Type 0) (xs ys : List NumberedAtom) → Each P xs → Each P ys → Each P (xs ++ ys)
+    each_both P [] ys a b = b
+    each_both P (x ∷ xs) ys a b = (a.0, each_both P xs ys a.1 b)
+
+    -- the older messages too
+    pub first_of_both : (old xs : List NumberedAtom) (ks : List Key) (some best : Option NumberedRule) → n.atoms ≡ old ++ xs → AreFiled heads links n.rules → AreQueued old ks → LooksAtNewest n from heads links xs some → Betters n from some best
+        → ((k : Key) → IsIn k ks → IsSlotLookedAt n from heads links (Some (k.0 % length heads)) best) → IsFirstOf (is_ready n) (rule_before n from) n.rules best
+    first_of_both old xs ks some best is filed queued f b keys =
+        is_first best (b.one f.one) (all_beaten best filed (λ j low small. looked_kept j some best b (f.rest j low small)) (subst (λ (l : List NumberedAtom). Each (IsAtomLookedAt best) l) (sym is) (each_both (IsAtomLookedAt best) old xs older newer)))
+      where
+        older : Each (IsAtomLookedAt best) old
+        older = each_all (IsAtomLookedAt best) old (λ a at. let q = queued a at in subst (λ o. IsSlotLookedAt n from heads links o best) (sym (slot_of_channel (length heads) a.term q.0 q.1)) (keys (q.0, (a.id.site, a.id.k)) q.2))
+
+        newer : Each (IsAtomLookedAt best) xs
+        newer = each_map (IsAtomLookedAt some) (IsAtomLookedAt best) (λ a. slot_kept (slot_of_term (length heads) a.term) some best b) xs f.messages
 
 pub term_within : (size : ℕ) (p : Process) (s : Option ℕ) → 0 < size → s ≡ slot_of_term size p → IfSome s (λ k. k < size)
 term_within size p s h is = subst (λ o. IfSome o (λ k. k < size)) (sym is) (go p)

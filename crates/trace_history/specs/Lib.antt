@@ -4,4 +4,8 @@ pub mod Book
 pub mod Search
 pub mod Heard
 pub mod Waiting
-pub mod Summed
+pub mod Table
+pub mod Walk
+pub mod Alike
+pub mod Older
+pub mod Crosses

@@ -1,7 +1,7 @@
 -- The search for the event that comes first: of the rules that are ready, of the requests that can
 -- be met, and of the messages that a pattern receives, the first of each.
 use Rattle.std.specs.Prelude.{◌≡◌, ℕ, ◌<◌, List, [], ◌∷◌, Option, Some, None, is_some}
-use Rattle.std.specs.Prelude.{Bool, true, false, nat_lt, ◌==◌, ◌&&◌, ◌||◌, ◌⊎◌, length}
+use Rattle.std.specs.Prelude.{Bool, true, false, cond, nat_lt, ◌==◌, ◌&&◌, ◌||◌, ◌⊎◌, length}
 use Rattle.std.specs.List.{list_any, list_all}
 use Rattle.chem_model.specs.declared.name.Loc.{Loc}
 use Rattle.chem_model.specs.declared.name.Pat.{Pat}
@@ -33,6 +33,12 @@ IsFirstOf test before xs (Some y) =
 abbrev pub beats : {X : Type 0} → (X → X → Bool) → X → Option X → Bool
 beats before x None = true
 beats before x (Some y) = before x y
+
+-- the first of what was found so far and of the rest
+abbrev pub first_of : {X : Type 0} → (X → Bool) → (X → X → Bool) → Option X → List X → Option X
+first_of test before found [] = found
+first_of test before found (x ∷ xs) =
+    first_of test before (cond (beats before x found && test x) (Some x) found) xs
 
 -- ---- messages
 

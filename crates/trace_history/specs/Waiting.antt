@@ -6,6 +6,8 @@ use Rattle.std.specs.Prelude.{Bool, true, false, ◌⊎◌, length, get_or, slic
 use Rattle.chem_model.specs.declared.name.Pat.{Pat}
 use Rattle.chem_model.specs.declared.numbered.NumberedRule.{NumberedRule}
 use Rattle.chem_model.specs.declared.numbered.Numbered.{Numbered}
+use Rattle.chem_model.specs.declared.numbered.NumberedAtom.{NumberedAtom}
+use Rattle.chem_model.specs.Each.{Each}
 use Rattle.chem_model.specs.Process.{Process, Msg, Par, Def, Go, Fail, Halt}
 use Rattle.trace_history.specs.Heard.{slot_of}
 use Rattle.trace_history.specs.Search.{IsIn, is_ready, rule_before}
@@ -84,3 +86,12 @@ slot_of_term size (Def ds p) = None
 slot_of_term size (Go b k) = None
 slot_of_term size (Fail a k) = None
 slot_of_term size Halt = None
+
+-- what was found is a rule that is ready, or none; the rules that were not noted were looked at,
+-- and those that wait for one of these messages
+pub record LooksAtNewest (n : Numbered) (from : ℕ) (heads links : List ℕ)
+    (atoms : List NumberedAtom) (found : Option NumberedRule) : Type 0 where
+  pub one : IsOne (is_ready n) n.rules found
+  pub rest : (j : ℕ) → length links ≤ j → j < length n.rules → IsLookedAt n from j found
+  pub messages :
+      Each (λ a. IsSlotLookedAt n from heads links (slot_of_term (length heads) a.term) found) atoms

@@ -10,13 +10,14 @@ ghost use Rattle.trace_history.specs.Kept.{is_enabled};
 ghost use Rattle.trace_history.specs.Book.{Commits, IsAStart, IsAReduction, OnSolution};
 ghost use Rattle.trace_history.specs.Book.{IsStuck, IsQuiet, Finds, Replays};
 
+use crate::older::{Older, ready};
+use crate::possible::is_possible;
 use crate::search::{first_event, is_stuck};
-use crate::summary::{Summary, leave_out, sum_up};
 use crate::waiting::{Waiting, file};
 use chem_commit::{Guesses, make_event, note};
 use chem_laws::{event_is_a_reduction, opening_is_a_start, replay_is_a_run, stuck_is_quiet};
 use chem_model::{Event, Items, Journal, Memory, Name, Naming, Numbered, Outs, Program};
-use chem_plain::{is_enabled, opening};
+use chem_plain::opening;
 use std::alloc::Global;
 use std::marker::Model;
 
@@ -58,19 +59,19 @@ impl Found {
     }
 }
 
-/// A program, the events since its opening, and the numbered solution to which they lead.
+/// A program, the events since its opening, and the numbered solution to which they lead, but for
+/// the order of messages and requests: older messages stand apart.
 #[derive(Drop)]
 pub struct Book {
     program: Program,
     journal: Journal,
     solution: Numbered,
+    older: Older,
     guesses: Guesses,
     waiting: Waiting,
-    summary: Summary,
 }
 
 impl Model for Book {
-    ghost use Rattle.std.specs.Prelude.{◌≡◌, Some};
     ghost use Rattle.chem_model.specs.Apply.{replay};
     ghost use Rattle.trace_history.specs.Kept.{Kept, kept_code};
 
@@ -81,16 +82,16 @@ impl Model for Book {
     ghost view = { λ b. record { program = b.program; journal = b.journal } };
 
     ghost use Rattle.trace_history.specs.Waiting.{AreFiled};
-    ghost use Rattle.trace_history.specs.Summed.{IsSummed};
+    ghost use Rattle.trace_history.specs.Older.{Holds, AreQueued};
 
-    ghost invariant = { λ b. (replay b.program b.journal ≡ Some b.solution)
+    ghost invariant = { λ b. Holds (replay b.program b.journal) b.older.table b.solution
         × AreFiled b.waiting.heads.items b.waiting.links.items b.solution.rules
-        × IsSummed b.summary.heard.items b.summary.count b.summary.calm b.solution.atoms };
+        × AreQueued b.older.table b.older.keys.keys };
 }
 
 impl Book {
     /// The book of a program's opening, which stands for a start of the program.
-    #[tactic(auto, using(crate::proofs::Filed::none_filed, crate::proofs::Summing::none_summed))]
+    #[tactic(auto, using(crate::proofs::Filed::none_filed))]
     pub fn start(alloc: Global, program: &Program) -> Result<Book, Memory>
         ensures opening { IfOk result (λ book.
             book ≡ record { program = program.now; journal = [] }) }
@@ -104,21 +105,20 @@ impl Book {
         note(alloc, &mut guesses, &solution)?;
         let mut waiting = Waiting::new(alloc)?;
         file(alloc, &mut waiting, &solution)?;
-        let mut summary = Summary::new(alloc)?;
-        sum_up(alloc, &mut summary, &solution)?;
         Ok(Book {
             program,
             journal: Items::new(alloc),
             solution,
+            older: Older::new(alloc),
             guesses,
             waiting,
-            summary,
         })
     }
 
     /// Makes an event where it is possible, and appends it to the journal: what the book stands for
     /// then is one reduction away, as the event names it. Where it isn't possible, and on want of
     /// memory, nothing changes.
+    #[tactic(auto, using(crate::proofs::Holding::holds_on))]
     pub fn commit(&mut self, alloc: Global, event: &Event) -> Result<Commit, Memory>
         requires { length self.old.journal < 2 ^ 32 - 1 }
         ensures done { IfOk result (λ c. Commits self.old event.now c self.new) }
@@ -129,15 +129,12 @@ impl Book {
         event_is_a_reduction();
         note(alloc, &mut self.guesses, &self.solution)?;
         file(alloc, &mut self.waiting, &self.solution)?;
-        sum_up(alloc, &mut self.summary, &self.solution)?;
         let place = self.journal.len();
         let copy = event.copy(alloc)?;
+        ready(alloc, &mut self.older, &mut self.solution.atoms, event)?;
         self.journal.push(copy)?;
         match make_event(alloc, &mut self.solution, &self.guesses, event) {
-            Ok(true) => {
-                leave_out(&mut self.summary, event);
-                Ok(Commit::Place(place as u64))
-            }
+            Ok(true) => Ok(Commit::Place(place as u64)),
             Ok(false) => {
                 self.journal.truncate(place);
                 Ok(Commit::NotEnabled)
@@ -153,7 +150,8 @@ impl Book {
     pub fn enabled(&self, event: &Event) -> bool
         ensures { result ≡ is_enabled self.now event.now }
     {
-        is_enabled(&self.solution, event)
+        self.is_sound();
+        is_possible(&self.solution, &self.older, event)
     }
 
     /// Whether no event is possible, which is so exactly where the machine is quiet.
@@ -163,7 +161,7 @@ impl Book {
     {
         self.is_sound();
         stuck_is_quiet();
-        is_stuck(&self.solution, &self.guesses, &self.summary, &self.waiting)
+        is_stuck(&self.solution, &self.guesses, &self.older, &self.waiting)
     }
 
     /// The event that comes first, where the site `from` is looked at first, and its site. None
@@ -180,7 +178,7 @@ impl Book {
             alloc,
             &self.solution,
             &self.guesses,
-            &self.summary,
+            &self.older,
             &self.waiting,
             from,
         )

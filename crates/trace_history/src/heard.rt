@@ -1,10 +1,12 @@
 // A table of the channels that may have a message. By it most rules are known not to be ready
 // without a walk over the messages.
-ghost use Rattle.std.specs.Prelude.{◌≡◌, ◌<◌, true};
+ghost use Rattle.std.specs.Prelude.{◌≡◌, ℕ, ◌<◌, ◌%◌, get_or, true};
 ghost use Rattle.trace_history.specs.Heard.{slot_of, is_heard, Grows, is_told, are_told};
 ghost use Rattle.trace_history.specs.Heard.{may_be_met};
+ghost use Rattle.trace_history.specs.Older.{AreHeard};
 
 use chem_model::{Name, NumberedAtoms, Pats, Proc, ProcNode, Ref};
+use std::collections::BTreeSet;
 
 /// The place of a channel in a table of so many. Any other name has the first one.
 pub(crate) fn slot_of(size: u64, on: Ref) -> usize
@@ -62,6 +64,31 @@ pub(crate) fn hear_all(size: u64, heard: &mut [bool], atoms: &NumberedAtoms)
 {
     for atom in atoms.as_slice() {
         hear_one(size, heard, &atom.term);
+    }
+}
+
+/// Notes that the channel with this number has a message.
+fn hear_number(size: u64, heard: &mut [bool], number: u64)
+    requires { 0 < size }
+    ensures here { get_or heard.new (number % size) true ≡ true }
+    ensures kept { Grows size heard.old heard.new }
+    ensures more { (k : ℕ) → get_or heard.old k true ≡ true → get_or heard.new k true ≡ true }
+{
+    let slot = (number % size) as usize;
+    if slot >= heard.len() {
+        return;
+    }
+    heard[slot] = true;
+}
+
+/// Notes the channel of each of these keys.
+pub(crate) fn hear_older(size: u64, heard: &mut [bool], keys: &BTreeSet<(u64, (u32, u64))>)
+    requires { 0 < size }
+    ensures here { AreHeard size heard.new keys.now.keys }
+    ensures kept { Grows size heard.old heard.new }
+{
+    for key in keys.iter() {
+        hear_number(size, heard, key.0);
     }
 }
 

@@ -2,9 +2,14 @@
 #![tactic(auto)]
 
 mod book;
+mod crossing;
 mod heard;
+mod keys;
+mod older;
+mod possible;
 mod search;
-mod summary;
+mod table;
 mod waiting;
 
 pub use book::{Book, Commit, Found};
+pub use crossing::book_crosses;

@@ -1,23 +1,23 @@
 // The search for the event that comes first, over the plain lists.
-ghost use Rattle.std.specs.Prelude.{◌≡◌, ℕ, ◌<◌, ◌≤◌, ◌^◌, ◌&&◌, ◌↔◌, length, true, IfOk, IfSome};
-ghost use Rattle.std.specs.Prelude.{IsTrue, OnErr, None};
+ghost use Rattle.std.specs.Prelude.{◌≡◌, ℕ, ◌<◌, ◌≤◌, ◌^◌, ◌++◌, ◌%◌, ◌&&◌, ◌↔◌, length, true};
+ghost use Rattle.std.specs.Prelude.{IfOk, IfSome, IsTrue, OnErr, Some, None};
 ghost use Rattle.std.specs.List.{list_all};
 ghost use Rattle.std.specs.Option.{option_copied};
 ghost use Rattle.chem_model.specs.Sound.{IsSound};
 ghost use Rattle.trace_history.specs.First.{turns, less};
 ghost use Rattle.trace_history.specs.Heard.{are_told};
-ghost use Rattle.trace_history.specs.Search.{IsFirstOf, beats, receives, atom_before};
+ghost use Rattle.trace_history.specs.Search.{IsFirstOf, first_of, beats, receives, atom_before};
 ghost use Rattle.trace_history.specs.Search.{is_met, AreLeast, is_ready, turn};
 ghost use Rattle.trace_history.specs.Search.{rule_before, can_act, request_before};
-ghost use Rattle.trace_history.specs.Search.{event_of, IsReaction, IsMeeting, IsFound};
-ghost use Rattle.trace_history.specs.Summed.{IsSummed};
+ghost use Rattle.trace_history.specs.Search.{event_of, IsReaction, IsMeeting, IsFound, IsIn};
+ghost use Rattle.trace_history.specs.Older.{Key, AreQueued, whole};
 ghost use Rattle.trace_history.specs.Waiting.{AreFiled, Reaches, Betters, IsLookedAt};
-ghost use Rattle.trace_history.specs.Waiting.{IsSlotLookedAt};
+ghost use Rattle.trace_history.specs.Waiting.{IsSlotLookedAt, LooksAtNewest};
 
 use crate::book::Found;
-use crate::heard::{hear_all, may_be_met};
-use crate::summary::{Summary, rest_for, rest_for_requests};
-use crate::waiting::{Waiting, is_same_slot, slot_of_term};
+use crate::heard::{hear_all, hear_older, may_be_met};
+use crate::older::{Older, first_older};
+use crate::waiting::{Waiting, is_same_slot, slot_of_number, slot_of_term};
 use chem_commit::{Guesses, can_detect, can_go, is_live, root_of};
 use chem_model::{
     AtomId, Atoms, Event, Items, Loc, Memory, Numbered, NumberedAtom, NumberedRule, Pat, Pats,
@@ -67,11 +67,18 @@ fn is_lesser(atom: &NumberedAtom, least: Option<&NumberedAtom>) -> bool
     }
 }
 
-/// The one with the least number, of these, that a pattern receives at a location.
-fn least_of<'a>(atoms: &'a [NumberedAtom], at: Loc, pat: &Pat) -> Option<&'a NumberedAtom>
-    ensures { IsFirstOf (receives at pat.now) atom_before atoms.now (option_copied result) }
+/// The one with the least number that a pattern receives at a location, of these and the one that
+/// was found so far.
+fn least_of<'a>(
+    atoms: &'a [NumberedAtom],
+    at: Loc,
+    pat: &Pat,
+    found: Option<&'a NumberedAtom>,
+) -> Option<&'a NumberedAtom>
+    ensures { first_of (receives at pat.now) atom_before (option_copied found.entry) atoms.now
+        ≡ option_copied result }
 {
-    let mut least: Option<&NumberedAtom> = None;
+    let mut least = found;
     for atom in atoms {
         if is_lesser(atom, least) && meets(at, pat, atom) {
             least = Some(atom);
@@ -83,34 +90,34 @@ fn least_of<'a>(atoms: &'a [NumberedAtom], at: Loc, pat: &Pat) -> Option<&'a Num
 /// The message with the least number that a pattern receives at a location.
 fn least_message<'a>(
     numbered: &'a Numbered,
-    summary: &Summary,
+    older: &'a Older,
     at: Loc,
     pat: &Pat,
 ) -> Option<&'a NumberedAtom>
-    requires summed { IsSummed summary.now.heard.items summary.now.count summary.now.calm
-        numbered.now.atoms }
-    ensures { IsFirstOf (receives at pat.now) atom_before numbered.now.atoms
-        (option_copied result) }
+    requires queued { AreQueued older.now.table older.now.keys.keys }
+    ensures { IsFirstOf (receives at pat.now) atom_before
+        (older.now.table ++ numbered.now.atoms) (option_copied result) }
 {
-    least_of(rest_for(numbered, summary, pat), at, pat)
+    let kept = first_older(older, at, pat);
+    least_of(numbered.atoms.as_slice(), at, pat, kept)
 }
 
 /// The least message for each pattern of a rule.
 fn least_messages(
     alloc: Global,
     numbered: &Numbered,
-    summary: &Summary,
+    older: &Older,
     at: Loc,
     pats: &Pats,
 ) -> Result<Atoms, Memory>
-    requires met { list_all (is_met numbered.now.atoms at) pats.now ≡ true }
-    requires summed { IsSummed summary.now.heard.items summary.now.count summary.now.calm
-        numbered.now.atoms }
-    ensures { IfOk result (λ took. AreLeast numbered.now.atoms at pats.now took) }
+    requires met { list_all (is_met (older.now.table ++ numbered.now.atoms) at) pats.now ≡ true }
+    requires queued { AreQueued older.now.table older.now.keys.keys }
+    ensures { IfOk result (λ took.
+        AreLeast (older.now.table ++ numbered.now.atoms) at pats.now took) }
 {
     let mut took = Items::from_vec(Vec::with_capacity(alloc, pats.len())?);
     for pat in pats.as_slice() {
-        match least_message(numbered, summary, at, pat) {
+        match least_message(numbered, older, at, pat) {
             Some(atom) => took.push(atom.id)?,
             None => {}
         }
@@ -133,26 +140,30 @@ fn is_met_by(atoms: &[NumberedAtom], at: Loc, pat: &Pat) -> bool
 }
 
 /// Whether a pattern receives a message at a location.
-fn is_met(numbered: &Numbered, summary: &Summary, at: Loc, pat: &Pat) -> bool
-    requires summed { IsSummed summary.now.heard.items summary.now.count summary.now.calm
-        numbered.now.atoms }
-    ensures { result ≡ is_met numbered.now.atoms at pat.now }
+fn is_met(numbered: &Numbered, older: &Older, at: Loc, pat: &Pat) -> bool
+    requires { AreQueued older.now.table older.now.keys.keys }
+    ensures { result ≡ is_met (older.now.table ++ numbered.now.atoms) at pat.now }
 {
-    is_met_by(rest_for(numbered, summary, pat), at, pat)
+    if is_met_by(numbered.atoms.as_slice(), at, pat) {
+        return true;
+    }
+    match first_older(older, at, pat) {
+        Some(_) => true,
+        None => false,
+    }
 }
 
 /// Whether a rule stands at a live location and each of its patterns receives a message.
-fn is_ready(numbered: &Numbered, guesses: &Guesses, summary: &Summary, rule: &NumberedRule) -> bool
+fn is_ready(numbered: &Numbered, guesses: &Guesses, older: &Older, rule: &NumberedRule) -> bool
     requires sound { IsSound numbered.now }
-    requires summed { IsSummed summary.now.heard.items summary.now.count summary.now.calm
-        numbered.now.atoms }
-    ensures { result ≡ is_ready numbered.now rule.now }
+    requires queued { AreQueued older.now.table older.now.keys.keys }
+    ensures { result ≡ is_ready (whole older.now.table numbered.now) rule.now }
 {
     if !is_live(numbered, guesses, rule.loc) {
         return false;
     }
     for pat in rule.pats.as_slice() {
-        if !is_met(numbered, summary, rule.loc, pat) {
+        if !is_met(numbered, older, rule.loc, pat) {
             return false;
         }
     }
@@ -185,19 +196,18 @@ fn is_earlier_rule(
 fn first_of_few<'a>(
     numbered: &'a Numbered,
     guesses: &Guesses,
-    summary: &Summary,
+    older: &Older,
     from: u32,
 ) -> Option<&'a NumberedRule>
     requires sound { IsSound numbered.now }
-    requires summed { IsSummed summary.now.heard.items summary.now.count summary.now.calm
-        numbered.now.atoms }
-    ensures { IsFirstOf (is_ready numbered.now) (rule_before numbered.now from) numbered.now.rules
-        (option_copied result) }
+    requires queued { AreQueued older.now.table older.now.keys.keys }
+    ensures { IsFirstOf (is_ready (whole older.now.table numbered.now))
+        (rule_before numbered.now from) numbered.now.rules (option_copied result) }
 {
     let mut first: Option<&NumberedRule> = None;
     for rule in numbered.rules.as_slice() {
         if is_earlier_rule(numbered, guesses, from, rule, first)
-            && is_ready(numbered, guesses, summary, rule)
+            && is_ready(numbered, guesses, older, rule)
         {
             first = Some(rule);
         }
@@ -210,7 +220,7 @@ fn first_of_few<'a>(
 fn is_better(
     numbered: &Numbered,
     guesses: &Guesses,
-    summary: &Summary,
+    older: &Older,
     size: u64,
     heard: &[bool],
     from: u32,
@@ -218,18 +228,17 @@ fn is_better(
     first: Option<&NumberedRule>,
 ) -> bool
     requires sound { IsSound numbered.now }
-    requires summed { IsSummed summary.now.heard.items summary.now.count summary.now.calm
-        numbered.now.atoms }
+    requires queued { AreQueued older.now.table older.now.keys.keys }
     requires size { 0 < size }
-    requires told { are_told size heard.now numbered.now.atoms ≡ true }
+    requires told { are_told size heard.now (older.now.table ++ numbered.now.atoms) ≡ true }
     ensures { result ≡ (beats (rule_before numbered.now from) rule.now (option_copied first.entry)
-        && is_ready numbered.now rule.now) }
+        && is_ready (whole older.now.table numbered.now) rule.now) }
 {
     if !may_be_met(size, heard, &rule.pats) {
         return false;
     }
     is_earlier_rule(numbered, guesses, from, rule, first)
-        && is_ready(numbered, guesses, summary, rule)
+        && is_ready(numbered, guesses, older, rule)
 }
 
 /// The better one of the rule at this place of the list, where it is ready, and the one that was
@@ -237,7 +246,7 @@ fn is_better(
 fn better_at<'a>(
     numbered: &'a Numbered,
     guesses: &Guesses,
-    summary: &Summary,
+    older: &Older,
     size: u64,
     heard: &[bool],
     from: u32,
@@ -245,16 +254,17 @@ fn better_at<'a>(
     found: Option<&'a NumberedRule>,
 ) -> Option<&'a NumberedRule>
     requires sound { IsSound numbered.now }
-    requires summed { IsSummed summary.now.heard.items summary.now.count summary.now.calm
-        numbered.now.atoms }
+    requires queued { AreQueued older.now.table older.now.keys.keys }
     requires size { 0 < size }
-    requires told { are_told size heard.now numbered.now.atoms ≡ true }
-    ensures better { Betters numbered.now from (option_copied found.entry) (option_copied result) }
-    ensures looked { IsLookedAt numbered.now from place (option_copied result) }
+    requires told { are_told size heard.now (older.now.table ++ numbered.now.atoms) ≡ true }
+    ensures better { Betters (whole older.now.table numbered.now) from (option_copied found.entry)
+        (option_copied result) }
+    ensures looked { IsLookedAt (whole older.now.table numbered.now) from place
+        (option_copied result) }
 {
     match numbered.rules.as_slice().get(place) {
         Some(rule) => {
-            if is_better(numbered, guesses, summary, size, heard, from, rule, found) {
+            if is_better(numbered, guesses, older, size, heard, from, rule, found) {
                 Some(rule)
             } else {
                 found
@@ -268,7 +278,7 @@ fn better_at<'a>(
 fn best_of_chain<'a>(
     numbered: &'a Numbered,
     guesses: &Guesses,
-    summary: &Summary,
+    older: &Older,
     links: &[u32],
     size: u64,
     heard: &[bool],
@@ -277,13 +287,13 @@ fn best_of_chain<'a>(
     found: Option<&'a NumberedRule>,
 ) -> Option<&'a NumberedRule>
     requires sound { IsSound numbered.now }
-    requires summed { IsSummed summary.now.heard.items summary.now.count summary.now.calm
-        numbered.now.atoms }
+    requires queued { AreQueued older.now.table older.now.keys.keys }
     requires size { 0 < size }
-    requires told { are_told size heard.now numbered.now.atoms ≡ true }
-    ensures better { Betters numbered.now from (option_copied found.entry) (option_copied result) }
+    requires told { are_told size heard.now (older.now.table ++ numbered.now.atoms) ≡ true }
+    ensures better { Betters (whole older.now.table numbered.now) from (option_copied found.entry)
+        (option_copied result) }
     ensures looked { (j : ℕ) → Reaches (length links.now) links.now head j →
-        IsLookedAt numbered.now from j (option_copied result) }
+        IsLookedAt (whole older.now.table numbered.now) from j (option_copied result) }
 {
     let mut best = found;
     let mut place = head;
@@ -295,7 +305,7 @@ fn best_of_chain<'a>(
                 best = better_at(
                     numbered,
                     guesses,
-                    summary,
+                    older,
                     size,
                     heard,
                     from,
@@ -314,7 +324,7 @@ fn best_of_chain<'a>(
 fn best_of_slot<'a>(
     numbered: &'a Numbered,
     guesses: &Guesses,
-    summary: &Summary,
+    older: &Older,
     waiting: &Waiting,
     size: u64,
     heard: &[bool],
@@ -323,21 +333,21 @@ fn best_of_slot<'a>(
     found: Option<&'a NumberedRule>,
 ) -> Option<&'a NumberedRule>
     requires sound { IsSound numbered.now }
-    requires summed { IsSummed summary.now.heard.items summary.now.count summary.now.calm
-        numbered.now.atoms }
+    requires queued { AreQueued older.now.table older.now.keys.keys }
     requires size { 0 < size }
-    requires told { are_told size heard.now numbered.now.atoms ≡ true }
+    requires told { are_told size heard.now (older.now.table ++ numbered.now.atoms) ≡ true }
     requires within { IfSome slot (λ s. s < length waiting.now.heads.items) }
-    ensures better { Betters numbered.now from (option_copied found.entry) (option_copied result) }
-    ensures looked { IsSlotLookedAt numbered.now from waiting.now.heads.items
-        waiting.now.links.items slot (option_copied result) }
+    ensures better { Betters (whole older.now.table numbered.now) from (option_copied found.entry)
+        (option_copied result) }
+    ensures looked { IsSlotLookedAt (whole older.now.table numbered.now) from
+        waiting.now.heads.items waiting.now.links.items slot (option_copied result) }
 {
     match slot {
         Some(slot) => {
             let head = waiting.heads[slot];
             let links = waiting.links.as_slice();
             best_of_chain(
-                numbered, guesses, summary, links, size, heard, from, head, found,
+                numbered, guesses, older, links, size, heard, from, head, found,
             )
         }
         None => found,
@@ -348,7 +358,7 @@ fn best_of_slot<'a>(
 fn best_of_next_slot<'a>(
     numbered: &'a Numbered,
     guesses: &Guesses,
-    summary: &Summary,
+    older: &Older,
     waiting: &Waiting,
     size: u64,
     heard: &[bool],
@@ -358,22 +368,22 @@ fn best_of_next_slot<'a>(
     found: Option<&'a NumberedRule>,
 ) -> Option<&'a NumberedRule>
     requires sound { IsSound numbered.now }
-    requires summed { IsSummed summary.now.heard.items summary.now.count summary.now.calm
-        numbered.now.atoms }
+    requires queued { AreQueued older.now.table older.now.keys.keys }
     requires size { 0 < size }
-    requires told { are_told size heard.now numbered.now.atoms ≡ true }
+    requires told { are_told size heard.now (older.now.table ++ numbered.now.atoms) ≡ true }
     requires within { IfSome slot (λ s. s < length waiting.now.heads.items) }
-    requires last { IsSlotLookedAt numbered.now from waiting.now.heads.items waiting.now.links.items
-        last (option_copied found) }
-    ensures better { Betters numbered.now from (option_copied found.entry) (option_copied result) }
-    ensures looked { IsSlotLookedAt numbered.now from waiting.now.heads.items
-        waiting.now.links.items slot (option_copied result) }
+    requires last { IsSlotLookedAt (whole older.now.table numbered.now) from
+        waiting.now.heads.items waiting.now.links.items last (option_copied found) }
+    ensures better { Betters (whole older.now.table numbered.now) from (option_copied found.entry)
+        (option_copied result) }
+    ensures looked { IsSlotLookedAt (whole older.now.table numbered.now) from
+        waiting.now.heads.items waiting.now.links.items slot (option_copied result) }
 {
     if is_same_slot(slot, last) {
         found
     } else {
         best_of_slot(
-            numbered, guesses, summary, waiting, size, heard, from, slot, found,
+            numbered, guesses, older, waiting, size, heard, from, slot, found,
         )
     }
 }
@@ -382,27 +392,97 @@ fn best_of_next_slot<'a>(
 fn best_of_rest<'a>(
     numbered: &'a Numbered,
     guesses: &Guesses,
-    summary: &Summary,
+    older: &Older,
     noted: usize,
     size: u64,
     heard: &[bool],
     from: u32,
 ) -> Option<&'a NumberedRule>
     requires sound { IsSound numbered.now }
-    requires summed { IsSummed summary.now.heard.items summary.now.count summary.now.calm
-        numbered.now.atoms }
+    requires queued { AreQueued older.now.table older.now.keys.keys }
     requires size { 0 < size }
-    requires told { are_told size heard.now numbered.now.atoms ≡ true }
-    ensures better { Betters numbered.now from None (option_copied result) }
+    requires told { are_told size heard.now (older.now.table ++ numbered.now.atoms) ≡ true }
+    ensures better { Betters (whole older.now.table numbered.now) from None
+        (option_copied result) }
     ensures looked { (j : ℕ) → noted ≤ j → j < length numbered.now.rules →
-        IsLookedAt numbered.now from j (option_copied result) }
+        IsLookedAt (whole older.now.table numbered.now) from j (option_copied result) }
 {
     let count = numbered.rules.len();
     let mut best = None;
     let mut place = noted;
     while place < count {
-        best = better_at(numbered, guesses, summary, size, heard, from, place, best);
+        best = better_at(numbered, guesses, older, size, heard, from, place, best);
         place += 1;
+    }
+    best
+}
+
+/// The best one of the rules that wait for one of the older messages, and of the one that was found
+/// so far.
+fn best_of_older<'a>(
+    numbered: &'a Numbered,
+    guesses: &Guesses,
+    older: &Older,
+    waiting: &Waiting,
+    size: u64,
+    heard: &[bool],
+    from: u32,
+    found: Option<&'a NumberedRule>,
+) -> Option<&'a NumberedRule>
+    requires sound { IsSound numbered.now }
+    requires queued { AreQueued older.now.table older.now.keys.keys }
+    requires some { 0 < length waiting.now.heads.items }
+    requires size { 0 < size }
+    requires told { are_told size heard.now (older.now.table ++ numbered.now.atoms) ≡ true }
+    ensures better { Betters (whole older.now.table numbered.now) from (option_copied found.entry)
+        (option_copied result) }
+    ensures looked { (key : Key) → IsIn key older.now.keys.keys →
+        IsSlotLookedAt (whole older.now.table numbered.now) from waiting.now.heads.items
+        waiting.now.links.items (Some (key.0 % length waiting.now.heads.items))
+        (option_copied result) }
+{
+    let slots = waiting.heads.as_slice().len() as u64;
+    let mut best = found;
+    let mut last = None;
+    for key in older.keys.iter() {
+        let slot = slot_of_number(slots, key.0);
+        best = best_of_next_slot(
+            numbered, guesses, older, waiting, size, heard, from, slot, last, best,
+        );
+        last = slot;
+    }
+    best
+}
+
+/// The best one of the rules that wait for one of the newest messages, and of those that were not
+/// noted.
+fn best_of_newest<'a>(
+    numbered: &'a Numbered,
+    guesses: &Guesses,
+    older: &Older,
+    waiting: &Waiting,
+    size: u64,
+    heard: &[bool],
+    from: u32,
+) -> Option<&'a NumberedRule>
+    requires sound { IsSound numbered.now }
+    requires queued { AreQueued older.now.table older.now.keys.keys }
+    requires filed { AreFiled waiting.now.heads.items waiting.now.links.items numbered.now.rules }
+    requires size { 0 < size }
+    requires told { are_told size heard.now (older.now.table ++ numbered.now.atoms) ≡ true }
+    ensures { LooksAtNewest (whole older.now.table numbered.now) from waiting.now.heads.items
+        waiting.now.links.items numbered.now.atoms (option_copied result) }
+{
+    let slots = waiting.heads.as_slice().len() as u64;
+    let noted = waiting.links.as_slice().len();
+    let mut best = best_of_rest(numbered, guesses, older, noted, size, heard, from);
+    let mut last = None;
+    for atom in numbered.atoms.as_slice() {
+        let slot = slot_of_term(slots, &atom.term);
+        best = best_of_next_slot(
+            numbered, guesses, older, waiting, size, heard, from, slot, last, best,
+        );
+        last = slot;
     }
     best
 }
@@ -412,92 +492,80 @@ fn best_of_rest<'a>(
 fn first_waiting<'a>(
     numbered: &'a Numbered,
     guesses: &Guesses,
-    summary: &Summary,
+    older: &Older,
     waiting: &Waiting,
     size: u64,
     heard: &[bool],
     from: u32,
 ) -> Option<&'a NumberedRule>
     requires sound { IsSound numbered.now }
-    requires summed { IsSummed summary.now.heard.items summary.now.count summary.now.calm
-        numbered.now.atoms }
+    requires queued { AreQueued older.now.table older.now.keys.keys }
     requires filed { AreFiled waiting.now.heads.items waiting.now.links.items numbered.now.rules }
     requires size { 0 < size }
-    requires told { are_told size heard.now numbered.now.atoms ≡ true }
-    ensures { IsFirstOf (is_ready numbered.now) (rule_before numbered.now from) numbered.now.rules
-        (option_copied result) }
+    requires told { are_told size heard.now (older.now.table ++ numbered.now.atoms) ≡ true }
+    ensures { IsFirstOf (is_ready (whole older.now.table numbered.now))
+        (rule_before numbered.now from) numbered.now.rules (option_copied result) }
 {
-    let slots = waiting.heads.as_slice().len() as u64;
-    let noted = waiting.links.as_slice().len();
-    let mut best = best_of_rest(numbered, guesses, summary, noted, size, heard, from);
-    let mut last = None;
-    for atom in numbered.atoms.as_slice() {
-        let slot = slot_of_term(slots, &atom.term);
-        best = best_of_next_slot(
-            numbered, guesses, summary, waiting, size, heard, from, slot, last, best,
-        );
-        last = slot;
-    }
-    best
+    let best = best_of_newest(numbered, guesses, older, waiting, size, heard, from);
+    best_of_older(numbered, guesses, older, waiting, size, heard, from, best)
 }
 
 /// The first of the rules that are ready, where there are few messages.
 fn first_by_no_table<'a>(
     numbered: &'a Numbered,
     guesses: &Guesses,
-    summary: &Summary,
+    older: &Older,
     waiting: &Waiting,
     from: u32,
 ) -> Option<&'a NumberedRule>
     requires sound { IsSound numbered.now }
-    requires summed { IsSummed summary.now.heard.items summary.now.count summary.now.calm
-        numbered.now.atoms }
+    requires queued { AreQueued older.now.table older.now.keys.keys }
     requires filed { AreFiled waiting.now.heads.items waiting.now.links.items numbered.now.rules }
-    ensures { IsFirstOf (is_ready numbered.now) (rule_before numbered.now from) numbered.now.rules
-        (option_copied result) }
+    ensures { IsFirstOf (is_ready (whole older.now.table numbered.now))
+        (rule_before numbered.now from) numbered.now.rules (option_copied result) }
 {
     let heard: [bool; 0] = [];
-    first_waiting(numbered, guesses, summary, waiting, 1, &heard, from)
+    first_waiting(numbered, guesses, older, waiting, 1, &heard, from)
 }
 
 /// The same where there are more: by a small table of the channels that have a message.
 fn first_by_small_table<'a>(
     numbered: &'a Numbered,
     guesses: &Guesses,
-    summary: &Summary,
+    older: &Older,
     waiting: &Waiting,
     from: u32,
 ) -> Option<&'a NumberedRule>
     requires sound { IsSound numbered.now }
-    requires summed { IsSummed summary.now.heard.items summary.now.count summary.now.calm
-        numbered.now.atoms }
+    requires queued { AreQueued older.now.table older.now.keys.keys }
     requires filed { AreFiled waiting.now.heads.items waiting.now.links.items numbered.now.rules }
-    ensures { IsFirstOf (is_ready numbered.now) (rule_before numbered.now from) numbered.now.rules
-        (option_copied result) }
+    ensures { IsFirstOf (is_ready (whole older.now.table numbered.now))
+        (rule_before numbered.now from) numbered.now.rules (option_copied result) }
 {
     let mut heard = [false; 1024];
     hear_all(1024, &mut heard, &numbered.atoms);
-    first_waiting(numbered, guesses, summary, waiting, 1024, &heard, from)
+    hear_older(1024, &mut heard, &older.keys);
+    first_waiting(numbered, guesses, older, waiting, 1024, &heard, from)
 }
 
 /// The same by a large table.
 fn first_by_large_table<'a>(
     numbered: &'a Numbered,
     guesses: &Guesses,
-    summary: &Summary,
+    older: &Older,
     waiting: &Waiting,
     from: u32,
 ) -> Option<&'a NumberedRule>
     requires sound { IsSound numbered.now }
-    requires summed { IsSummed summary.now.heard.items summary.now.count summary.now.calm
-        numbered.now.atoms }
+    requires queued { AreQueued older.now.table older.now.keys.keys }
     requires filed { AreFiled waiting.now.heads.items waiting.now.links.items numbered.now.rules }
-    ensures { IsFirstOf (is_ready numbered.now) (rule_before numbered.now from) numbered.now.rules
-        (option_copied result) }
+    ensures { IsFirstOf (is_ready (whole older.now.table numbered.now))
+        (rule_before numbered.now from) numbered.now.rules (option_copied result) }
 {
     let mut heard = [false; 65_536];
     hear_all(65_536, &mut heard, &numbered.atoms);
-    first_waiting(numbered, guesses, summary, waiting, 65_536, &heard, from)
+    hear_older(65_536, &mut heard, &older.keys);
+    first_waiting(numbered, guesses, older, waiting, 65_536, &heard, from)
 }
 
 /// The first of the rules that are ready. Few rules are all looked at, also where there are many
@@ -505,27 +573,27 @@ fn first_by_large_table<'a>(
 fn first_rule<'a>(
     numbered: &'a Numbered,
     guesses: &Guesses,
-    summary: &Summary,
+    older: &Older,
     waiting: &Waiting,
     from: u32,
 ) -> Option<&'a NumberedRule>
     requires sound { IsSound numbered.now }
-    requires summed { IsSummed summary.now.heard.items summary.now.count summary.now.calm
-        numbered.now.atoms }
+    requires queued { AreQueued older.now.table older.now.keys.keys }
     requires filed { AreFiled waiting.now.heads.items waiting.now.links.items numbered.now.rules }
-    ensures { IsFirstOf (is_ready numbered.now) (rule_before numbered.now from) numbered.now.rules
-        (option_copied result) }
+    ensures { IsFirstOf (is_ready (whole older.now.table numbered.now))
+        (rule_before numbered.now from) numbered.now.rules (option_copied result) }
 {
-    let atoms = numbered.atoms.len();
+    let kept = older.keys.len();
+    let atoms = numbered.atoms.len().saturating_add(kept);
     let rules = numbered.rules.len();
-    if rules < 4 || rules < summary.count / 8 {
-        first_of_few(numbered, guesses, summary, from)
+    if rules < 4 || rules < kept / 16 {
+        first_of_few(numbered, guesses, older, from)
     } else if atoms < 8 {
-        first_by_no_table(numbered, guesses, summary, waiting, from)
+        first_by_no_table(numbered, guesses, older, waiting, from)
     } else if atoms < 128 {
-        first_by_small_table(numbered, guesses, summary, waiting, from)
+        first_by_small_table(numbered, guesses, older, waiting, from)
     } else {
-        first_by_large_table(numbered, guesses, summary, waiting, from)
+        first_by_large_table(numbered, guesses, older, waiting, from)
     }
 }
 
@@ -597,21 +665,16 @@ fn first_request_of<'a>(
 fn first_request<'a>(
     numbered: &'a Numbered,
     guesses: &Guesses,
-    summary: &Summary,
+    older: &Older,
     from: u32,
 ) -> Option<&'a NumberedAtom>
     requires sound { IsSound numbered.now }
-    requires summed { IsSummed summary.now.heard.items summary.now.count summary.now.calm
-        numbered.now.atoms }
-    ensures { IsFirstOf (can_act numbered.now) (request_before numbered.now from) numbered.now.atoms
+    requires queued { AreQueued older.now.table older.now.keys.keys }
+    ensures { IsFirstOf (can_act (whole older.now.table numbered.now))
+        (request_before numbered.now from) (older.now.table ++ numbered.now.atoms)
         (option_copied result) }
 {
-    first_request_of(
-        numbered,
-        guesses,
-        from,
-        rest_for_requests(numbered, summary),
-    )
+    first_request_of(numbered, guesses, from, numbered.atoms.as_slice())
 }
 
 /// The reaction of a rule, by the least message for each of its patterns.
@@ -619,16 +682,16 @@ fn reaction(
     alloc: Global,
     numbered: &Numbered,
     guesses: &Guesses,
-    summary: &Summary,
+    older: &Older,
     rule: &NumberedRule,
 ) -> Result<Found, Memory>
     requires sound { IsSound numbered.now }
-    requires summed { IsSummed summary.now.heard.items summary.now.count summary.now.calm
-        numbered.now.atoms }
-    requires ready { is_ready numbered.now rule.now ≡ true }
-    ensures { IfOk result (λ found. IsReaction numbered.now rule.now found) }
+    requires queued { AreQueued older.now.table older.now.keys.keys }
+    requires ready { is_ready (whole older.now.table numbered.now) rule.now ≡ true }
+    ensures { IfOk result (λ found.
+        IsReaction (whole older.now.table numbered.now) rule.now found) }
 {
-    let took = least_messages(alloc, numbered, summary, rule.loc, &rule.pats)?;
+    let took = least_messages(alloc, numbered, older, rule.loc, &rule.pats)?;
     Ok(Found {
         site: root_of(numbered, guesses, rule.loc).site,
         event: Event::React {
@@ -670,34 +733,35 @@ pub(crate) fn first_event(
     alloc: Global,
     numbered: &Numbered,
     guesses: &Guesses,
-    summary: &Summary,
+    older: &Older,
     waiting: &Waiting,
     from: u32,
 ) -> Result<Option<Found>, Memory>
+    requires all { IsSound (whole older.now.table numbered.now) }
     requires sound { IsSound numbered.now }
-    requires summed { IsSummed summary.now.heard.items summary.now.count summary.now.calm
-        numbered.now.atoms }
+    requires queued { AreQueued older.now.table older.now.keys.keys }
     requires filed { AreFiled waiting.now.heads.items waiting.now.links.items numbered.now.rules }
-    ensures found { IfOk result (λ found. IsFound numbered.now from found) }
-    ensures memory { OnErr result (IsFound numbered.now from None → ⊥) }
+    ensures found { IfOk result (λ found.
+        IsFound (whole older.now.table numbered.now) from found) }
+    ensures memory { OnErr result (IsFound (whole older.now.table numbered.now) from None → ⊥) }
 {
-    match first_rule(numbered, guesses, summary, waiting, from) {
-        Some(rule) => match first_request(numbered, guesses, summary, from) {
+    match first_rule(numbered, guesses, older, waiting, from) {
+        Some(rule) => match first_request(numbered, guesses, older, from) {
             Some(request) => {
                 if turn(numbered, guesses, from, request.loc)
                     < turn(numbered, guesses, from, rule.loc)
                 {
                     return Ok(meeting(numbered, guesses, request));
                 }
-                let found = reaction(alloc, numbered, guesses, summary, rule)?;
+                let found = reaction(alloc, numbered, guesses, older, rule)?;
                 Ok(Some(found))
             }
             None => {
-                let found = reaction(alloc, numbered, guesses, summary, rule)?;
+                let found = reaction(alloc, numbered, guesses, older, rule)?;
                 Ok(Some(found))
             }
         },
-        None => match first_request(numbered, guesses, summary, from) {
+        None => match first_request(numbered, guesses, older, from) {
             Some(request) => Ok(meeting(numbered, guesses, request)),
             None => Ok(None),
         },
@@ -708,18 +772,18 @@ pub(crate) fn first_event(
 pub(crate) fn is_stuck(
     numbered: &Numbered,
     guesses: &Guesses,
-    summary: &Summary,
+    older: &Older,
     waiting: &Waiting,
 ) -> bool
+    requires all { IsSound (whole older.now.table numbered.now) }
     requires sound { IsSound numbered.now }
-    requires summed { IsSummed summary.now.heard.items summary.now.count summary.now.calm
-        numbered.now.atoms }
+    requires queued { AreQueued older.now.table older.now.keys.keys }
     requires filed { AreFiled waiting.now.heads.items waiting.now.links.items numbered.now.rules }
-    ensures { IsTrue result ↔ IsFound numbered.now 0 None }
+    ensures { IsTrue result ↔ IsFound (whole older.now.table numbered.now) 0 None }
 {
-    match first_rule(numbered, guesses, summary, waiting, 0) {
+    match first_rule(numbered, guesses, older, waiting, 0) {
         Some(_) => false,
-        None => match first_request(numbered, guesses, summary, 0) {
+        None => match first_request(numbered, guesses, older, 0) {
             Some(_) => false,
             None => true,
         },

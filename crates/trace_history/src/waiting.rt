@@ -1,5 +1,5 @@
 // Which rules wait for a message, by the channel of one of their patterns.
-ghost use Rattle.std.specs.Prelude.{◌≡◌, ◌<◌, ◌⊎◌, length, true, Some, IfSome, IfOk};
+ghost use Rattle.std.specs.Prelude.{◌≡◌, ◌<◌, ◌%◌, ◌⊎◌, length, true, Some, IfSome, IfOk};
 ghost use Rattle.trace_history.specs.Heard.{slot_of};
 ghost use Rattle.trace_history.specs.Waiting.{AreFiled, Chains, IsSlotOf, slot_of_term};
 
@@ -167,6 +167,14 @@ pub(crate) fn slot_of_term(size: u64, term: &Proc) -> Option<usize>
         ProcNode::Msg { on, .. } => Some(slot_of(size, *on)),
         _ => None,
     }
+}
+
+/// The slot of a channel with this number.
+pub(crate) fn slot_of_number(size: u64, number: u64) -> Option<usize>
+    requires { 0 < size }
+    ensures { result ≡ Some (number % size) }
+{
+    Some((number % size) as usize)
 }
 
 /// Whether these are one slot.

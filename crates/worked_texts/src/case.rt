@@ -2,8 +2,22 @@
 
 use std::alloc::{AllocError, Global};
 
+/// What free threads may print where one thread prints a text.
+#[derive(Clone, Copy)]
+pub enum Freely {
+    /// That text.
+    Same,
+    /// Its lines in any order, the last one last.
+    AnyOrder,
+    /// The same, where in each of these pairs the first line stands before the second.
+    Before(&'static [(&'static str, &'static str)]),
+    /// One of these.
+    OneOf(&'static [&'static str]),
+}
+
 /// The words, the text as its pieces, each so many times, and what comes of them: the status, the
-/// bytes on the two sinks, and how many events are kept.
+/// bytes on the two sinks, how many events are kept, and what free threads may print in its place.
+#[derive(Drop)]
 pub struct Case {
     pub words: &'static [&'static str],
     pub text: &'static [(u32, &'static str)],
@@ -11,6 +25,7 @@ pub struct Case {
     pub out: &'static str,
     pub err: &'static str,
     pub events: Option<usize>,
+    pub freely: Freely,
 }
 
 /// A text that is run with ten events at most and ends quiet, with no event and no observable.
@@ -21,6 +36,7 @@ pub const QUIET: Case = Case {
     out: "quiescent\n",
     err: "",
     events: Some(0),
+    freely: Freely::Same,
 };
 
 impl Case {

@@ -7,7 +7,7 @@ mod programs;
 mod rounds;
 mod small;
 
-pub use case::{Case, QUIET};
-pub use programs::examples;
+pub use case::{Case, Freely, QUIET};
+pub use programs::{examples_of_locations, examples_of_messages};
 pub use rounds::runs_in_rounds;
 pub use small::runs;

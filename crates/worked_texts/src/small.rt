@@ -1,6 +1,6 @@
 // Texts that are run.
 
-use crate::case::{Case, QUIET};
+use crate::case::{Case, Freely, QUIET};
 
 const RUNS: &[Case] = &[
     // The least whole run.
@@ -113,6 +113,7 @@ const RUNS: &[Case] = &[
         )],
         out: "out(s)\nquiescent\n",
         events: Some(1),
+        freely: Freely::OneOf(&["out(s)\nquiescent\n", "out(t)\nquiescent\n"]),
         ..QUIET
     },
     // A definition takes all to its right.
@@ -153,6 +154,7 @@ const RUNS: &[Case] = &[
         )],
         out: "out(m)\nout(a)\nquiescent\n",
         events: Some(4),
+        freely: Freely::AnyOrder,
         ..QUIET
     },
     // A location that a halted site hosts doesn't react.

@@ -46,5 +46,5 @@ returns-clause-how g c =
     let kept = c.in-Ok-run.ran.kept in
     let is_asked : task c.args.words.now ≡ Some a = search rules in
     let same : kept.program ≡ c.in-Ok-program_of.program = search rules in
-    let made : IsMadeBy a.by kept.program a.budget kept.journal kept.how = subst (λ (p : ProgramTerms). IsMadeBy a.by p a.budget kept.journal kept.how) (sym same) c.in-Ok-run.ensures.made in
+    let made : IsMadeBy a.by a.workers a.budget kept.program kept.journal kept.how = subst (λ (p : ProgramTerms). IsMadeBy a.by a.workers a.budget p kept.journal kept.how) (sym same) c.in-Ok-run.ensures.made in
     made_as_asked c.args.words.now a _ _ kept c.end-in-Ok-run.ensures.ended is_asked made

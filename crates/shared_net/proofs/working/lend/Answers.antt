@@ -1,4 +1,4 @@
-use Rattle.std.proofs.Common.{◌≡◌, ℕ, ◌<◌, length, ap, sym, ◌∙◌, rules}
+use Rattle.std.proofs.Common.{ℕ, ◌<◌, length, ap, sym, ◌∙◌, rules}
 use Rattle.shared_net.specs.Passes.{PassKept}
 use Rattle.shared_net.specs.Turning.{owner}
 use Rattle.shared_net.proofs.Owners.{same_owners}

@@ -1,12 +1,13 @@
 -- One rule more of the chain was looked at; a number that is no place ends it.
 use Rattle.std.proofs.Common.{◌≡◌, suc, ◌-◌, arith}
 use Rattle.std.specs.Option.{option_copied}
+use Rattle.trace_history.specs.Older.{whole}
 use Rattle.trace_history.proofs.Looked.{betters_along, walked_next, walked_past}
 use Rattle.trace_history.proofs.search.best_of_chain.Goals as goal
 
 pub loop-left-preserved : goal.loop-left-preserved
 loop-left-preserved c =
-    let n = c.args.numbered.now in
+    let n = whole c.args.older.now.table c.args.numbered.now in
     let old = option_copied c.loop-left.best in
     let new = option_copied c.better_at-best.result in
     let less : c.loop-left.left ≡ suc (c.loop-left.left - 1) = omega (arith, c.loop-left-test.true) in (
@@ -17,4 +18,4 @@ loop-left-preserved c =
 
 pub returns-in-None-clause-looked : goal.returns-in-None-clause-looked
 returns-in-None-clause-looked c =
-    walked_past c.args.numbered.now c.args.from c.args.links.now c.args.head c.loop-left.left c.loop-left.place (option_copied c.loop-left.best) c.in-None.ensures.lookup.3 c.loop-left.invariant.1
+    walked_past (whole c.args.older.now.table c.args.numbered.now) c.args.from c.args.links.now c.args.head c.loop-left.left c.loop-left.place (option_copied c.loop-left.best) c.in-None.ensures.lookup.3 c.loop-left.invariant.1

@@ -1,21 +1,12 @@
--- The rules that wait for one message more were looked at, and at the end all that may be ready.
-use Rattle.std.proofs.Common.{◌≡◌, ℕ, length, ap, ◌∙◌, rules}
+-- The rules that wait for a message were looked at, and those that were not noted: these are all that may be ready.
+use Rattle.std.proofs.Common.{refl}
 use Rattle.std.specs.Option.{option_copied}
-use Rattle.trace_history.specs.Waiting.{slot_of_term}
-use Rattle.trace_history.proofs.Looked.{next_so_far, first_at_end}
+use Rattle.trace_history.specs.Older.{whole}
+use Rattle.trace_history.proofs.Looked.{first_of_both}
 use Rattle.trace_history.proofs.search.first_waiting.Goals as goal
-
-pub loop-atom-preserved : goal.loop-atom-preserved
-loop-atom-preserved c =
-    let n = c.args.numbered.now in
-    let heads = c.args.waiting.now.heads.items in
-    let a = c.atom-item.result in
-    let sized : length c.as_slice.result.now ≡ length heads = search rules in
-    next_so_far n c.args.from heads c.args.waiting.now.links.items c.as_slice-atom-items.result.now c.loop-atom.atom-index c.loop-atom.last (option_copied c.loop-atom.best) (option_copied c.best_of_next_slot-best.result) a c.slot_of_term-slot.result
-    c.loop-atom-test.true c.atom-item.is (c.slot_of_term-slot.ensures ∙ ap (λ (k : ℕ). slot_of_term k a.term) sized) c.best_of_next_slot-best.ensures.better c.best_of_next_slot-best.ensures.looked c.loop-atom.invariant
 
 pub returns : goal.returns
 returns c =
-    let n = c.args.numbered.now in
-    first_at_end n c.args.from c.args.waiting.now.heads.items c.args.waiting.now.links.items c.as_slice-atom-items.result.now c.loop-atom.atom-index c.loop-atom.last (option_copied c.loop-atom.best)
-    c.requires.filed c.as_slice-atom-items.ensures.members c.loop-atom-test.false c.loop-atom.invariant
+    let n = whole c.args.older.now.table c.args.numbered.now in
+    first_of_both n c.args.from c.args.waiting.now.heads.items c.args.waiting.now.links.items c.args.older.now.table c.args.numbered.now.atoms c.args.older.now.keys.keys (option_copied c.best_of_newest-best.result) (option_copied c.best_of_older.result)
+    refl c.requires.filed c.requires.queued c.best_of_newest-best.ensures c.best_of_older.ensures.better c.best_of_older.ensures.looked

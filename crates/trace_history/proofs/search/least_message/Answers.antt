@@ -1,8 +1,16 @@
--- Those that are left out aren't received.
+-- The least of the older messages, and of the newest ones.
+use Rattle.std.proofs.Common.{List, ◌++◌, subst}
 use Rattle.std.specs.Option.{option_copied}
-use Rattle.trace_history.specs.Search.{receives, atom_before}
-use Rattle.trace_history.proofs.Summing.{behind_first}
+use Rattle.chem_model.specs.declared.numbered.NumberedAtom.{NumberedAtom}
+use Rattle.trace_history.specs.Search.{IsFirstOf, receives, atom_before}
+use Rattle.trace_history.proofs.Founds.{messages_order}
+use Rattle.trace_history.proofs.Joined.{first_joined}
 use Rattle.trace_history.proofs.search.least_message.Goals as goal
 
 pub returns : goal.returns
-returns c = behind_first (receives c.args.at c.args.pat.now) atom_before c.args.numbered.now.atoms c.rest_for.result.now (option_copied c.least_of.result) (c.rest_for.ensures c.args.at) c.least_of.ensures
+returns c =
+    let old = c.args.older.now.table in
+    let test = receives c.args.at c.args.pat.now in
+    let o = option_copied c.least_of.result in
+    subst (λ (l : List NumberedAtom). IsFirstOf test atom_before (old ++ l) o) c.as_slice.ensures.members
+    (first_joined test atom_before messages_order old c.as_slice.result.now (option_copied c.first_older-kept.result) o c.first_older-kept.ensures c.least_of.ensures)

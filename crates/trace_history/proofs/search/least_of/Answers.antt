@@ -1,10 +1,10 @@
 -- All members were looked at.
-use Rattle.std.proofs.Common.{refl}
+use Rattle.std.proofs.Common.{List, ap, sym, ◌∙◌}
 use Rattle.std.specs.Option.{option_copied}
-use Rattle.trace_history.specs.Search.{receives, atom_before}
-use Rattle.trace_history.proofs.FirstOf.{finds_at_end}
-use Rattle.trace_history.proofs.Founds.{messages_order}
+use Rattle.std.proofs.lemmas.List.{drop_all}
+use Rattle.chem_model.specs.declared.numbered.NumberedAtom.{NumberedAtom}
+use Rattle.trace_history.specs.Search.{first_of, receives, atom_before}
 use Rattle.trace_history.proofs.search.least_of.Goals as goal
 
 pub returns : goal.returns
-returns c = finds_at_end (receives c.args.at c.args.pat.now) atom_before messages_order c.args.atoms.now c.args.atoms.now c.loop-atom.atom-index (option_copied c.loop-atom.least) refl c.loop-atom-test.false c.loop-atom.invariant
+returns c = sym c.loop-atom.invariant ∙ ap (λ (l : List NumberedAtom). first_of (receives c.args.at c.args.pat.now) atom_before (option_copied c.loop-atom.least) l) (drop_all c.loop-atom.atom-index c.args.atoms.now c.loop-atom-test.false)

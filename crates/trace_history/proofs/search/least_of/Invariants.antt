@@ -1,9 +1,7 @@
 use Rattle.std.proofs.Common.{◌≡◌, drop}
-use Rattle.std.specs.Prelude.{None}
 use Rattle.std.specs.Option.{option_copied}
-use Rattle.trace_history.specs.Search.{receives, atom_before}
-use Rattle.trace_history.proofs.FirstOf.{first_of}
+use Rattle.trace_history.specs.Search.{first_of, receives, atom_before}
 use Rattle.trace_history.proofs.search.least_of.Given as goal
 
 abbrev pub invariant-loop-atom : goal.invariant-loop-atom
-invariant-loop-atom l = first_of (receives l.at l.pat) atom_before (option_copied l.least) (drop l.atom-index l.atoms) ≡ first_of (receives l.at l.pat) atom_before None l.atoms
+invariant-loop-atom l = first_of (receives l.at l.pat) atom_before (option_copied l.least) (drop l.atom-index l.atoms) ≡ first_of (receives l.at l.pat) atom_before (option_copied l.fn.found) l.atoms

@@ -1,5 +1,5 @@
--- The solution that the book holds.
+-- The solution to which the journal leads.
 use Rattle.trace_history.proofs.book.Book.replays.Goals as goal
 
 pub returns : goal.returns
-returns c = (c.self.inside.solution, rw (← c.self.view_is) c.self.invariant.0)
+returns c = (c.self.invariant.0.left, rw (← c.self.view_is) c.self.invariant.0.replays)

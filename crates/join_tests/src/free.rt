@@ -1,0 +1,162 @@
+// Runs on free threads.
+ghost use denote.Param.Send.{IsSync};
+
+use crate::outcome::{Made, Outcome, call, call_through, roomy_sink, source_of};
+use crate::rounds::words_by;
+use chem_model::Memory;
+use join_top::{HoldGate, Threaded};
+use std::marker::Sync;
+use std::process::Abort;
+use std::sync::Wait;
+use std::test::Fail;
+use std::thread::Threads;
+use worked_texts::{Case, Freely, QUIET, examples_of_locations, examples_of_messages, runs};
+
+/// How often a line occurs in a text.
+fn times(line: &[u8], text: &[u8]) -> usize {
+    text.split(|byte| *byte == b'\n')
+        .filter(|other| *other == line)
+        .count()
+}
+
+/// Whether each line of the text occurs as often in the other, and the last one stands last there.
+fn has_lines_of(other: &[u8], text: &[u8]) -> bool {
+    let mut last: &[u8] = b"";
+    for line in text.split(|byte| *byte == b'\n') {
+        if times(line, text) != times(line, other) {
+            return false;
+        }
+        if !line.is_empty() {
+            last = line;
+        }
+    }
+    other.len() == text.len()
+        && other
+            .strip_suffix(b"\n")
+            .is_some_and(|it| it.ends_with(last))
+}
+
+/// Whether one line stands in a text before another.
+fn stands_before(line: &[u8], other: &[u8], text: &[u8]) -> bool {
+    for next in text.split(|byte| *byte == b'\n') {
+        if next == line {
+            return true;
+        }
+        if next == other {
+            return false;
+        }
+    }
+    false
+}
+
+/// Whether the first line of each pair stands before the second one.
+fn keep_order(text: &[u8], pairs: &[(&'static str, &'static str)]) -> bool {
+    for (line, other) in pairs {
+        if !stands_before(line.as_bytes(), other.as_bytes(), text) {
+            return false;
+        }
+    }
+    true
+}
+
+/// Whether free threads may print this text in the case.
+fn may_print(printed: &[u8], case: &Case) -> bool {
+    match case.freely {
+        Freely::Same => printed == case.out.as_bytes(),
+        Freely::AnyOrder => has_lines_of(printed, case.out.as_bytes()),
+        Freely::Before(pairs) => {
+            has_lines_of(printed, case.out.as_bytes()) && keep_order(printed, pairs)
+        }
+        Freely::OneOf(texts) => texts.iter().any(|text| printed == text.as_bytes()),
+    }
+}
+
+/// A case on free threads, with so many workers.
+fn run_freely<R: AllocGlobal + Abort + Threads + Wait + Sync>(
+    rt: &R,
+    case: &Case,
+    workers: &'static str,
+) -> Result<Outcome, Memory>
+    requires { IsSync R.row }
+{
+    let alloc = rt.alloc();
+    let words = words_by(alloc, case, "run", workers)?;
+    let source = case.source(alloc)?;
+    let source = source_of(alloc, source.as_slice())?;
+    call(rt, words.as_slice(), source, roomy_sink(alloc)?)
+}
+
+/// That a case ends on free threads as it may, and that the workers made each event.
+fn expect_shared<R: AllocGlobal + Abort + Threads + Wait + Sync>(
+    rt: &R,
+    case: &Case,
+    workers: &'static str,
+) -> Result<(), Fail>
+    requires { IsSync R.row }
+{
+    let run = run_freely(rt, case, workers)?;
+    assert_eq!(rt; run.ended.status, case.status);
+    assert!(rt; may_print(run.out.taken(), case));
+    assert_eq!(rt; run.events(), case.events);
+    let events = case.events.map(|events| Made::Shared(events as u64));
+    assert_eq!(rt; run.made(), events);
+    Ok(())
+}
+
+#[test]
+fn worked_texts_on_free_threads(rt: HostRuntime) -> Result<(), Fail> {
+    for cases in [runs(), examples_of_messages(), examples_of_locations()] {
+        for case in cases {
+            for workers in ["1", "2", "16"] {
+                expect_shared(&rt, case, workers)?;
+            }
+        }
+    }
+    Ok(())
+}
+
+/// A ring of 64 sites.
+const RING: Case = Case {
+    words: &["gen", "64", "--budget", "1000", "--by", "run"],
+    text: &[(1, "this is not read")],
+    out: "events 640\nobservables 64\nquiescent\n",
+    events: Some(640),
+    ..QUIET
+};
+
+#[test]
+fn a_ring_on_free_threads(rt: HostRuntime) -> Result<(), Fail> {
+    expect_shared(&rt, &RING, "1")?;
+    expect_shared(&rt, &RING, "4")
+}
+
+/// Ten messages at each of two sites.
+const TWO_SITES: &str = "site s [ x() => 0 : x() | x() | x() | x() | x() | x() | x() | x() | x() | \
+    x() ] site t [ y() => 0 : y() | y() | y() | y() | y() | y() | y() | y() | y() | y() ]";
+
+/// How a run of the two sites by two workers was made, through a gate that holds each of them until
+/// the other has come, and whether one of them gave up.
+fn through_the_gate<R: AllocGlobal + Abort + Threads + Wait + Sync>(
+    rt: &R,
+) -> Result<(Option<Made>, bool), Memory>
+    requires { IsSync R.row }
+{
+    let alloc = rt.alloc();
+    let gate = HoldGate::new();
+    let words = ["run", "--budget", "20", "--workers", "2"];
+    let source = source_of(alloc, TWO_SITES.as_bytes())?;
+    let out = roomy_sink(alloc)?;
+    let err = roomy_sink(alloc)?;
+    let run = call_through(alloc, &words, source, out, err, &gate, &Threaded::new(rt))?;
+    Ok((run.made(), gate.gave_up()))
+}
+
+/// Two workers are inside their turns at once: one thread can't pass the gate, nor one lock round
+/// everything.
+#[test]
+fn two_workers_work_at_once(rt: HostRuntime) -> Result<(), Fail> {
+    let (made, gave_up) = through_the_gate(&rt)?;
+    assert_eq!(rt; made, Some(Made::Shared(20)));
+    assert!(rt; !gave_up);
+    Ok(())
+}

@@ -1,0 +1,225 @@
+// Runs whose reads and writes fail, as data, each by every command.
+ghost use denote.Param.Send.{IsSync};
+
+use crate::cases::{REFUSED, expect};
+use crate::outcome::call_into;
+use crate::refusals::refusals;
+use chem_model::Items;
+use join_base::{MemSink, MemSource};
+use std::marker::Sync;
+use std::process::Abort;
+use std::sync::Wait;
+use std::test::Fail;
+use std::thread::Threads;
+use worked_texts::{Case, QUIET};
+
+/// More bytes than any line or text of these runs has.
+const ROOM: u32 = 4096;
+
+/// The words of each command that runs a text.
+const COMMANDS: &[&[&str]] = &[
+    &["alone", "--budget", "10"],
+    &["rounds", "--budget", "10"],
+    &["run", "--budget", "10"],
+];
+
+/// A case, and the numbers of the reads, of the writes and of the writes to the sink of errors that
+/// fail in it. The source gives 16 bytes a read, the sinks take 4 and 8 bytes a write.
+#[derive(Drop)]
+struct Fault {
+    reads: &'static [u32],
+    writes: &'static [u32],
+    lines: &'static [u32],
+    case: Case,
+}
+
+/// Of the four reads one fails.
+const READ_FAULT: Case = Case {
+    text: &[(1, "observe out/1; site s [ x(u) => out(u) : x(s) ]")],
+    status: 3,
+    err: "read fault\n",
+    ..REFUSED
+};
+
+/// Of the five writes one fails. The run is kept.
+const WRITE_FAULT: Case = Case {
+    text: &[(1, "observe out/1; site s [ x(u) => out(u) : x(s) ]")],
+    status: 4,
+    out: "",
+    err: "write fault\n",
+    events: Some(1),
+    ..QUIET
+};
+
+/// An unknown name.
+const UNKNOWN: Case = Case {
+    text: &[(1, "site s [ none : q() ]")],
+    err: "scope 1 at 16\n",
+    ..REFUSED
+};
+
+/// Nothing fails.
+const NO_FAULT: Fault = Fault {
+    reads: &[],
+    writes: &[],
+    lines: &[],
+    case: UNKNOWN,
+};
+
+const FAULTS: &[Fault] = &[
+    // Whichever read fails, also the one that would find the end, nothing but the line of the fault
+    // is written.
+    Fault {
+        reads: &[1],
+        case: READ_FAULT,
+        ..NO_FAULT
+    },
+    Fault {
+        reads: &[2],
+        case: READ_FAULT,
+        ..NO_FAULT
+    },
+    Fault {
+        reads: &[3],
+        case: READ_FAULT,
+        ..NO_FAULT
+    },
+    Fault {
+        reads: &[4],
+        case: READ_FAULT,
+        ..NO_FAULT
+    },
+    // A text that is refused at its first byte is read to its end first.
+    Fault {
+        reads: &[2],
+        case: Case {
+            text: &[(40, "$")],
+            ..READ_FAULT
+        },
+        ..NO_FAULT
+    },
+    // Whichever write fails, what was written before it stands there.
+    Fault {
+        writes: &[1],
+        case: WRITE_FAULT,
+        ..NO_FAULT
+    },
+    Fault {
+        writes: &[2],
+        case: Case {
+            out: "out(",
+            ..WRITE_FAULT
+        },
+        ..NO_FAULT
+    },
+    Fault {
+        writes: &[3],
+        case: Case {
+            out: "out(s)\nq",
+            ..WRITE_FAULT
+        },
+        ..NO_FAULT
+    },
+    Fault {
+        writes: &[4],
+        case: Case {
+            out: "out(s)\nquies",
+            ..WRITE_FAULT
+        },
+        ..NO_FAULT
+    },
+    Fault {
+        writes: &[5],
+        case: Case {
+            out: "out(s)\nquiescent",
+            ..WRITE_FAULT
+        },
+        ..NO_FAULT
+    },
+    // A line that is lost, or cut, leaves the status of its cause.
+    Fault {
+        lines: &[1],
+        case: Case { err: "", ..UNKNOWN },
+        ..NO_FAULT
+    },
+    Fault {
+        lines: &[2],
+        case: Case {
+            err: "scope 1 ",
+            ..UNKNOWN
+        },
+        ..NO_FAULT
+    },
+    Fault {
+        reads: &[3],
+        lines: &[1],
+        case: Case {
+            err: "",
+            ..READ_FAULT
+        },
+        ..NO_FAULT
+    },
+    Fault {
+        writes: &[2],
+        lines: &[2],
+        case: Case {
+            out: "out(",
+            err: "write fa",
+            ..WRITE_FAULT
+        },
+        ..NO_FAULT
+    },
+    // Calls that aren't made can't fail.
+    Fault {
+        reads: &[5],
+        writes: &[6],
+        lines: &[1],
+        case: Case {
+            status: 0,
+            out: "out(s)\nquiescent\n",
+            err: "",
+            ..WRITE_FAULT
+        },
+    },
+];
+
+/// That a run with these words ends as the fault says.
+fn expect_fault<R: AllocGlobal + Abort + Threads + Wait + Sync>(
+    rt: &R,
+    words: &[&str],
+    fault: &Fault,
+) -> Result<(), Fail>
+    requires { IsSync R.row }
+{
+    let alloc = rt.alloc();
+    let text = fault.case.source(alloc)?;
+    let text = Items::from_slice(alloc, text.as_slice())?;
+    let source = MemSource::new(text, 16, Items::from_slice(alloc, fault.reads)?);
+    let out = MemSink::new(alloc, ROOM, 4, Items::from_slice(alloc, fault.writes)?)?;
+    let err = MemSink::new(alloc, ROOM, 8, Items::from_slice(alloc, fault.lines)?)?;
+    let run = call_into(rt, words, source, out, err)?;
+    run.expect(rt, fault.case.status, fault.case.out, fault.case.err);
+    assert_eq!(rt; run.events(), fault.case.events);
+    Ok(())
+}
+
+#[test]
+fn faults_by_each_command(rt: HostRuntime) -> Result<(), Fail> {
+    for words in COMMANDS {
+        for fault in FAULTS {
+            expect_fault(&rt, *words, fault)?;
+        }
+    }
+    Ok(())
+}
+
+/// A text is refused alike by each command.
+#[test]
+fn refusals_by_each_command(rt: HostRuntime) -> Result<(), Fail> {
+    for words in COMMANDS {
+        for case in refusals() {
+            expect(&rt, *words, case)?;
+        }
+    }
+    Ok(())
+}
