@@ -4,7 +4,6 @@ ghost use Rattle.std.specs.Prelude.{IfSome, IfNone, IsTrue, true};
 ghost use Rattle.chem_model.specs.Each.{Each};
 ghost use Rattle.wire_packet.specs.declared.packet.Request.{Request};
 ghost use Rattle.env_store.specs.CodeParts.{CodeParts};
-ghost use Rattle.env_store.specs.CodeFacts.{IsCode};
 ghost use Rattle.net_laws.specs.Site.{Site};
 ghost use Rattle.net_laws.specs.Net.{Net};
 ghost use Rattle.net_laws.specs.Holding.{precedes};
@@ -24,16 +23,9 @@ use env_store::Code;
 use failure::{dead_for, halt_ready};
 use loc_tree::LocTree;
 use migration::move_ready;
-use reducer::{Pick, births, may_fire, ready};
+use reducer::{Pick, births, code_is_kept, may_fire, ready};
 use site_solution::{Site, site_is_kept};
 use wire_packet::{Ask, Request};
-
-// The facts of code hold. It does nothing.
-fn code_is_kept(code: &Code)
-    ensures { IsCode code.now }
-{
-    let _guards = &code.guards;
-}
 
 // ---- reactions
 

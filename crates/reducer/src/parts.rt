@@ -4,8 +4,8 @@ ghost use Rattle.env_store.specs.CodeFacts.{IsCode};
 
 use env_store::{Code, Guard, Level};
 
-// The guard with this number.
-pub(crate) fn guard_at(code: &Code, number: u32) -> &Guard
+/// The guard with this number.
+pub fn guard_at(code: &Code, number: u32) -> &Guard
     requires { number < length code.now.guards }
     ensures at { slice_get code.now.guards number ≡ Some result.now }
     ensures is { IsCode code.now }
@@ -26,8 +26,8 @@ pub(crate) fn level_at(code: &Code, number: u32) -> &Level
     level
 }
 
-// The facts of code hold. It does nothing.
-pub(crate) fn code_is_kept(code: &Code)
+/// The facts of code hold. It does nothing.
+pub fn code_is_kept(code: &Code)
     ensures { IsCode code.now }
 {
     let _guards = &code.guards;

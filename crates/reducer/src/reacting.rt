@@ -18,8 +18,8 @@ use loc_tree::LocTree;
 use site_solution::{Effects, Site, site_is_kept};
 use std::alloc::Global;
 
-// The arguments of the fronts of these queues of a group.
-fn front_args(alloc: Global, site: &Site, group: u32, chans: &[u32]) -> Result<Names, Memory>
+/// The arguments of the fronts of these queues of a group, in order.
+pub fn front_args(alloc: Global, site: &Site, group: u32, chans: &[u32]) -> Result<Names, Memory>
     requires group { group < length site.now.groups }
     requires chans { Each (λ c. c < length (queues_of site.now.groups group)) chans.now }
     ensures { IfOk result (λ args. args

@@ -1,7 +1,6 @@
 // Reactions that open no location: the tree stays.
-ghost use Rattle.std.specs.Prelude.{◌≡◌, ◌<◌, [], ◌∷◌, length, slice_get, Some, IfOk, OnErr};
+ghost use Rattle.std.specs.Prelude.{◌≡◌, ◌<◌, [], ◌∷◌, length, IfOk, OnErr};
 ghost use Rattle.chem_model.specs.Each.{Each};
-ghost use Rattle.env_store.specs.CodeFacts.{IsCode};
 ghost use Rattle.site_solution.specs.Held.{queues_of, taken_at};
 ghost use Rattle.reducer.specs.Picks.{Picked, Picks, MayFire, IsPick};
 ghost use Rattle.shared_net.specs.declared.choosing.Chosen.TheVariants as choice;
@@ -16,27 +15,11 @@ use crate::pass::Pass;
 use crate::run::Run;
 use crate::turn::Turn;
 use chem_model::Memory;
-use env_store::{Code, Guard};
+use env_store::Code;
 use loc_tree::LocTree;
-use reducer::{Pick, event_of, react};
+use reducer::{Pick, code_is_kept, event_of, guard_at, react};
 use site_solution::{Effects, Site, site_is_kept};
 use std::alloc::Global;
-
-// The facts of code hold. It does nothing.
-fn code_is_kept(code: &Code)
-    ensures { IsCode code.now }
-{
-    let _guards = &code.guards;
-}
-
-// The guard with this number.
-pub(crate) fn guard_at(code: &Code, number: u32) -> &Guard
-    requires { number < length code.now.guards }
-    ensures at { slice_get code.now.guards number ≡ Some result.now }
-    ensures is { IsCode code.now }
-{
-    &code.guards.as_slice()[number as usize]
-}
 
 // Drops the front of a queue, if there is one.
 fn drop_front(site: &mut Site, group: u32, chan: u32)

@@ -1,16 +1,13 @@
 // Events of one site that may change the tree.
-ghost use Rattle.std.specs.Prelude.{◌≡◌, ◌≢◌, ◌↔◌, ◌<◌, ◌≤◌, ◌++◌, ℕ, Some, true, length};
+ghost use Rattle.std.specs.Prelude.{◌≡◌, ◌≢◌, ◌↔◌, ◌<◌, ◌≤◌, ℕ, Some, true, length};
 ghost use Rattle.std.specs.Prelude.{IfOk, OnErr, IsTrue};
 ghost use Rattle.chem_model.specs.Each.{Each};
 ghost use Rattle.net_laws.specs.Net.{with_births};
 ghost use Rattle.net_laws.specs.Opened.{AreNew};
-ghost use Rattle.net_laws.specs.ByCode.{args_of};
 ghost use Rattle.net_laws.specs.Holding.{request_with};
 ghost use Rattle.site_solution.specs.Draws.{CanDraw};
-ghost use Rattle.site_solution.specs.Held.{queues_of};
 ghost use Rattle.site_solution.specs.InTree.{is_in_tree};
 ghost use Rattle.reducer.specs.Picks.{Picked, Picks, MayFire};
-ghost use Rattle.reducer.specs.Fronts.{fronts_of};
 ghost use Rattle.reducer.specs.Reacting.{ran_by};
 ghost use Rattle.shared_net.specs.declared.choosing.Chosen.TheVariants as choice;
 ghost use Rattle.shared_net.specs.declared.turn.Turn.TheVariants as turns;
@@ -21,40 +18,24 @@ ghost use Rattle.shared_net.specs.Making.{event_for, IsEventOf, FitsHere, IsSame
 ghost use Rattle.shared_net.specs.Making.{AfterPick, MeetsAsk, AfterAsk, MakesWide};
 
 use crate::choosing::Chosen;
-use crate::here::{after_pick, guard_at};
+use crate::here::after_pick;
 use crate::locked::Locked;
 use crate::making::{Made, event_for, no_effects, offer};
 use crate::pass::Pass;
 use crate::run::Run;
 use crate::turn::Turn;
-use chem_model::{AtomId, Items, Loc, Memory, Names, Nums, Program};
+use chem_model::{AtomId, Loc, Memory, Nums, Program};
 use code_run::run;
 use env_store::{Code, extend};
 use failure::{detect, halt};
 use loc_tree::{LocTree, tree_is_kept};
 use migration::{leads_into, move_within};
-use reducer::{Pick, event_of};
+use reducer::{Pick, event_of, front_args, guard_at};
 use site_solution::{Effects, Site, site_is_kept};
 use std::alloc::Global;
 use wire_packet::{Ask, Request};
 
 // ---- births
-
-// The arguments of the fronts of these queues of a group.
-fn front_args(alloc: Global, site: &Site, group: u32, chans: &[u32]) -> Result<Names, Memory>
-    requires group { group < length site.now.groups }
-    requires chans { Each (λ c. c < length (queues_of site.now.groups group)) chans.now }
-    ensures { IfOk result (λ args. args
-        ≡ args_of (fronts_of (queues_of site.now.groups group) chans.now)) }
-{
-    let mut args = Items::new(alloc);
-    for chan in chans {
-        if let Some(msg) = site.front(group, *chan) {
-            args.extend_from_slice(msg.args.as_slice())?;
-        }
-    }
-    Ok(args)
-}
 
 // How many locations the reaction of a pick will bear, by a run of its body that is thrown away:
 // what the guard tells is right for a program's code, which isn't known here.
