@@ -1,7 +1,7 @@
 #!/usr/bin/env bash
 # Runs each program of examples/ on free threads with 1, 2, 4 and 16 workers, each so many times (default 100), and prints
 # how often each way of being made and each text came out. Ends with status 1 where a run was made alone after all, where
-# events were left to one thread, or where a program that has no NAME.run printed another text than its NAME.out.
+# events were left to one thread, or where a text came out that may not.
 # No test of the gate, since it takes long.
 set -eu
 times=${1:-100}
@@ -35,29 +35,13 @@ fn words_of(alloc: Global, workers: &str) -> Result<Vec<String>, Memory> {
     Ok(words)
 }
 
+// A run: how it was made, how many events the workers made, how many there are, and its text in one line.
 #[derive(Drop)]
-struct Ran {
-    ended: Ended,
-    out: MemSink,
-}
-
-#[derive(Drop)]
-struct Line {
+struct Shown {
     how: &'static str,
     by_workers: u64,
     all: u64,
     line: Text,
-}
-
-fn run<R: AllocGlobal + Threads + Wait + Sync>(rt: &R, words: &[String], text: &[u8]) -> Result<Ran, Memory>
-    requires { IsSync R.row }
-{
-    let alloc = rt.alloc();
-    let mut source = MemSource::new(Items::from_slice(alloc, text)?, ROOM, Items::new(alloc));
-    let mut out = MemSink::new(alloc, ROOM, ROOM, Items::new(alloc))?;
-    let mut err = MemSink::new(alloc, ROOM, ROOM, Items::new(alloc))?;
-    let ended = run_join(alloc, words, &mut source, &mut out, &mut err, &OpenGate, &Threaded::new(rt));
-    Ok(Ran { ended, out })
 }
 
 // How it was made, how many events the workers made, and how many there are.
@@ -84,14 +68,21 @@ fn in_one_line(alloc: Global, text: &[u8]) -> Result<Text, Memory> {
     Ok(line)
 }
 
-// A line of one run.
-fn shown<R: AllocGlobal + Threads + Wait + Sync>(rt: &R, words: &[String], text: &[u8]) -> Option<Line>
+fn shown(alloc: Global, ended: &Ended, out: &MemSink) -> Result<Shown, Memory> {
+    let (how, by_workers, all) = made(ended);
+    let line = in_one_line(alloc, out.taken())?;
+    Ok(Shown { how, by_workers, all, line })
+}
+
+fn run<R: AllocGlobal + Threads + Wait + Sync>(rt: &R, words: &[String], text: &[u8]) -> Result<Shown, Memory>
     requires { IsSync R.row }
 {
-    let ran = run(rt, words, text).ok()?;
-    let (how, by_workers, all) = made(&ran.ended);
-    let line = in_one_line(rt.alloc(), ran.out.taken()).ok()?;
-    Some(Line { how, by_workers, all, line })
+    let alloc = rt.alloc();
+    let mut source = MemSource::new(Items::from_slice(alloc, text)?, ROOM, Items::new(alloc));
+    let mut out = MemSink::new(alloc, ROOM, ROOM, Items::new(alloc))?;
+    let mut err = MemSink::new(alloc, ROOM, ROOM, Items::new(alloc))?;
+    let ended = run_join(alloc, words, &mut source, &mut out, &mut err, &OpenGate, &Threaded::new(rt));
+    shown(alloc, &ended, &out)
 }
 
 fn main(rt: HostRuntime) -> Result<(), anyhow::Error> {
@@ -109,7 +100,7 @@ fn main(rt: HostRuntime) -> Result<(), anyhow::Error> {
         return Ok(());
     };
     for _run in 0..times {
-        if let Some(it) = shown(&rt, words.as_slice(), text.as_slice()) {
+        if let Ok(it) = run(&rt, words.as_slice(), text.as_slice()) {
             let line = str::from_utf8(it.line.as_slice()).unwrap_or("?");
             println!(rt; "{} {} {} {line}", it.how, it.by_workers, it.all)?;
         }
@@ -121,19 +112,24 @@ PROGRAM
 cp "$root/examples/first.join" stdin
 build
 
+name=
+. "$root/examples/may_come_out.sh"
+
 failed=0
 for text in "$root"/examples/*.join; do
     name=$(basename "$text" .join)
     cp "$text" stdin
     for workers in 1 2 4 16; do
         out/free_bench "$workers" "$times" <stdin | sort | uniq -c >said
-        awk -v name="$name" -v workers="$workers" '{ print name ", " workers " workers: " $0 }' said
-        # each run is the workers' alone, with all of its events
-        awk '$2 != "shared" || $3 != $4 { bad = 1 } END { exit bad }' said || failed=1
-        # where NAME.run doesn't say that others may come out, there is one text
-        if [ ! -e "${text%.join}.run" ]; then
-            [ "$(awk '{ $1 = $2 = $3 = $4 = ""; print substr($0, 5) }' said)" = "$(tr '\n' ';' <"${text%.join}.out")" ] || failed=1
-        fi
+        while read -r count how by_workers all line; do
+            echo "$name, $workers workers: $count times $how, $by_workers of $all events by the workers: $line"
+            tr ';' '\n' <<<"${line%;}" >"$work/out"
+            [ "$how" = shared ] && [ "$by_workers" = "$all" ] && (cd "$root/examples" && may_come_out) || {
+                echo 'this may not come out'
+                failed=1
+            }
+        done <said
+        [ "$(awk '{ sum += $1 } END { print sum }' said)" = "$times" ] || failed=1
     done
 done
 [ "$failed" = 0 ]

@@ -1,7 +1,8 @@
 // The three runs as calls, without the top call.
 ghost use denote.Param.Send.{IsSync};
 
-use crate::outcome::{Made, run};
+use crate::outcome::Made;
+use crate::terms::program_of;
 use chem_model::{Memory, Program, Text};
 use guard_compile::compile;
 use join_top::{OpenGate, begin};
@@ -24,15 +25,6 @@ fn told(alloc: Global, done: &Done) -> Result<(Made, bool, usize, Text), Memory>
     let text = trace_bytes(alloc, &done.book, Ending::Quiescent)?;
     let made = Made::of(&done.how);
     Ok((made, done.book.quiet(), done.book.journal().len(), text))
-}
-
-/// The program of the text.
-fn program_of<R: AllocGlobal + Abort + Threads + Wait + Sync>(rt: &R) -> Result<Program, Fail>
-    requires { IsSync R.row }
-{
-    let run = run(rt, "10", MOVE)?;
-    let kept = run.ended.kept.ok_or("nothing is kept")?;
-    Ok(kept.program)
 }
 
 fn on_one_thread(alloc: Global, program: &Program) -> Result<(Made, bool, usize, Text), Memory> {
@@ -71,7 +63,7 @@ fn expect_move(rt: &impl Abort, made: Made, told: &(Made, bool, usize, Text)) {
 
 #[test]
 fn a_move_by_the_three_calls(rt: HostRuntime) -> Result<(), Fail> {
-    let program = program_of(&rt)?;
+    let program = program_of(&rt, MOVE)?;
     expect_move(&rt, Made::Alone, &on_one_thread(rt.alloc(), &program)?);
     expect_move(&rt, Made::Rounds, &by_two_workers(&rt, &program)?);
     expect_move(&rt, Made::Shared(2), &by_two_free_workers(&rt, &program)?);

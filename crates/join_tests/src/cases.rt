@@ -2,7 +2,7 @@
 ghost use denote.Param.Send.{IsSync};
 
 use crate::lines::lines;
-use crate::outcome::{call, roomy_sink, source_of};
+use crate::outcome::call;
 use crate::refusals::refusals;
 use std::marker::Sync;
 use std::process::Abort;
@@ -36,12 +36,10 @@ pub fn expect<R: AllocGlobal + Abort + Threads + Wait + Sync>(
 ) -> Result<(), Fail>
     requires { IsSync R.row }
 {
-    let alloc = rt.alloc();
-    let source = case.source(alloc)?;
-    let source = source_of(alloc, source.as_slice())?;
-    let outcome = call(rt, words, source, roomy_sink(alloc)?)?;
+    let source = case.source(rt.alloc())?;
+    let outcome = call(rt, words, source.as_slice())?;
     outcome.expect(rt, case.status, case.out, case.err);
-    assert_eq!(rt; outcome.events(), case.events);
+    assert_eq!(rt; outcome.events, case.events);
     Ok(())
 }
 

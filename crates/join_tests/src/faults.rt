@@ -2,7 +2,7 @@
 
 use crate::outcome::{call, call_into, roomy_sink, source_of};
 use chem_model::Items;
-use join_base::{MemSink, Source};
+use join_base::MemSink;
 use std::test::Fail;
 
 const FIRST: &[u8] = b"observe out/1; site s [ x(u) => out(u) : x(s) ]";
@@ -13,9 +13,9 @@ const ALONE: [&str; 3] = ["alone", "--budget", "10"];
 #[test]
 fn one_write_is_enough(rt: HostRuntime) -> Result<(), Fail> {
     let alloc = rt.alloc();
-    let fails = Items::from_slice(alloc, &[2])?;
-    let out = MemSink::new(alloc, 64, 64, fails)?;
-    let run = call(&rt, &ALONE, source_of(alloc, FIRST)?, out)?;
+    let source = source_of(alloc, FIRST)?;
+    let out = MemSink::new(alloc, 64, 64, Items::from_slice(alloc, &[2])?)?;
+    let run = call_into(&rt, &ALONE, source, out, roomy_sink(alloc)?)?;
     run.expect(&rt, 0, "out(s)\nquiescent\n", "");
     Ok(())
 }
@@ -23,17 +23,10 @@ fn one_write_is_enough(rt: HostRuntime) -> Result<(), Fail> {
 /// One byte more than the limit is refused, and no byte after it is taken.
 #[test]
 fn a_text_past_the_limit(rt: HostRuntime) -> Result<(), Fail> {
-    let alloc = rt.alloc();
-    let blanks = vec![in alloc; b' '; 1_048_580]?;
-    let mut run = call(
-        &rt,
-        &ALONE,
-        source_of(alloc, blanks.as_slice())?,
-        roomy_sink(alloc)?,
-    )?;
+    let blanks = vec![in rt.alloc(); b' '; 1_048_580]?;
+    let run = call(&rt, &ALONE, blanks.as_slice())?;
     run.expect(&rt, 1, "", "lex 1 at 1048576\n");
-    let mut buffer = [0u8; 16];
-    assert_eq!(rt; run.source.read(&mut buffer), Ok(3));
+    assert_eq!(rt; run.unread, 3);
     Ok(())
 }
 
@@ -41,8 +34,10 @@ fn a_text_past_the_limit(rt: HostRuntime) -> Result<(), Fail> {
 #[test]
 fn the_line_of_a_fault_is_cut(rt: HostRuntime) -> Result<(), Fail> {
     let alloc = rt.alloc();
+    let source = source_of(alloc, b"")?;
+    let out = roomy_sink(alloc)?;
     let err = MemSink::new(alloc, 3, 8, Items::new(alloc))?;
-    let run = call_into(&rt, &ALONE, source_of(alloc, b"")?, roomy_sink(alloc)?, err)?;
+    let run = call_into(&rt, &ALONE, source, out, err)?;
     run.expect(&rt, 1, "", "gra");
     Ok(())
 }

@@ -82,8 +82,7 @@ fn run_freely<R: AllocGlobal + Abort + Threads + Wait + Sync>(
     let alloc = rt.alloc();
     let words = words_by(alloc, case, "run", workers)?;
     let source = case.source(alloc)?;
-    let source = source_of(alloc, source.as_slice())?;
-    call(rt, words.as_slice(), source, roomy_sink(alloc)?)
+    call(rt, words.as_slice(), source.as_slice())
 }
 
 /// That a case ends on free threads as it may, and that the workers made each event.
@@ -95,11 +94,11 @@ fn expect_shared<R: AllocGlobal + Abort + Threads + Wait + Sync>(
     requires { IsSync R.row }
 {
     let run = run_freely(rt, case, workers)?;
-    assert_eq!(rt; run.ended.status, case.status);
-    assert!(rt; may_print(run.out.taken(), case));
-    assert_eq!(rt; run.events(), case.events);
-    let events = case.events.map(|events| Made::Shared(events as u64));
-    assert_eq!(rt; run.made(), events);
+    assert_eq!(rt; run.status, case.status);
+    assert!(rt; may_print(run.out.as_slice(), case));
+    assert_eq!(rt; run.events, case.events);
+    let made = case.events.map(|events| Made::Shared(events as u64));
+    assert_eq!(rt; run.made, made);
     Ok(())
 }
 
@@ -148,7 +147,7 @@ fn through_the_gate<R: AllocGlobal + Abort + Threads + Wait + Sync>(
     let out = roomy_sink(alloc)?;
     let err = roomy_sink(alloc)?;
     let run = call_through(alloc, &words, source, out, err, &gate, &Threaded::new(rt))?;
-    Ok((run.made(), gate.gave_up()))
+    Ok((run.made, gate.gave_up()))
 }
 
 /// Two workers are inside their turns at once: one thread can't pass the gate, nor one lock round

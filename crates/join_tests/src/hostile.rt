@@ -2,9 +2,9 @@
 ghost use denote.Param.Send.{IsSync};
 
 use crate::cases::{REFUSED, expect};
-use crate::outcome::call_into;
+use crate::outcome::{Outcome, call_into};
 use crate::refusals::refusals;
-use chem_model::Items;
+use chem_model::{Items, Memory};
 use join_base::{MemSink, MemSource};
 use std::marker::Sync;
 use std::process::Abort;
@@ -183,12 +183,12 @@ const FAULTS: &[Fault] = &[
     },
 ];
 
-/// That a run with these words ends as the fault says.
-fn expect_fault<R: AllocGlobal + Abort + Threads + Wait + Sync>(
+/// A run with these words, in which the reads and writes of the fault fail.
+fn run_with<R: AllocGlobal + Abort + Threads + Wait + Sync>(
     rt: &R,
     words: &[&str],
     fault: &Fault,
-) -> Result<(), Fail>
+) -> Result<Outcome, Memory>
     requires { IsSync R.row }
 {
     let alloc = rt.alloc();
@@ -197,9 +197,20 @@ fn expect_fault<R: AllocGlobal + Abort + Threads + Wait + Sync>(
     let source = MemSource::new(text, 16, Items::from_slice(alloc, fault.reads)?);
     let out = MemSink::new(alloc, ROOM, 4, Items::from_slice(alloc, fault.writes)?)?;
     let err = MemSink::new(alloc, ROOM, 8, Items::from_slice(alloc, fault.lines)?)?;
-    let run = call_into(rt, words, source, out, err)?;
+    call_into(rt, words, source, out, err)
+}
+
+/// That a run with these words ends as the fault says.
+fn expect_fault<R: AllocGlobal + Abort + Threads + Wait + Sync>(
+    rt: &R,
+    words: &[&str],
+    fault: &Fault,
+) -> Result<(), Fail>
+    requires { IsSync R.row }
+{
+    let run = run_with(rt, words, fault)?;
     run.expect(rt, fault.case.status, fault.case.out, fault.case.err);
-    assert_eq!(rt; run.events(), fault.case.events);
+    assert_eq!(rt; run.events, fault.case.events);
     Ok(())
 }
 

@@ -1,8 +1,8 @@
-// One call of the top call over memory, and what it left.
+// One call of the top call over memory, and what it left, as plain values.
 ghost use denote.Param.Send.{IsSync};
 
-use chem_model::{Event, Items, Memory};
-use join_base::{MemSink, MemSource};
+use chem_model::{Items, Journal, Memory, Program};
+use join_base::{MemSink, MemSource, Source};
 use join_top::{Ended, FreeTeam, Gate, How, OpenGate, Team, Threaded, run_join};
 use std::alloc::Global;
 use std::marker::Sync;
@@ -34,13 +34,16 @@ impl Made {
     }
 }
 
-/// A source, two sinks, and how a call over them ended.
+/// How a call ended: its status, what the sinks took, how many bytes one more read of the source
+/// gives, and of the run that was kept how it was made and how many events it has.
 #[derive(Drop)]
 pub struct Outcome {
-    pub ended: Ended,
-    pub source: MemSource,
-    pub out: MemSink,
-    pub err: MemSink,
+    pub status: u8,
+    pub out: Vec<u8>,
+    pub err: Vec<u8>,
+    pub unread: usize,
+    pub made: Option<Made>,
+    pub events: Option<usize>,
 }
 
 /// A source of these bytes that never fails.
@@ -52,6 +55,37 @@ pub fn source_of(alloc: Global, bytes: &[u8]) -> Result<MemSource, Memory> {
 /// A sink that never fails while there is room.
 pub fn roomy_sink(alloc: Global) -> Result<MemSink, Memory> {
     MemSink::new(alloc, ROOM, ROOM, Items::new(alloc))
+}
+
+/// How many bytes one more read gives: none where it fails.
+fn read_on(source: &mut MemSource) -> usize {
+    let mut buffer = [0u8; 16];
+    source.read(&mut buffer).unwrap_or(0)
+}
+
+fn outcome_of(
+    alloc: Global,
+    ended: &Ended,
+    unread: usize,
+    out: &MemSink,
+    err: &MemSink,
+) -> Result<Outcome, Memory> {
+    Ok(Outcome {
+        status: ended.status,
+        out: Vec::from_slice(alloc, out.taken())?,
+        err: Vec::from_slice(alloc, err.taken())?,
+        unread,
+        made: ended.kept.as_ref().map(|kept| Made::of(&kept.how)),
+        events: ended.kept.as_ref().map(|kept| kept.journal.len()),
+    })
+}
+
+fn owned(alloc: Global, words: &[&str]) -> Result<Vec<String>, Memory> {
+    let mut owned = Vec::new(alloc);
+    for word in words {
+        owned.push(String::from_str(alloc, word)?)?;
+    }
+    Ok(owned)
 }
 
 /// Runs the words over a source and two sinks, by a team whose free workers pass a gate.
@@ -67,28 +101,21 @@ pub fn call_through<G: Gate, T: Team + FreeTeam<G>>(
     requires ready { T.ready }
     requires free_ready { T.free_ready }
 {
-    let mut owned = Vec::new(alloc);
-    for word in words {
-        owned.push(String::from_str(alloc, word)?)?;
-    }
+    let words = owned(alloc, words)?;
     let mut source = source;
     let mut out = out;
     let mut err = err;
     let ended = run_join(
         alloc,
-        owned.as_slice(),
+        words.as_slice(),
         &mut source,
         &mut out,
         &mut err,
         gate,
         team,
     );
-    Ok(Outcome {
-        ended,
-        source,
-        out,
-        err,
-    })
+    let unread = read_on(&mut source);
+    outcome_of(alloc, &ended, unread, &out, &err)
 }
 
 /// Runs the words over a source and two sinks.
@@ -105,52 +132,50 @@ pub fn call_into<R: AllocGlobal + Abort + Threads + Wait + Sync>(
     call_through(rt.alloc(), words, source, out, err, &OpenGate, &team)
 }
 
-/// Runs the words over a source and a sink, and a sink of their own for errors.
+/// Runs the words over a source of these bytes, and two sinks that never fail.
 pub fn call<R: AllocGlobal + Abort + Threads + Wait + Sync>(
     rt: &R,
     words: &[&str],
-    source: MemSource,
-    out: MemSink,
+    bytes: &[u8],
 ) -> Result<Outcome, Memory>
     requires { IsSync R.row }
 {
-    call_into(rt, words, source, out, roomy_sink(rt.alloc())?)
+    let alloc = rt.alloc();
+    let source = source_of(alloc, bytes)?;
+    let out = roomy_sink(alloc)?;
+    call_into(rt, words, source, out, roomy_sink(alloc)?)
 }
 
-/// Runs a text with a budget, on one thread.
-pub fn run<R: AllocGlobal + Abort + Threads + Wait + Sync>(
+/// The program and the journal of a run of a text on one thread, where one was kept.
+pub fn kept_by<R: AllocGlobal + Abort + Threads + Wait + Sync>(
     rt: &R,
-    budget: &str,
     text: &str,
-) -> Result<Outcome, Memory>
+) -> Result<Option<(Program, Journal)>, Memory>
     requires { IsSync R.row }
 {
-    let source = source_of(rt.alloc(), text.as_bytes())?;
-    let out = roomy_sink(rt.alloc())?;
-    call(rt, &["alone", "--budget", budget], source, out)
+    let alloc = rt.alloc();
+    let words = owned(alloc, &["alone", "--budget", "10"])?;
+    let mut source = source_of(alloc, text.as_bytes())?;
+    let mut out = roomy_sink(alloc)?;
+    let mut err = roomy_sink(alloc)?;
+    let team = Threaded::new(rt);
+    let ended = run_join(
+        alloc,
+        words.as_slice(),
+        &mut source,
+        &mut out,
+        &mut err,
+        &OpenGate,
+        &team,
+    );
+    Ok(ended.kept.map(|kept| (kept.program, kept.journal)))
 }
 
 impl Outcome {
-    /// How many events the run kept, where it kept any.
-    pub fn events(&self) -> Option<usize> {
-        self.ended.kept.as_ref().map(|kept| kept.journal.len())
-    }
-
-    /// How the run was made, where one was kept.
-    pub fn made(&self) -> Option<Made> {
-        self.ended.kept.as_ref().map(|kept| Made::of(&kept.how))
-    }
-
-    /// The first event of the run.
-    pub fn first_event(&self) -> Option<&Event> {
-        let kept = self.ended.kept.as_ref()?;
-        kept.journal.as_slice().first()
-    }
-
     /// That the call ended with this status and these bytes.
     pub fn expect(&self, rt: &impl Abort, status: u8, out: &str, err: &str) {
-        assert_eq!(rt; self.ended.status, status);
-        assert_eq!(rt; self.out.taken(), out.as_bytes());
-        assert_eq!(rt; self.err.taken(), err.as_bytes());
+        assert_eq!(rt; self.status, status);
+        assert_eq!(rt; self.out.as_slice(), out.as_bytes());
+        assert_eq!(rt; self.err.as_slice(), err.as_bytes());
     }
 }

@@ -2,8 +2,8 @@
 ghost use denote.Param.Send.{IsSync};
 
 use crate::cases::expect;
-use crate::outcome::{call, source_of};
-use chem_model::Items;
+use crate::outcome::{Outcome, call_into, roomy_sink, source_of};
+use chem_model::{Items, Memory};
 use join_base::MemSink;
 use std::alloc::{AllocError, Global};
 use std::marker::Sync;
@@ -44,12 +44,12 @@ fn worked_texts_in_rounds(rt: HostRuntime) -> Result<(), Fail> {
     Ok(())
 }
 
-/// The log of a program, in rounds and with so many workers. The program ends quiet.
-fn log_of<R: AllocGlobal + Abort + Threads + Wait + Sync>(
+/// A run of a program in rounds, with so many workers, that writes its log.
+fn logged<R: AllocGlobal + Abort + Threads + Wait + Sync>(
     rt: &R,
     case: &Case,
     workers: &'static str,
-) -> Result<Vec<u8>, Fail>
+) -> Result<Outcome, Memory>
     requires { IsSync R.row }
 {
     let alloc = rt.alloc();
@@ -58,11 +58,20 @@ fn log_of<R: AllocGlobal + Abort + Threads + Wait + Sync>(
     let source = case.source(alloc)?;
     let source = source_of(alloc, source.as_slice())?;
     let out = MemSink::new(alloc, ROOM, ROOM, Items::new(alloc))?;
-    let run = call(rt, words.as_slice(), source, out)?;
-    assert_eq!(rt; run.ended.status, 0);
-    let mut log = Vec::new(alloc);
-    log.extend_from_slice(run.out.taken())?;
-    Ok(log)
+    call_into(rt, words.as_slice(), source, out, roomy_sink(alloc)?)
+}
+
+/// The log of a program, in rounds and with so many workers. The program ends quiet.
+fn log_of<R: AllocGlobal + Abort + Threads + Wait + Sync>(
+    rt: &R,
+    case: &Case,
+    workers: &'static str,
+) -> Result<Vec<u8>, Memory>
+    requires { IsSync R.row }
+{
+    let run = logged(rt, case, workers)?;
+    assert_eq!(rt; run.status, 0);
+    Ok(run.out)
 }
 
 /// A program has one log, whatever the number of workers.

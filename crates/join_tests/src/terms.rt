@@ -1,10 +1,10 @@
 // Terms, programs and events: what is made, kept, copied and dropped.
 ghost use denote.Param.Send.{IsSync};
 
-use crate::outcome::run;
+use crate::outcome::kept_by;
 use chem_model::{
-    AtomId, Defn, DefnNode, Defs, Event, Items, Loc, Memory, Name, Names, Out, Proc, ProcNode,
-    Program, Ref, RuleId,
+    AtomId, Defn, DefnNode, Defs, Event, Items, Journal, Loc, Memory, Name, Names, Out, Proc,
+    ProcNode, Program, Ref, RuleId,
 };
 use chem_plain::replay;
 use std::alloc::{AllocError, Global};
@@ -68,18 +68,37 @@ fn a_place_and_its_copy(rt: HostRuntime) -> Result<(), Fail> {
     Ok(())
 }
 
+/// The program that a run of a text keeps, and its journal.
+fn kept_of<R: AllocGlobal + Abort + Threads + Wait + Sync>(
+    rt: &R,
+    text: &str,
+) -> Result<(Program, Journal), Fail>
+    requires { IsSync R.row }
+{
+    Ok(kept_by(rt, text)?.ok_or("nothing is kept")?)
+}
+
+/// The journal that a run of a text keeps.
+fn journal_of<R: AllocGlobal + Abort + Threads + Wait + Sync>(
+    rt: &R,
+    text: &str,
+) -> Result<Journal, Fail>
+    requires { IsSync R.row }
+{
+    let (_program, journal) = kept_of(rt, text)?;
+    Ok(journal)
+}
+
 #[test]
 fn a_journal_and_its_copy(rt: HostRuntime) -> Result<(), Fail> {
-    let alloc = rt.alloc();
-    let run = run(&rt, "2", "site s [ x() => x() : x() ]")?;
-    let kept = run.ended.kept.as_ref().ok_or("nothing is kept")?;
-    let copy = kept.journal.copy(alloc)?;
-    assert_eq!(rt; copy.len(), 2);
+    let journal = journal_of(&rt, "site s [ x() => x() : x() ]")?;
+    let copy = journal.copy(rt.alloc())?;
+    assert_eq!(rt; copy.len(), 10);
     let last = match copy.as_slice().last() {
         Some(Event::React { took, .. }) => took.as_slice().first().map(|atom| atom.k),
         _ => None,
     };
-    assert_eq!(rt; last, Some(4));
+    assert_eq!(rt; last, Some(12));
     Ok(())
 }
 
@@ -97,15 +116,14 @@ fn observables_and_their_copy(rt: HostRuntime) -> Result<(), Fail> {
 }
 
 /// The program that a run of a text keeps.
-fn program_of<R: AllocGlobal + Abort + Threads + Wait + Sync>(
+pub fn program_of<R: AllocGlobal + Abort + Threads + Wait + Sync>(
     rt: &R,
     text: &str,
 ) -> Result<Program, Fail>
     requires { IsSync R.row }
 {
-    let run = run(rt, "10", text)?;
-    let kept = run.ended.kept.ok_or("nothing is kept")?;
-    Ok(kept.program)
+    let (program, _journal) = kept_of(rt, text)?;
+    Ok(program)
 }
 
 /// The spellings of a program's binders, one behind the other.
@@ -133,8 +151,8 @@ fn the_program_of_a_text(rt: HostRuntime) -> Result<(), Fail> {
 /// The root has the number 0 and the channel 1, so that the rule is 0.2 and the message 0.3.
 #[test]
 fn the_kept_event(rt: HostRuntime) -> Result<(), Fail> {
-    let run = run(&rt, "10", "observe out/1; site s [ x(u) => out(u) : x(s) ]")?;
-    let took = match run.first_event() {
+    let journal = journal_of(&rt, "observe out/1; site s [ x(u) => out(u) : x(s) ]")?;
+    let took = match journal.as_slice().first() {
         Some(Event::React { rule, took }) => took.as_slice().first().map(|atom| (*rule, *atom)),
         _ => None,
     };
@@ -153,11 +171,10 @@ fn replayed<R: AllocGlobal + Abort + Threads + Wait + Sync>(
 ) -> Result<Option<(usize, usize)>, Memory>
     requires { IsSync R.row }
 {
-    let run = run(rt, "10", text)?;
-    let Some(kept) = run.ended.kept.as_ref() else {
+    let Some((program, journal)) = kept_by(rt, text)? else {
         return Ok(None);
     };
-    let reached = replay(rt.alloc(), &kept.program, &kept.journal)?;
+    let reached = replay(rt.alloc(), &program, &journal)?;
     Ok(reached.map(|solution| (solution.trace.len(), solution.atoms.len())))
 }
 

@@ -1,8 +1,7 @@
 // Words that leave the source unread, and rings.
 ghost use denote.Param.Send.{IsSync};
 
-use crate::outcome::{call, roomy_sink, source_of};
-use join_base::Source;
+use crate::outcome::call;
 use std::marker::Sync;
 use std::process::Abort;
 use std::sync::Wait;
@@ -17,11 +16,9 @@ fn expect_unread<R: AllocGlobal + Abort + Threads + Wait + Sync>(
 ) -> Result<(), Fail>
     requires { IsSync R.row }
 {
-    let alloc = rt.alloc();
-    let mut run = call(rt, words, source_of(alloc, b"abc")?, roomy_sink(alloc)?)?;
-    assert_eq!(rt; run.ended.status, status);
-    let mut buffer = [0u8; 8];
-    assert_eq!(rt; run.source.read(&mut buffer), Ok(3));
+    let run = call(rt, words, b"abc")?;
+    assert_eq!(rt; run.status, status);
+    assert_eq!(rt; run.unread, 3);
     Ok(())
 }
 
@@ -43,7 +40,7 @@ fn rings_of_all_sizes(rt: HostRuntime) -> Result<(), Fail> {
     for size in 1u32..65 {
         let size = format!(in alloc; "{size}")?;
         let words = ["gen", size.as_str(), "--budget", "0"];
-        let run = call(&rt, &words, source_of(alloc, b"")?, roomy_sink(alloc)?)?;
+        let run = call(&rt, &words, b"")?;
         run.expect(&rt, 5, "events 0\nobservables 0\nstopped\n", "");
     }
     Ok(())

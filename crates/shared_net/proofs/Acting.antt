@@ -28,7 +28,7 @@ use Rattle.shared_net.specs.declared.turn.Turn.{Turn}
 use Rattle.shared_net.specs.declared.turn.Turn.TheVariants.{Did, Passed, Nothing, NotEnabled, Full}
 use Rattle.shared_net.specs.Mail.{IsMessageFlight}
 use Rattle.shared_net.specs.Choosing.{CanAct}
-use Rattle.shared_net.specs.Making.{AreNone, IsLeft, AfterPick, MeetsAsk, AfterCrossing, IsSameTree, FitsHere}
+use Rattle.shared_net.specs.Making.{AreNone, IsLeft, AfterPick, StaysFitAt, MeetsAsk, AfterCrossing, IsSameTree, FitsHere}
 use Rattle.shared_net.proofs.Bearing.{births_new}
 use Rattle.shared_net.proofs.Coming.{are_message_flights}
 use Rattle.shared_net.proofs.Opening.{run_same}
@@ -48,6 +48,11 @@ pub idle_pick : (c : CodeParts) (t : Tree) (s : Site) (p : Pick) (new : Site) (e
 idle_pick c t s p new e turn (inl is) h = subst (λ (x : Turn). AfterPick c t s p x new e) (sym is) h
 idle_pick c t s p new e turn (inr (inl is)) h = subst (λ (x : Turn). AfterPick c t s p x new e) (sym is) h
 idle_pick c t s p new e turn (inr (inr is)) h = subst (λ (x : Turn). AfterPick c t s p x new e) (sym is) h
+
+pub idle_fit : (c : CodeParts) (t : Tree) (i : ℕ) (new : Site) (e : Effects) (turn : Turn) → (turn ≡ Passed) ⊎ ((turn ≡ Nothing) ⊎ (turn ≡ Full)) → StaysFitAt c t i turn new e
+idle_fit c t i new e turn (inl is) = subst (λ (x : Turn). StaysFitAt c t i x new e) (sym is) tt
+idle_fit c t i new e turn (inr (inl is)) = subst (λ (x : Turn). StaysFitAt c t i x new e) (sym is) tt
+idle_fit c t i new e turn (inr (inr is)) = subst (λ (x : Turn). StaysFitAt c t i x new e) (sym is) tt
 
 module _ (c : CodeParts) (t : Tree) (s : Site) (p : Pick) (x : Picked) (picks : Picks c s p x) (new : Site) (e : Effects) where
   pub pick_born : (turn : Turn) → AfterPick c t s p turn new e → (e.births ≡ (ran_by c s x).births) ⊎ (e.births ≡ [])

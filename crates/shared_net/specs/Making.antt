@@ -18,7 +18,7 @@ use Rattle.reducer.specs.declared.pick.Pick.{Pick}
 use Rattle.reducer.specs.Picks.{Picked, Picks}
 use Rattle.reducer.specs.Fronts.{event_of}
 use Rattle.reducer.specs.Reacting.{RunsProgram}
-use Rattle.reducer.specs.Reacted.{Reacts}
+use Rattle.reducer.specs.Reacted.{Reacts, StaysFit}
 use Rattle.failure.specs.Halts.{IsHalt}
 use Rattle.failure.specs.Detects.{IsDetection}
 use Rattle.migration.specs.Within.{leads_into, IsMoveWithin}
@@ -91,6 +91,15 @@ AfterPick c t s p NotEnabled new e =
 AfterPick c t s p Nothing new e = IsLeft s new e
 AfterPick c t s p Full new e = IsLeft s new e
 AfterPick c t s p Passed new e = IsLeft s new e
+
+-- where the event was made, all that the calls over the site need of it holds again once its births
+-- are in the tree; only its count may have reached 2^63
+abbrev pub StaysFitAt : CodeParts → Tree → ℕ → Turn → Site → Effects → Type 0
+StaysFitAt c t i (Did place) new e = StaysFit c t i new e
+StaysFitAt c t i NotEnabled new e = Unit {0}
+StaysFitAt c t i Nothing new e = Unit {0}
+StaysFitAt c t i Full new e = Unit {0}
+StaysFitAt c t i Passed new e = Unit {0}
 
 -- where the site runs a program, nothing is born
 abbrev pub BearsNone : CodeParts → Site → Effects → Type 0

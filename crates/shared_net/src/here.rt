@@ -7,7 +7,7 @@ ghost use Rattle.shared_net.specs.declared.choosing.Chosen.TheVariants as choice
 ghost use Rattle.shared_net.specs.Mail.{IsMessageFlight};
 ghost use Rattle.shared_net.specs.Choosing.{CanAct, Chooses, OpensNone};
 ghost use Rattle.shared_net.specs.Offers.{Turned, MayGain, MayHaveCommitted};
-ghost use Rattle.shared_net.specs.Making.{IsEventOf, AfterPick, BearsNone, MakesHere};
+ghost use Rattle.shared_net.specs.Making.{IsEventOf, AfterPick, StaysFitAt, BearsNone, MakesHere};
 
 use crate::locked::Locked;
 use crate::making::{Made, no_effects};
@@ -70,6 +70,8 @@ pub(crate) fn after_pick(
     requires fires { MayFire code.now tree.now site.old pick.now }
     ensures after { IfOk result (AfterPick code.now tree.now site.old pick.now turn site.new) }
     ensures sends { IfOk result (λ effects. Each IsMessageFlight effects.sends) }
+    ensures fit { IfOk result (λ effects.
+        StaysFitAt code.now tree.now site.old.number turn site.new effects) }
     ensures err { OnErr result (site.new ≡ site.old) }
 {
     match turn {
@@ -102,6 +104,8 @@ pub fn make_here<L: Run>(
         locked.old.book pass.old made site.new locked.new.book pass.new) }
     ensures born { IfOk result (λ made. BearsNone code.now site.old made.effects) }
     ensures sends { IfOk result (λ made. Each IsMessageFlight made.effects.sends) }
+    ensures fit { IfOk result (λ made.
+        StaysFitAt code.now tree.now site.old.number made.turn site.new made.effects) }
     ensures pass { IfOk result (λ made. Turned pass.old made.turn pass.new) }
     ensures memory { OnErr result (MayHaveCommitted
         (IsEventOf code.now site.old (choice.Pick pick.now))

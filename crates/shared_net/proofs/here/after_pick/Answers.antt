@@ -7,8 +7,8 @@ use Rattle.reducer.specs.Reacted.{Reacts}
 use Rattle.reducer.proofs.Reactions.{if_ok}
 use Rattle.shared_net.specs.declared.turn.Turn.{Turn}
 use Rattle.shared_net.specs.Mail.{IsMessageFlight}
-use Rattle.shared_net.specs.Making.{AfterPick}
-use Rattle.shared_net.proofs.Acting.{reacts_sent, none_sent, idle_pick}
+use Rattle.shared_net.specs.Making.{AfterPick, StaysFitAt}
+use Rattle.shared_net.proofs.Acting.{reacts_sent, none_sent, idle_pick, idle_fit}
 use Rattle.shared_net.proofs.here.after_pick.Goals as goal
 
 pub returns-in-Did-clause-after : goal.returns-in-Did-clause-after
@@ -49,3 +49,14 @@ returns-in-Passed-clause-after c =
 
 pub returns-in-Passed-clause-sends : goal.returns-in-Passed-clause-sends
 returns-in-Passed-clause-sends c = none_sent c.no_effects-in-Passed.result c.no_effects-in-Passed.ensures
+
+pub returns-in-Did-clause-fit : goal.returns-in-Did-clause-fit
+returns-in-Did-clause-fit c =
+    subst (λ (turn : Turn). IfOk c.react.result (StaysFitAt c.args.code.now c.args.tree.now c.args.site.now.number turn c.react.new.site)) (sym c.in-Did.is) c.react.ensures.fit
+
+pub returns-in-NotEnabled-clause-fit : goal.returns-in-NotEnabled-clause-fit
+returns-in-NotEnabled-clause-fit c =
+    subst (λ (turn : Turn). StaysFitAt c.args.code.now c.args.tree.now c.args.site.now.number turn c.drop_taken.new.site c.no_effects.result) (sym c.in-NotEnabled.is) tt
+
+pub returns-in-Passed-clause-fit : goal.returns-in-Passed-clause-fit
+returns-in-Passed-clause-fit c = idle_fit c.args.code.now c.args.tree.now c.args.site.now.number c.args.site.now c.no_effects-in-Passed.result c.args.turn c.in-Passed.is
