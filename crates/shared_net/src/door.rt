@@ -19,6 +19,8 @@ use loc_tree::LocTree;
 use reducer::Pick;
 use site_solution::Site;
 use std::alloc::Global;
+use std::hint::spin_loop;
+use std::sync::{Mutex, MutexGuard, Wait};
 
 /// What stands behind the book's lock, as far as a turn knows it: the calls that make an event, by
 /// what they do to the pass and what they send. Only the locked book is one. A turn is written over
@@ -73,6 +75,21 @@ pub(crate) trait Desk<L: Run> {
         ensures pass { IfOk result (λ made. Turned pass.old made.turn pass.new) }
         ensures sends { IfOk result (λ made. Each IsMessageFlight made.effects.sends) }
         ensures gain { OnErr result (MayGain pass.old pass.new) };
+}
+
+// So often a worker looks at the book's lock before it sleeps: for longer than an event is under it.
+const LOOKS: u32 = 500;
+
+// Locks the book. It looks for a while first whether the lock is free: what is done under it is
+// short, and to sleep and be woken takes longer.
+pub(crate) fn enter<'a, K, R: Wait>(rt: &R, door: &'a Mutex<K>) -> MutexGuard<'a, K> {
+    for _look in 0..LOOKS {
+        if let Some(desk) = door.try_lock() {
+            return desk;
+        }
+        spin_loop();
+    }
+    door.lock(rt)
 }
 
 impl<L: Run> Desk<L> for Locked<L> {

@@ -13,7 +13,7 @@ ghost use Rattle.shared_net.specs.Turning.{Turns, owner};
 ghost use Rattle.shared_net.specs.TurnParts.{Steps, StepsFirst};
 
 use crate::choosing::{Chosen, can_act, leads_to, opens_none, picks_on};
-use crate::door::Desk;
+use crate::door::{Desk, enter};
 use crate::gate::{Gate, Phase};
 use crate::inside::{arrive, choose};
 use crate::making::Made;
@@ -144,7 +144,7 @@ impl Parts {
             IsTrue reacted.fit → CanAct code.now tree.now site.new) }
         ensures gain { OnErr result (MayGain pass.old pass.new) }
     {
-        let mut desk = door.lock(rt);
+        let mut desk = enter(rt, door);
         let made = desk.here(alloc, site, tree, code, pass, pick)?;
         drop(desk);
         let fit = is_fit(site, &made);
@@ -284,7 +284,7 @@ impl Parts {
         ensures turn { IfOk result (λ turn. Turned pass.old turn pass.new) }
         ensures gain { OnErr result (MayGain pass.old pass.new) }
     {
-        let mut desk = door.lock(rt);
+        let mut desk = enter(rt, door);
         let made = desk.wide(alloc, site, tree, &self.program, code, pass, chosen)?;
         drop(desk);
         self.send(rt, alloc, &made)
@@ -308,7 +308,7 @@ impl Parts {
         ensures turn { IfOk result (λ turn. Turned pass.old turn pass.new) }
         ensures gain { OnErr result (MayGain pass.old pass.new) }
     {
-        let mut desk = door.lock(rt);
+        let mut desk = enter(rt, door);
         let made = desk.across(alloc, site, into, tree, &self.program, code, pass, atom)?;
         drop(desk);
         self.send(rt, alloc, &made)
