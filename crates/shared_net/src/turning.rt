@@ -31,7 +31,7 @@ use std::sync::{Mutex, Wait};
 use wire_packet::Flights;
 
 /// A worker goes on at a site with one reaction for so many messages that wait there.
-const MESSAGES_TO_A_REACTION: usize = 32;
+const MESSAGES_TO_A_REACTION: usize = 8;
 
 // What the part of a turn under the tree's read lock came to.
 enum Step {

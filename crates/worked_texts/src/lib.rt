@@ -3,11 +3,13 @@
 #![tactic(auto)]
 
 mod case;
-mod programs;
+mod locations;
+mod messages;
 mod rounds;
 mod small;
 
 pub use case::{Case, Freely, QUIET};
-pub use programs::{examples_of_locations, examples_of_messages};
+pub use locations::examples_of_locations;
+pub use messages::examples_of_messages;
 pub use rounds::runs_in_rounds;
 pub use small::runs;
