@@ -199,8 +199,8 @@ impl Site {
         self.groups.front(group as usize, chan)
     }
 
-    // How many queues a group has.
-    pub(crate) fn width(&self, group: u32) -> u32
+    /// How many queues a group has.
+    pub fn width(&self, group: u32) -> u32
         requires { group < length self.now.groups }
         ensures { result ≡ length (queues_of self.now.groups group) }
     {
