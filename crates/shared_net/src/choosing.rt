@@ -90,20 +90,6 @@ pub(crate) fn opens_none(site: &Site, code: &Code, tree: &LocTree, pick: &Pick) 
     births(code, site, pick) == 0
 }
 
-/// The reaction that is ready, where there is one and it opens no location.
-pub(crate) fn picks_on(site: &Site, code: &Code, tree: &LocTree) -> Option<Pick>
-    requires act { CanAct code.now tree.now site.now }
-    ensures chosen { IfSome result (λ pick. Chooses code.now tree.now site.now (choice.Pick pick)) }
-    ensures none_born { IfSome result (λ pick. OpensNone code.now site.now pick) }
-{
-    let pick = ready(site, code, tree)?;
-    if opens_none(site, code, tree, &pick) {
-        Some(pick)
-    } else {
-        None
-    }
-}
-
 /// Where the request is one to go to a location of the tree, the number of the site that hosts
 /// that.
 pub(crate) fn leads_to(site: &Site, tree: &LocTree, atom: &AtomId) -> Option<u32>

@@ -5,7 +5,6 @@ ghost use Rattle.shared_net.specs.declared.choosing.Chosen.TheVariants as choice
 ghost use Rattle.shared_net.specs.Mail.{IsMessageFlight};
 ghost use Rattle.shared_net.specs.Choosing.{Chooses, OpensNone, IsToGo};
 ghost use Rattle.shared_net.specs.Offers.{Turned, MayGain};
-ghost use Rattle.shared_net.specs.Making.{StaysFitAt};
 
 use crate::choosing::Chosen;
 use crate::inside::{make_across, make_here, make_wide};
@@ -37,8 +36,6 @@ pub(crate) trait Desk<L: Run> {
     ) -> Result<Made, Memory>
         requires chosen { Chooses code.now tree.now site.old (choice.Pick pick.now) }
         requires none_born { OpensNone code.now site.old pick.now }
-        ensures fit { IfOk result (λ made.
-            StaysFitAt code.now tree.now site.old.number made.turn site.new made.effects) }
         ensures pass { IfOk result (λ made. Turned pass.old made.turn pass.new) }
         ensures sends { IfOk result (λ made. Each IsMessageFlight made.effects.sends) }
         ensures gain { OnErr result (MayGain pass.old pass.new) };

@@ -17,7 +17,7 @@ use std::sync::ledger::Share;
 /// for each event that it made. Its part of the ledger holds as much as it has receipts.
 ///
 /// Its number of turns, from 0, stays at the last number of 64 bits once it is there, and `idle` at
-/// the last one of 32 bits. It remembers how many messages waited at the site of its last reaction.
+/// the last one of 32 bits.
 #[derive(Drop)]
 pub struct Pass<L: Run> {
     pub(crate) number: u32,
@@ -25,7 +25,6 @@ pub struct Pass<L: Run> {
     pub(crate) receipts: Receipts,
     pub(crate) next: u64,
     pub(crate) turns: u64,
-    pub(crate) waiting: usize,
     pub(crate) idle: u32,
     pub(crate) full: bool,
     pub(crate) share: Share<L>,
@@ -65,7 +64,6 @@ impl<L: Run> Pass<L> {
             receipts: Items::new(alloc),
             next: 0,
             turns: 0,
-            waiting: 0,
             idle: 0,
             full: false,
             share,
@@ -107,21 +105,7 @@ impl<L: Run> Pass<L> {
     {
         let turn = self.turns;
         self.turns = turn.saturating_add(1);
-        self.waiting = 0;
         turn
-    }
-
-    /// How many messages waited at the site of the last turn, where that made a reaction which opened
-    /// no location, and else none.
-    pub(crate) fn waiting(&self) -> usize {
-        self.waiting
-    }
-
-    /// Remembers how many messages wait at the site of the turn.
-    pub(crate) fn look(&mut self, waiting: usize)
-        ensures { self.new ≡ self.old }
-    {
-        self.waiting = waiting;
     }
 
     /// Notes what a turn came to. Its receipt was written where it was made.
@@ -146,7 +130,6 @@ impl<L: Run> Pass<L> {
             receipts: _,
             next: _,
             turns: _,
-            waiting: _,
             idle: _,
             full: _,
             share,

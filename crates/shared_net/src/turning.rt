@@ -1,18 +1,15 @@
 // A turn at one site.
-ghost use Rattle.std.specs.Prelude.{◌≡◌, ◌≢◌, ◌<◌, ℕ, IfOk, OnErr, IsTrue};
+ghost use Rattle.std.specs.Prelude.{◌≡◌, ◌≢◌, ◌<◌, IfOk, OnErr};
 ghost use Rattle.chem_model.specs.Each.{Each};
-ghost use Rattle.env_store.specs.CodeParts.{CodeParts};
-ghost use Rattle.loc_tree.specs.Tree.{Tree};
 ghost use Rattle.shared_net.specs.declared.choosing.Chosen.TheVariants as choice;
-ghost use Rattle.shared_net.specs.Choosing.{CanAct, Chooses, OpensNone, IsToGo};
+ghost use Rattle.shared_net.specs.Choosing.{Chooses, OpensNone, IsToGo};
 ghost use Rattle.shared_net.specs.Mail.{IsMessageFlight};
-ghost use Rattle.shared_net.specs.Making.{StaysFitAt};
 ghost use Rattle.shared_net.specs.Offers.{Turned, MayGain};
 ghost use Rattle.shared_net.specs.Passes.{PassKept};
-ghost use Rattle.shared_net.specs.Turning.{Turns, owner};
+ghost use Rattle.shared_net.specs.Turning.{Turns};
 ghost use Rattle.shared_net.specs.TurnParts.{Steps, StepsFirst};
 
-use crate::choosing::{Chosen, can_act, leads_to, opens_none, picks_on};
+use crate::choosing::{Chosen, leads_to, opens_none};
 use crate::door::{Desk, enter};
 use crate::gate::{Gate, Phase};
 use crate::inside::{arrive, choose};
@@ -30,37 +27,11 @@ use std::alloc::Global;
 use std::sync::{Mutex, Wait};
 use wire_packet::Flights;
 
-/// A worker goes on at a site with one reaction for so many messages that wait there.
-const MESSAGES_TO_A_REACTION: usize = 8;
-
 // What the part of a turn under the tree's read lock came to.
 enum Step {
     Ended(Turn),
     // The write lock is needed. Whether messages went into mailboxes.
     Wide(bool),
-}
-
-// What a reaction came to, and whether the site is fit for the next one at once.
-#[derive(Clone, Copy)]
-struct Reacted {
-    turn: Turn,
-    fit: bool,
-}
-
-// Whether a site that made a reaction has all that the next one needs of it: the tree is as it was,
-// and numbers may still be drawn.
-fn is_fit(site: &Site, made: &Made) -> bool
-    ensures { (c : CodeParts) (t : Tree) (i : ℕ)
-        → StaysFitAt c t i made.now.turn site.now made.now.effects
-        → IsTrue result → CanAct c t site.now }
-{
-    let Turn::Did(_) = made.turn else {
-        return false;
-    };
-    if !made.effects.births.is_empty() {
-        return false;
-    }
-    site.made() < 1 << 63
 }
 
 // What a turn answers that made an event or not, where messages of its first step went into
@@ -136,20 +107,16 @@ impl Parts {
         tree: &LocTree,
         code: &Code,
         pick: &Pick,
-    ) -> Result<Reacted, Memory>
+    ) -> Result<Turn, Memory>
         requires chosen { Chooses code.now tree.now site.old (choice.Pick pick.now) }
         requires none_born { OpensNone code.now site.old pick.now }
-        ensures turn { IfOk result (λ reacted. Turned pass.old reacted.turn pass.new) }
-        ensures fit { IfOk result (λ reacted.
-            IsTrue reacted.fit → CanAct code.now tree.now site.new) }
+        ensures turn { IfOk result (λ turn. Turned pass.old turn pass.new) }
         ensures gain { OnErr result (MayGain pass.old pass.new) }
     {
         let mut desk = enter(rt, door);
         let made = desk.here(alloc, site, tree, code, pass, pick)?;
         drop(desk);
-        let fit = is_fit(site, &made);
-        let turn = self.send(rt, alloc, &made)?;
-        Ok(Reacted { turn, fit })
+        self.send(rt, alloc, &made)
     }
 
     // What the site does next, where that leaves the tree as it is.
@@ -176,9 +143,8 @@ impl Parts {
             return Ok(Step::Wide(passed));
         }
         gate.pass(pass.number(), count, Phase::Held);
-        let reacted = self.react(rt, alloc, door, pass, site, tree, code, &pick)?;
-        pass.look(site.waiting());
-        Ok(Step::Ended(passed_or(reacted.turn, passed)))
+        let turn = self.react(rt, alloc, door, pass, site, tree, code, &pick)?;
+        Ok(Step::Ended(passed_or(turn, passed)))
     }
 
     // The part of a turn under the tree's read lock and the site's.
@@ -202,67 +168,6 @@ impl Parts {
         self.act_here(
             rt, alloc, door, pass, &mut *site, &*tree, gate, count, passed,
         )
-    }
-
-    // Makes reactions that open no location one after another, each a turn of its own, while the
-    // site has one ready: so many at most.
-    fn react_on<L: Run, K: Desk<L>, G: Gate, R: Wait>(
-        &self,
-        rt: &R,
-        alloc: Global,
-        door: &Mutex<K>,
-        pass: &mut Pass<L>,
-        site: &mut Site,
-        tree: &LocTree,
-        code: &Code,
-        gate: &G,
-        most: usize,
-    ) -> Result<(), Memory>
-        requires act { CanAct code.now tree.now site.old }
-        ensures { owner pass.new ≡ owner pass.old }
-    {
-        for _reaction in 0..most {
-            let Some(pick) = picks_on(site, code, tree) else {
-                return Ok(());
-            };
-            let count = pass.begin();
-            gate.pass(pass.number(), count, Phase::Held);
-            let reacted = self.react(rt, alloc, door, pass, site, tree, code, &pick)?;
-            pass.note(reacted.turn);
-            gate.pass(pass.number(), count, Phase::Done);
-            if !reacted.fit {
-                return Ok(());
-            }
-        }
-        Ok(())
-    }
-
-    // Goes on at the site of a turn, where many messages wait: what it holds is looked through once
-    // for as many reactions as it has messages to each of them, so that a reaction beside many
-    // messages costs no more than beside few.
-    pub(crate) fn go_on<L: Run, K: Desk<L>, G: Gate, R: Wait>(
-        &self,
-        rt: &R,
-        alloc: Global,
-        door: &Mutex<K>,
-        pass: &mut Pass<L>,
-        site: u32,
-        gate: &G,
-    ) -> Result<(), Memory>
-        requires { site < self.now.sites }
-        ensures { owner pass.new ≡ owner pass.old }
-    {
-        let most = pass.waiting() / MESSAGES_TO_A_REACTION;
-        if most == 0 {
-            return Ok(());
-        }
-        let tree = self.tree.lock.read(rt);
-        let mut site = self.sites.list[site as usize].lock(rt);
-        let code = &self.code;
-        if !can_act(&*site, code, &*tree) {
-            return Ok(());
-        }
-        self.react_on(rt, alloc, door, pass, &mut *site, &*tree, code, gate, most)
     }
 
     // ---- under its write lock

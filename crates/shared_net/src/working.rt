@@ -19,8 +19,7 @@ use std::thread::Threads;
 const THREADS: usize = 16;
 
 impl Parts {
-    // Turns of one worker at one site after another, from its own on: worker 1 begins at site 0. At
-    // a site where many messages wait it makes several in a row.
+    // Turns of one worker at one site after another, from its own on: worker 1 begins at site 0.
     fn work<L: Run, K: Desk<L>, G: Gate, R: Wait>(
         &self,
         rt: &R,
@@ -37,9 +36,6 @@ impl Parts {
             match self.turn(rt, alloc, door, pass, site, gate) {
                 Err(_) | Ok(Turn::Full) => return,
                 Ok(_) => {}
-            }
-            if self.go_on(rt, alloc, door, pass, site, gate).is_err() || pass.full() {
-                return;
             }
             if pass.idle() >= sites {
                 return;

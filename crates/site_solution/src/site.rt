@@ -207,8 +207,8 @@ impl Site {
         self.groups.width(group as usize)
     }
 
-    /// How many messages wait here.
-    pub fn waiting(&self) -> usize
+    // How many messages wait.
+    fn waiting(&self) -> usize
         ensures count { result ≡ waiting_in self.now }
         ensures few { result < 2 ^ 32 }
     {
