@@ -1,10 +1,13 @@
 -- The code of a program as a function of it: private contracts alone cite it. That it reads as the
 -- program, and keeps the facts of code, is proved above it.
-use Rattle.std.specs.Prelude.{ℕ, ◌+◌, ◌*◌, ◌/◌, ◌%◌, ◌^◌, List, [], ◌∷◌, ◌++◌, Option, Some, None, length, replicate, slice_set, slice_index, bit_or}
+use Rattle.std.specs.Prelude.{ℕ, ◌+◌, ◌*◌, ◌/◌, ◌%◌, ◌^◌, List, [], ◌∷◌, ◌++◌, Option, Some, None}
+use Rattle.std.specs.Prelude.{length, replicate, slice_set, slice_index, bit_or}
 use Rattle.chem_model.specs.declared.name.Ref.{Ref}
 use Rattle.chem_model.specs.declared.name.Ref.TheVariants.{Binder, Known}
 use Rattle.chem_model.specs.declared.name.Pat.{Pat}
-use Rattle.chem_model.specs.Process.{Process, Msg, Par, Def, Go, Fail, Halt, Processes, none, one_more, Definition, Rule, Place, Definitions, no_definition, and_also}
+use Rattle.chem_model.specs.Process.{Process, Msg, Par, Def, Go, Fail, Halt, Processes, none}
+use Rattle.chem_model.specs.Process.{one_more, Definition, Rule, Place, Definitions, no_definition}
+use Rattle.chem_model.specs.Process.{and_also}
 use Rattle.chem_model.specs.Binders.{binder_of, params_of}
 use Rattle.chem_model.specs.Fill.{Naming}
 use Rattle.env_store.specs.declared.code.Slot.{Slot}
@@ -17,7 +20,8 @@ use Rattle.env_store.specs.declared.code.Block.{Block}
 use Rattle.guard_compile.specs.declared.write.At.{At}
 use Rattle.guard_compile.specs.declared.write.Piece.{Piece}
 use Rattle.guard_compile.specs.declared.write.Defined.{Defined}
-use Rattle.env_store.specs.Layout.{rules_in, births_in, sends_in, new_channels, new_counts, place_order, place_in, order}
+use Rattle.env_store.specs.Layout.{rules_in, births_in, sends_in, new_channels, new_counts}
+use Rattle.env_store.specs.Layout.{place_order, place_in, order}
 use Rattle.env_store.specs.declared.code.SiteCode.{SiteCode}
 use Rattle.env_store.specs.CodeParts.{CodeParts}
 use Rattle.env_store.specs.Masks.{number_of_words}

@@ -2,7 +2,8 @@
 ghost use Rattle.std.specs.Prelude.{◌≡◌, ◌+◌, [], ◌∷◌, ◌++◌, ℕ, IfOk, OnOk, length, slice_get};
 ghost use Rattle.chem_model.specs.Process.{definitions};
 ghost use Rattle.chem_model.specs.Fill.{name_at};
-ghost use Rattle.chem_model.specs.Pour.{name_ref, name_pats, name_channels, name_place, name_places, naming};
+ghost use Rattle.chem_model.specs.Pour.{name_ref, name_pats, name_channels, name_place};
+ghost use Rattle.chem_model.specs.Pour.{name_places, naming};
 ghost use Rattle.chem_model.specs.Opening.{root_of, root_names, level_names, site_names};
 ghost use Rattle.guard_compile.specs.Drawing.{drawn};
 

@@ -74,7 +74,7 @@ pub(crate) trait Desk<L: Run> {
         ensures gain { OnErr result (MayGain pass.old pass.new) };
 }
 
-// So often a worker looks at the book's lock before it sleeps: for longer than an event is under it.
+// So often a worker looks at the lock before it sleeps: for longer than an event is under it.
 const LOOKS: u32 = 500;
 
 // Locks the book. It looks for a while first whether the lock is free: what is done under it is
