@@ -12,7 +12,8 @@ trap 'rm -rf "$work"' EXIT
 
 . "$root/bench/program.sh"
 
-commands=('alone' 'rounds --workers 4' 'run --workers 4')
+every_command=('alone' 'rounds --workers 4' 'run --workers 4')
+commands=("${every_command[@]}")
 
 others=0
 # runs NAME STATUS BUDGET: the text on standard input, by each command with this budget, must end with this status
@@ -52,13 +53,17 @@ numbered() {
     }'
 }
 
-# bursts RULES: a thousand reactions that each make a thousand messages on y, under these further rules
+# bursts COUNT RULES: so many reactions that each make a thousand messages on y, under these further rules
 bursts() {
-    printf 'site s [ x() => %s0 and %s : %s0 ]\n' "$(times 1000 'y()|')" "$1" "$(times 1000 'x()|')"
+    printf 'site s [ x() => %s0 and %s : %s0 ]\n' "$(times 1000 'y()|')" "$2" "$(times "$1" 'x()|')"
 }
 
-runs 'a million messages that wait' 0 10000 < <(bursts 'y() | never() => 0')
-runs 'a million messages that wait in one queue before they react' 5 1000000 < <(bursts 'y() => 0')
+# sent COUNT: so many messages of a site's process that are sent to another site
+sent() {
+    printf 'site s [ none : %s0 ] site t [ y() | never() => 0 : 0 ]\n' "$(times "$1" 'y()|')"
+}
+
+runs 'a million messages that wait' 0 10000 < <(bursts 1000 'y() | never() => 0')
 runs 'a million messages that each react, a thousand at once' 5 1000000 < <(
     printf 'site s [ y() => 0 and x() | go_on() => go_on() | %s0 : go_on() | %s0 ]\n' "$(times 1000 'y()|')" "$(times 1000 'x()|')"
 )
@@ -68,9 +73,15 @@ runs 'a million messages that each go to the next of 64 sites' 5 1000000 < <(
 runs '250,000 messages of a text that wait' 0 10000 < <(
     printf 'site s [ y() | never() => 0 : %s0 ]\n' "$(times 250000 'y()|')"
 )
-runs '250,000 messages of a text that are sent to another site' 0 10000 < <(
-    printf 'site s [ none : %s0 ] site t [ y() | never() => 0 : 0 ]\n' "$(times 250000 'y()|')"
-)
+# A turn of a free worker looks through all that its site holds, once for its event and once for each message that comes.
+# So in these two the time of `run` grows with the square of the messages, and it has fewer of them.
+commands=("${every_command[@]::2}")
+runs 'a million messages that wait in one queue before they react' 5 1000000 < <(bursts 1000 'y() => 0')
+runs '250,000 messages of a text that are sent to another site' 0 10000 < <(sent 250000)
+commands=("${every_command[2]}")
+runs '20,000 messages that wait in one queue before they react' 0 1000000 < <(bursts 20 'y() => 0')
+runs '20,000 messages of a text that are sent to another site' 0 10000 < <(sent 20000)
+commands=("${every_command[@]}")
 runs '64 sites that all halt at once' 0 100000 < <(numbered 64 'site s# [ x#() => 0 : halt() | x#() ]
 ')
 runs '64 sites that all halt at once, each watched by all' 0 100000 < <(
