@@ -1,8 +1,9 @@
 -- Receipts that agree with a book and are as many as its events: each place has one, and all are below the budget.
-use Rattle.std.proofs.Common.{◌≡◌, ℕ, zero, suc, ◌+◌, ◌<◌, ◌≤◌, List, [], ◌∷◌, ◌++◌, length, map, length-append, Bool, true, false, cond, ◌==◌, refl, ap, ◌∙◌, subst, arith, None}
+use Rattle.std.proofs.Common.{◌≡◌, ℕ, zero, suc, ◌+◌, ◌<◌, ◌≤◌, List, [], ◌∷◌, ◌++◌, length, map, length-append, Bool, true, false, cond, ◌==◌, refl, ap, sym, ◌∙◌, subst, arith, Some, None}
 use Rattle.std.proofs.lemmas.Bool.Decides.{nat_tests}
 use Rattle.std.proofs.lemmas.List.{map-append}
 use Rattle.std.proofs.lemmas.Option.{slice_get_within}
+use Rattle.chem_model.specs.declared.event.Event.{Event}
 use Rattle.chem_model.specs.Each.{Each}
 use Rattle.chem_model.specs.ProgramFacts.{ProgramTerms}
 use Rattle.chem_laws.proofs.Lists.{Each-append, Each-weaker}
@@ -12,7 +13,11 @@ use Rattle.shared_net.specs.declared.report.Worked.{Worked}
 use Rattle.shared_net.specs.Passes.{PassKept, Rise}
 use Rattle.shared_net.specs.Agrees.{row_of, all_receipts, times_at, Stands, Agrees}
 use Rattle.shared_net.specs.Reports.{Reported}
-use Rattle.shared_net.specs.Closes.{HaveBudget, IsAgreed}
+use Rattle.shared_net.specs.declared.closing.Closed.TheVariants as closed
+use Rattle.shared_net.specs.declared.differs.Differs.{Differs}
+use Rattle.shared_net.specs.declared.differs.Differs.TheVariants as cause
+use Rattle.shared_net.specs.Causes.{Compares, IsOfStarted}
+use Rattle.shared_net.specs.Closes.{HaveBudget, IsAgreed, Closes}
 use Rattle.shared_net.proofs.Counting.{each_place}
 
 all-append : (xs ys : List Worked) → length (all_receipts (xs ++ ys)) ≡ length (all_receipts xs) + length (all_receipts ys)
@@ -62,3 +67,14 @@ agreed program budget ps book agrees rise is many same =
 -- a report without a cause, its rows told otherwise
 pub with-rows : (report : Reported) (ws vs : List Worked) → report ≡ record { workers = ws; differs = None } → ws ≡ vs → report ≡ record { workers = vs; differs = None }
 with-rows report ws vs is same = is ∙ ap (λ (rows : List Worked). record { workers = rows; differs = None }) same
+
+-- no book of another program is the cause of what a journal shows
+pub started_is : (program : ProgramTerms) (journal : List Event) (rows : List Worked) (d : Differs) → Compares journal rows (Some d) → IsOfStarted program d
+started_is program journal rows (cause.Event place receipt kept) h = tt
+started_is program journal rows (cause.Twice place first second) h = tt
+started_is program journal rows (cause.Past place end) h = tt
+started_is program journal rows (cause.Program started kept) h = absurd h.1
+
+-- a report with a cause, its rows told otherwise
+pub differs_closes : (program : ProgramTerms) (budget : ℕ) (report : Reported) (ws rows : List Worked) (d : Differs) → report ≡ record { workers = ws; differs = Some d } → ws ≡ rows → IsOfStarted program d → Closes program budget rows (closed.Differs report)
+differs_closes program budget report ws rows d is same started = subst (λ (r : Reported). Closes program budget rows (closed.Differs r)) (sym is) (same, refl, started)

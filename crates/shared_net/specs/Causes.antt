@@ -2,6 +2,7 @@
 use Rattle.std.specs.Prelude.{◌≡◌, ◌≢◌, ℕ, ◌≤◌, ◌⊎◌, List, [], ◌∷◌, length}
 use Rattle.std.specs.Prelude.{Option, Some, None, slice_get}
 use Rattle.chem_model.specs.Each.{Each}
+use Rattle.chem_model.specs.ProgramFacts.{ProgramTerms}
 use Rattle.chem_model.specs.declared.event.Event.{Event}
 use Rattle.shared_net.specs.declared.receipt.Receipt.{Receipt}
 use Rattle.shared_net.specs.declared.report.Worked.{Worked}
@@ -39,6 +40,13 @@ IsCause rows (cause.Twice place first second) =
     (first ≢ second) × IsHolder first place rows × IsHolder second place rows
 IsCause rows (cause.Past place end) = (end ≤ place) × OneOf (HasPlace place) rows
 IsCause rows (cause.Program started kept) = kept.program ≢ started
+
+-- where the cause names a program that was started, it is this one
+abbrev pub IsOfStarted : ProgramTerms → Differs → Type 0
+IsOfStarted program (cause.Event place receipt kept) = Unit {0}
+IsOfStarted program (cause.Twice place first second) = Unit {0}
+IsOfStarted program (cause.Past place end) = Unit {0}
+IsOfStarted program (cause.Program started kept) = started ≡ program
 
 -- the cause is true of the journal; that a book is of another program no journal shows
 abbrev pub IsShownBy : List Event → Differs → Type 0

@@ -1,23 +1,26 @@
 -- What the workers leave of the passes, and of the journal after the finish on one thread.
-use Rattle.std.proofs.Common.{◌≡◌, ◌≢◌, ℕ, zero, suc, ◌<◌, List, [], ◌∷◌, ◌++◌, length, take, drop, map, refl, ap, sym, ◌∙◌, subst, arith, Option, Some, None, IfSome, Result, Ok, Err, IfOk, is_some, true}
+use Rattle.std.proofs.Common.{◌≡◌, ◌≢◌, ℕ, zero, suc, ◌-◌, ◌<◌, List, [], ◌∷◌, ◌++◌, length, take, drop, map, refl, ap, sym, ◌∙◌, subst, arith, Option, Some, None, IfSome, Result, Ok, Err, IfOk, is_some, true}
 use Rattle.std.specs.Prelude.{slice_get}
 use Rattle.chem_model.specs.Each.{Each}
 use Rattle.chem_model.specs.ProgramFacts.{ProgramTerms}
 use Rattle.chem_model.specs.declared.event.Event.{Event}
 use Rattle.chem_model.specs.declared.memory.Memory.{Memory}
 use Rattle.trace_history.specs.Kept.{Kept}
+use Rattle.trace_history.specs.Book.{OnSolution}
 use Rattle.shared_net.specs.declared.closing.Closed.TheVariants as closed
 use Rattle.shared_net.specs.declared.differs.Differs.{Differs}
 use Rattle.shared_net.specs.declared.receipt.Receipt.{Receipt}
 use Rattle.shared_net.specs.declared.report.Worked.{Worked}
 use Rattle.shared_net.specs.Agrees.{row_of, all_receipts, Stands}
-use Rattle.shared_net.specs.Causes.{DifferInNumber, IsCause}
+use Rattle.shared_net.specs.Causes.{DifferInNumber, IsCause, IsOfStarted}
 use Rattle.shared_net.specs.Closes.{IsAgreed, HaveBudget, Closes}
 use Rattle.shared_net.specs.Passes.{PassKept}
 use Rattle.shared_net.specs.Reports.{Reported}
 use Rattle.shared_net.specs.Turning.{HaveSameOwners}
 use Rattle.site_runner.specs.declared.outcome.Done.{Done}
-use Rattle.site_runner.specs.Free.{HasEnded, AreRows, AreFirst, HasCause, IsMadeWith, IsFree}
+use Rattle.site_runner.specs.Free.{HasEnded, AreRows, AreFirst, GoesOnAlone, HasCause, IsMadeWith, IsFree}
+use Rattle.site_runner.specs.Run.{RunsOn}
+use Rattle.site_runner.specs.Schedule.{IsSchedule}
 
 pub lent_whole : (old w : List PassKept) → length w ≡ length old → take (length old) (w ++ drop (length w) old) ≡ w
 lent_whole [] [] l = refl
@@ -102,12 +105,22 @@ are_first program budget rows book final events added agreed many more = record 
   each_place = λ k l. agreed.each_place k (subst (λ (n : ℕ). k < n) many l);
 }
 
-pub has_cause : (report : Reported) → is_some report.differs ≡ true → IfSome report.differs (IsCause report.workers) → HasCause report
-has_cause report some cause = of report.differs some cause
+pub has_cause : (p : ProgramTerms) (report : Reported) → is_some report.differs ≡ true → IfSome report.differs (IsCause report.workers) → IfSome report.differs (IsOfStarted p) → HasCause p report
+has_cause p report some cause started = of report.differs refl some cause started
   where
-    of : (differs : Option Differs) → is_some differs ≡ true → IfSome differs (IsCause report.workers) → (cause : Differs) × (differs ≡ Some cause) × IsCause report.workers cause
-    of None some is = absurd cc
-    of (Some cause) some is = (cause, refl, is)
+    of : (differs : Option Differs) → report.differs ≡ differs → is_some differs ≡ true → IfSome differs (IsCause report.workers) → IfSome differs (IsOfStarted p) → HasCause p report
+    of None same some is started = absurd cc
+    of (Some cause) same some is started = record { cause = cause; differs = same; is_true = is; started = started }
+
+-- what the one thread adds to the book with which the receipts agree
+pub goes_on_alone : (book new : Kept) (budget events : ℕ) → events ≡ length book.journal → RunsOn book budget new → GoesOnAlone book.program budget events new.journal
+goes_on_alone book new budget events many run = record {
+  first = book.journal;
+  rest = run.added;
+  journal_is = run.journal;
+  as_many = sym many;
+  schedule = subst (λ (k : ℕ). OnSolution book (λ n. IsSchedule (budget - k) n 0 run.added)) (sym many) run.schedule;
+}
 
 module _ (sites : ℕ) (old w : List PassKept) (p : ProgramTerms) (budget : ℕ) (same : HaveSameOwners old w) (ended : Each (λ p. HasEnded sites (row_of p)) w) where
   -- the rows are those of the passes that came back

@@ -556,14 +556,15 @@ module _ (law : StuckIsQuiet) (budget : ℕ) (net end : NetParts) (book after : 
           let at_rest = (none_enabled_is_quiet after.program end.code e.is_program e.is_code e.of_program end.net e.last e.stands e.runs).0 (not_enabled after.program end.code e.is_program e.is_code e.of_program end.net none_end) in
           stuck_where law after e.last e.stands.sound e.leads at_rest.1
 
-  pub runs_in_rounds : RunsInRounds net book budget after
-  runs_in_rounds = record {
+  pub runs_in_rounds : length after.journal ≤ budget → RunsInRounds net book budget after
+  runs_in_rounds within = record {
     program = ap (λ (b : Kept). b.program) r.book_is;
     added = r.added;
     end = end.net;
     journal = ap (λ (b : Kept). b.journal) r.book_is;
     schedule = r.runs;
     stand = λ n e. subst (Stands (rules_of_group after.program) end.net) (same_some r.one.last n (sym r.one.leads ∙ e)) r.one.stands;
+    within = within;
     ends = run_ends;
   }
 

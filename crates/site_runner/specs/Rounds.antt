@@ -1,5 +1,5 @@
 -- What a run in rounds does to a book.
-use Rattle.std.specs.Prelude.{◌≡◌, ℕ, ◌-◌, ◌++◌, ◌⊎◌, List, length}
+use Rattle.std.specs.Prelude.{◌≡◌, ℕ, ◌-◌, ◌≤◌, ◌++◌, ◌⊎◌, List, length}
 use Rattle.chem_model.specs.declared.event.Event.{Event}
 use Rattle.chem_model.specs.ProgramFacts.{ProgramTerms}
 use Rattle.trace_history.specs.Kept.{Kept}
@@ -23,8 +23,8 @@ pub record StandForOne (book : Kept) (net : NetParts) : Type 0 where
 
 -- the program stays; what is appended to the journal is the schedule of rounds from the network, of
 -- at most as many events as the budget leaves, and the network that it leaves stands for the
--- solution of the book; and at the end no event is possible or the journal has exactly as many
--- events as the budget
+-- solution of the book; the journal has at most as many events as the budget, and at the end no
+-- event is possible or it has exactly that many
 pub record RunsInRounds (net : NetParts) (old : Kept) (budget : ℕ) (new : Kept) : Type 0 where
   pub program : new.program ≡ old.program
   pub added : List Event
@@ -32,6 +32,7 @@ pub record RunsInRounds (net : NetParts) (old : Kept) (budget : ℕ) (new : Kept
   pub journal : new.journal ≡ old.journal ++ added
   pub schedule : AreRounds net.code (budget - length old.journal) net.net added end
   pub stand : OnSolution new (λ n. Stands (rules_of_group new.program) end n)
+  pub within : length new.journal ≤ budget
   pub ends : IsStuck new ⊎ (length new.journal ≡ budget)
 
 -- the schedule of a program's run in rounds

@@ -62,6 +62,7 @@ fn go_on(alloc: Global, net: &mut Net, book: &mut Book, budget: u32) -> Result<(
     ensures goes { OnOk result (HaveRun
         (GoesOn net.old.code (budget - length book.old.journal) net.old.net)
         net.old book.old net.new book.new) }
+    ensures within { OnOk result (length book.new.journal ≤ budget) }
     ensures left { OnErr result (length book.old.journal < budget) }
 {
     'choices: while book.journal().len() < budget as usize {
@@ -220,6 +221,7 @@ fn make_rounds<R: Threads + Sync>(
     requires one { AreOne book net }
     ensures rounds { IfOk result (λ after. (end : NetParts) × HaveRun
         (AreRounds net.code (budget - length book.journal) net.net) net book end after) }
+    ensures within { IfOk result (λ after. length after.journal ≤ budget) }
     ensures left { OnErr result (length book.journal < budget) }
 {
     let mut net = net;

@@ -1,9 +1,9 @@
 // The run on free threads.
-ghost use Rattle.std.specs.Prelude.{◌≡◌, ◌<◌, ◌≤◌, length, map, is_some, true, None, IfOk};
+ghost use Rattle.std.specs.Prelude.{◌≡◌, ◌<◌, ◌≤◌, length, map, is_some, true, None, IfOk, IfSome};
 ghost use Rattle.chem_model.specs.Each.{Each};
 ghost use Rattle.env_store.specs.Reading.{IsCodeOf};
 ghost use Rattle.shared_net.specs.Agrees.{row_of};
-ghost use Rattle.shared_net.specs.Causes.{DifferInNumber};
+ghost use Rattle.shared_net.specs.Causes.{DifferInNumber, IsOfStarted};
 ghost use Rattle.shared_net.specs.Closes.{HaveBudget, IsAgreed};
 ghost use Rattle.site_runner.specs.Free.{HasEnded, IsFinished, IsMadeWith, IsFree};
 ghost use Rattle.site_runner.specs.Free.{first_workers};
@@ -48,7 +48,8 @@ fn shared(alloc: Global, book: Book, report: Report, budget: u32) -> Result<Done
 
 /// Makes the whole run on one thread, where the receipts don't agree with the book.
 fn lone(alloc: Global, program: &Program, report: Report, budget: u32) -> Result<Done, Memory>
-    requires { is_some report.differs ≡ true }
+    requires some { is_some report.differs ≡ true }
+    requires started { IfSome report.differs (IsOfStarted program.now) }
     ensures run { IfOk result (λ done. IsFinished program.now budget done.book) }
     ensures how { IfOk result (λ done.
         IsMadeWith report.workers program.now budget done.book.journal done.how) }

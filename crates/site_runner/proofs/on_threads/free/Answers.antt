@@ -61,3 +61,13 @@ returns-clause-how g c =
     let report : Reported = c.in-Ok-Differs.report in
     let closes = closes_of_all old w c.args.net.program c.args.program.now c.args.net.budget c.args.budget (Differs report) whole c.requires.program c.requires.budget (rw c.in-Ok-Differs.field-0-is at c.in-Ok-Differs.ensures.closed) in
     lone_is_free c.args.net.sites old w c.args.program.now c.args.budget same ended report closes c.lone.result c.lone.ensures.how
+
+pub lone-requires-clause-started : goal.lone-requires-clause-started
+lone-requires-clause-started g c κs within =
+    let old = c.args.passes in
+    let w : List PassKept = c.work_all.new.passes in
+    let same : HaveSameOwners old w = rw c.as_mut_slice.ensures.passes at c.work_all.ensures in
+    let whole = lent_whole old w (same_length old w same) in
+    let report : Reported = c.in-Ok-Differs.report in
+    let closes = closes_of_all old w c.args.net.program c.args.program.now c.args.net.budget c.args.budget (Differs report) whole c.requires.program c.requires.budget (rw c.in-Ok-Differs.field-0-is at c.in-Ok-Differs.ensures.closed) in
+    closes.2

@@ -17,6 +17,6 @@ returns-clause-how c =
     let same = ap (λ (b : Kept). b.program) c.in_ok-book.ensures.opening in
     let none = ap (λ (b : Kept). b.journal) c.in_ok-book.ensures.opening in (
       refl,
-      has_cause c.args.report c.requires c.differs-cause.ensures.cause,
+      has_cause c.args.program.now c.args.report c.requires.some c.differs-cause.ensures.cause c.requires.started,
       subst (λ (p : ProgramTerms). ScheduleOf p c.args.budget c.in_ok-book-2.book.journal) same (c.in_ok-book-2.ensures.whole none),
     )

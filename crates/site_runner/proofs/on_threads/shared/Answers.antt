@@ -2,7 +2,7 @@
 use Rattle.std.proofs.Common.{◌≡◌, Option, length, ap, ◌∙◌}
 use Rattle.shared_net.specs.declared.differs.Differs.{Differs}
 use Rattle.shared_net.specs.Reports.{Reported}
-use Rattle.site_runner.proofs.Carried.{are_first}
+use Rattle.site_runner.proofs.Carried.{are_first, goes_on_alone}
 use Rattle.site_runner.proofs.on_threads.shared.Goals as goal
 
 pub returns-clause-run : goal.returns-clause-run
@@ -17,4 +17,5 @@ returns-clause-how c =
     let many : c.len-events.result ≡ length c.args.book.journal = c.len-events.ensures.count ∙ ap length c.journal.ensures in (
       ap (λ (d : Option Differs). record { workers = report.workers; differs = d }) c.requires.none,
       are_first c.args.book.program c.args.budget report.workers c.args.book c.in_ok-book.book.journal c.len-events.result run.added c.requires.agreed many run.journal,
+      goes_on_alone c.args.book c.in_ok-book.book c.args.budget c.len-events.result many run,
     )
