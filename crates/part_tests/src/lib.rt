@@ -1,0 +1,8 @@
+//! Tests of the parts that sites are made of: status words, queues, the tree, packets, environments
+//! and runs of code.
+#![tactic(auto)]
+
+#[cfg(test)]
+mod crossing;
+#[cfg(test)]
+mod words;
