@@ -5,4 +5,6 @@
 #[cfg(test)]
 mod crossing;
 #[cfg(test)]
+mod queues;
+#[cfg(test)]
 mod words;
