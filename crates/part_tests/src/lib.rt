@@ -7,4 +7,6 @@ mod crossing;
 #[cfg(test)]
 mod queues;
 #[cfg(test)]
+mod tree;
+#[cfg(test)]
 mod words;
