@@ -5,6 +5,8 @@
 #[cfg(test)]
 mod crossing;
 #[cfg(test)]
+mod packets;
+#[cfg(test)]
 mod queues;
 #[cfg(test)]
 mod tree;
