@@ -5,6 +5,8 @@
 #[cfg(test)]
 mod crossing;
 #[cfg(test)]
+mod environments;
+#[cfg(test)]
 mod packets;
 #[cfg(test)]
 mod queues;
