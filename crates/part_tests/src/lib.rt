@@ -7,6 +7,8 @@ mod crossing;
 #[cfg(test)]
 mod environments;
 #[cfg(test)]
+mod messages;
+#[cfg(test)]
 mod packets;
 #[cfg(test)]
 mod queues;
