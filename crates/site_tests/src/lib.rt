@@ -17,6 +17,8 @@ mod refused;
 #[cfg(test)]
 mod shown;
 #[cfg(test)]
+mod site_by_itself;
+#[cfg(test)]
 mod steps;
 #[cfg(test)]
 mod texts;
