@@ -7,6 +7,8 @@ mod by_hand;
 #[cfg(test)]
 mod calls;
 #[cfg(test)]
+mod delivering;
+#[cfg(test)]
 mod moves;
 #[cfg(test)]
 mod net;
