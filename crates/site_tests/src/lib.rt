@@ -9,6 +9,8 @@ mod calls;
 #[cfg(test)]
 mod delivering;
 #[cfg(test)]
+mod failing;
+#[cfg(test)]
 mod moves;
 #[cfg(test)]
 mod net;
