@@ -8,8 +8,6 @@ mod naming;
 mod parts;
 mod posting;
 mod running;
-#[cfg(test)]
-mod tests;
 
 pub use made::{Post, Posts, Run};
 pub use running::{message, open, run};

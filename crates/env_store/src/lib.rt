@@ -16,6 +16,3 @@ pub use laws::{
     opening_is_pouring, openings_lay_groups, reacting_is_pouring, reads_under_each,
     running_is_pouring, runs_lay_groups,
 };
-
-#[cfg(test)]
-mod tests;

@@ -5,8 +5,6 @@
 mod deaths;
 mod detecting;
 mod halting;
-#[cfg(test)]
-mod tests;
 
 pub use deaths::dead_for;
 pub use detecting::detect;

@@ -8,8 +8,6 @@ mod choosing;
 mod groups;
 mod hot;
 mod rows;
-#[cfg(test)]
-mod tests;
 mod walk;
 
 pub use choosing::Selects;

@@ -3,7 +3,5 @@
 #![tactic(auto)]
 
 mod routing;
-#[cfg(test)]
-mod tests;
 
 pub use routing::{Delivery, address, can_deliver, deliver};

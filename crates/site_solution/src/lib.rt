@@ -20,8 +20,6 @@ mod places;
 mod pouring;
 mod site;
 mod testing;
-#[cfg(test)]
-mod tests;
 mod told;
 mod walking;
 

@@ -6,6 +6,7 @@ ghost use Rattle.env_store.specs.CodeFacts.{IsCode, IsBodyAt};
 ghost use Rattle.net_laws.specs.ByCode.{counts_at, guards_at};
 
 use crate::calls::{draws, fit};
+use crate::texts::bear;
 use chem_model::{AtomId, Items, Loc, Memory, Name, Names, Nums, RuleId};
 use env_store::{Code, Guard, Level};
 use loc_tree::LocTree;
@@ -36,6 +37,19 @@ pub fn bare(alloc: Global, id: AtomId, on: Name) -> Msg {
 pub fn message(alloc: Global, id: AtomId, on: Name, place: Loc) -> Result<Msg, Memory> {
     let args = names_of(alloc, place)?;
     Ok(Msg { id, on, args })
+}
+
+/// A tree of so many roots, with a location that is born under one of them.
+pub fn tree_with(
+    rt: &impl Abort,
+    alloc: Global,
+    roots: u32,
+    loc: Loc,
+    under: u32,
+) -> Result<LocTree, Memory> {
+    let mut tree = LocTree::start(alloc, roots)?;
+    bear(rt, alloc, &mut tree, loc, under)?;
+    Ok(tree)
 }
 
 /// Puts a message on a channel with this home.
@@ -96,16 +110,23 @@ pub fn lay_at(
     site.lay(alloc, code, group)
 }
 
-/// Asks for a halt.
-pub fn ask_halt(rt: &impl Abort, site: &mut Site, id: AtomId, loc: Loc) -> Result<(), Memory> {
-    let request = Request {
-        id,
-        loc,
-        ask: Ask::Halt,
-    };
+/// Adds a request.
+pub fn ask_at(
+    rt: &impl Abort,
+    site: &mut Site,
+    id: AtomId,
+    loc: Loc,
+    ask: Ask,
+) -> Result<(), Memory> {
+    let request = Request { id, loc, ask };
     assert!(rt; site.has(&loc));
     assert!(rt; !site.has_atom(&id));
     site.ask(request)
+}
+
+/// Asks for a halt.
+pub fn ask_halt(rt: &impl Abort, site: &mut Site, id: AtomId, loc: Loc) -> Result<(), Memory> {
+    ask_at(rt, site, id, loc, Ask::Halt)
 }
 
 pub fn host_at(rt: &impl Abort, site: &mut Site, loc: Loc) -> Result<(), Memory> {

@@ -7,6 +7,10 @@ mod by_hand;
 #[cfg(test)]
 mod calls;
 #[cfg(test)]
+mod delivering;
+#[cfg(test)]
+mod failing;
+#[cfg(test)]
 mod moves;
 #[cfg(test)]
 mod net;
@@ -16,6 +20,8 @@ mod reactions;
 mod refused;
 #[cfg(test)]
 mod shown;
+#[cfg(test)]
+mod site_by_itself;
 #[cfg(test)]
 mod steps;
 #[cfg(test)]

@@ -6,8 +6,6 @@ mod ids;
 mod packet;
 mod parcel;
 mod reading;
-#[cfg(test)]
-mod tests;
 mod writing;
 
 pub use fault::DecodeEnd;

@@ -1,11 +1,11 @@
 // Packets and their bytes. The expected values were worked out by hand from the format.
-use crate::{
-    DecodeEnd, Flight, Flights, GroupInst, Msg, Packet, Parcel, copy_flights, decode, encode,
-};
 use chem_model::{AtomId, Items, Loc, Memory, Name, RuleId, Text};
 use std::alloc::Global;
 use std::process::Abort;
 use std::test::Fail;
+use wire_packet::{
+    DecodeEnd, Flight, Flights, GroupInst, Msg, Packet, Parcel, copy_flights, decode, encode,
+};
 
 /// The message 0.5 on the channel 0.1 of the location 0.0, with the location 1.0.
 fn message() -> &'static [u8] {

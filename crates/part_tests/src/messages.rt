@@ -1,8 +1,7 @@
 // One message, on an observed name and on a channel. Bodies and openings are run where there is a
 // compiler.
-use crate::made::Post;
-use crate::running::message;
 use chem_model::{Items, Loc, Name};
+use code_run::{Post, message};
 use std::test::Fail;
 
 const ROOT: Loc = Loc { site: 0, k: 0 };

@@ -1,9 +1,7 @@
 // Sets that fill more than one word. The expected values were worked out by hand.
-use crate::status::Status;
+use crate::crossing::crosses;
+use status_words::Status;
 use std::test::Fail;
-
-// That a value may be handed to another thread, and lent to several.
-fn crosses<T: Send + Sync>(_value: &T) {}
 
 #[test]
 fn sixty_five_bits(rt: HostRuntime) -> Result<(), Fail> {

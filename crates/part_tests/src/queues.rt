@@ -1,9 +1,6 @@
 // Queues of numbers. The expected values were worked out by hand.
-use crate::choosing::Selects;
-use crate::groups::Groups;
-use crate::hot::Hot;
-use crate::rows::Idle;
 use chem_model::Memory;
+use queue_cells::{Groups, Hot, Idle, Selects};
 use std::process::Abort;
 use std::test::Fail;
 

@@ -2,8 +2,9 @@
 // hand.
 ghost use Rattle.std.specs.Prelude.{◌≡◌};
 
-use crate::tree::LocTree;
+use crate::crossing::crosses;
 use chem_model::Loc;
+use loc_tree::LocTree;
 use std::process::Abort;
 use std::test::Fail;
 
@@ -12,9 +13,6 @@ fn loc(site: u32, k: u64) -> Loc
 {
     Loc { site, k }
 }
-
-// That a value may be handed to another thread, and lent to several.
-fn crosses<T: Send + Sync>(_value: &T) {}
 
 fn expect_alive(rt: &impl Abort, tree: &LocTree, loc: &Loc, want: bool) {
     assert!(rt; tree.holds(loc));

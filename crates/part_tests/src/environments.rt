@@ -1,7 +1,6 @@
 // Environments by their worked row, and copies of code.
-use crate::code::{Guard, Instr, Level, Mask, Slot, copy_instrs};
-use crate::env::{extend, lookup};
 use chem_model::{Items, Loc, Name};
+use env_store::{Guard, Instr, Level, Mask, Slot, copy_instrs, extend, lookup};
 use std::alloc::Global;
 use std::process::Abort;
 use std::test::Fail;
