@@ -63,7 +63,7 @@ returns-clause-how g c =
     lone_is_free c.args.net.sites old w c.args.program.now c.args.budget same ended report closes c.lone.result c.lone.ensures.how
 
 pub lone-requires-clause-started : goal.lone-requires-clause-started
-lone-requires-clause-started g c κs within =
+lone-requires-clause-started g c =
     let old = c.args.passes in
     let w : List PassKept = c.work_all.new.passes in
     let same : HaveSameOwners old w = rw c.as_mut_slice.ensures.passes at c.work_all.ensures in
