@@ -68,7 +68,7 @@ fn in_one_line(alloc: Global, text: &[u8]) -> Result<Text, Memory> {
     Ok(line)
 }
 
-fn shown(alloc: Global, ended: &Ended, out: &MemSink) -> Result<Shown, Memory> {
+fn told(alloc: Global, ended: &Ended, out: &MemSink) -> Result<Shown, Memory> {
     let (how, by_workers, all) = made(ended);
     let line = in_one_line(alloc, out.taken())?;
     Ok(Shown { how, by_workers, all, line })
@@ -82,7 +82,7 @@ fn run<R: AllocGlobal + Threads + Wait + Sync>(rt: &R, words: &[String], text: &
     let mut out = MemSink::new(alloc, ROOM, ROOM, Items::new(alloc))?;
     let mut err = MemSink::new(alloc, ROOM, ROOM, Items::new(alloc))?;
     let ended = run_join(alloc, words, &mut source, &mut out, &mut err, &OpenGate, &Threaded::new(rt));
-    shown(alloc, &ended, &out)
+    told(alloc, &ended, &out)
 }
 
 fn main(rt: HostRuntime) -> Result<(), anyhow::Error> {
