@@ -7,12 +7,8 @@
 # left out.
 # A measure and no test.
 set -eu
-root=$(cd "$(dirname "$0")/.." && pwd)
 limit=${1:-60}
-work=$(mktemp -d)
-trap 'rm -rf "$work"' EXIT
-
-. "$root/bench/program.sh"
+. "$(dirname "$0")/program.sh"
 
 # ran STATUS: whether a run ended as one that its budget ends, with status 5, or as one that took too long, with 124
 ran() {

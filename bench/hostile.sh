@@ -5,12 +5,8 @@
 # (default 60). It prints how long each took and how much memory it held at most. Where one ended otherwise, or not in
 # time, the status is 1.
 set -eu
-root=$(cd "$(dirname "$0")/.." && pwd)
 limit=${1:-60}
-work=$(mktemp -d)
-trap 'rm -rf "$work"' EXIT
-
-. "$root/bench/program.sh"
+. "$(dirname "$0")/program.sh"
 
 every_command=('alone' 'rounds --workers 4' 'run --workers 4')
 commands=("${every_command[@]}")
