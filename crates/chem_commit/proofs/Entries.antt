@@ -15,8 +15,8 @@ use Rattle.chem_model.specs.Sound.{IsSound}
 use Rattle.chem_laws.proofs.Bags.{one_self}
 use Rattle.chem_laws.proofs.Lists.{append_nil}
 use Rattle.chem_laws.proofs.Within.{same_loc_is}
-use Rattle.chem_commit.specs.Differ.{PlacesDiffer}
-use Rattle.chem_commit.specs.Parts.{hosted, marked, IsEntry}
+use Rattle.chem_commit.specs.inside.Differ.{PlacesDiffer}
+use Rattle.chem_commit.specs.inside.Parts.{hosted, marked, IsEntry}
 use Rattle.chem_commit.proofs.Firsts.{with_hosts_map, with_marks_map}
 use Rattle.chem_commit.proofs.Founds.{places_differ}
 

@@ -7,7 +7,7 @@ use Rattle.chem_model.specs.declared.event.AtomId.{AtomId}
 use Rattle.chem_model.specs.declared.numbered.Placed.{Placed}
 use Rattle.chem_model.specs.declared.numbered.NumberedAtom.{NumberedAtom}
 use Rattle.chem_model.specs.Apply.{same_atom, without, with_hosts, with_marks}
-use Rattle.chem_commit.specs.Parts.{place_from, hosted, marked}
+use Rattle.chem_commit.specs.inside.Parts.{place_from, hosted, marked}
 
 -- ---- a list changed member by member
 

@@ -11,14 +11,14 @@ use Rattle.chem_model.specs.Bag.{one, bag}
 use Rattle.chem_model.specs.NewNames.{coded_pair}
 use Rattle.chem_model.specs.Solution.{Standing, same_loc, is_there, host_of, or_itself, root}
 use Rattle.chem_model.specs.Numbered.{standing, place_pairs, rule_pairs}
-use Rattle.chem_model.specs.Poured.{standing_of}
+use Rattle.chem_model.specs.inside.Poured.{standing_of}
 use Rattle.chem_model.specs.Apply.{same_rule, rule_at}
 use Rattle.chem_model.specs.Sound.{IsSound}
 use Rattle.chem_laws.proofs.Bags.{one_self}
 use Rattle.chem_laws.proofs.Within.{same_loc_is}
 use Rattle.chem_laws.proofs.Taking.{same_rule_is, rule_pair_found}
 use Rattle.chem_laws.proofs.Places.{place_pair_found, root_loc}
-use Rattle.chem_commit.specs.Differ.{PlacesDiffer, RulesDiffer}
+use Rattle.chem_commit.specs.inside.Differ.{PlacesDiffer, RulesDiffer}
 
 pub places_differ : (n : Numbered) → IsSound n → PlacesDiffer n.places
 places_differ n sound p = omega (arith, sound.different p)

@@ -16,8 +16,8 @@ use Rattle.chem_laws.proofs.Bags.{one_self}
 use Rattle.chem_laws.proofs.Taking.{same_atom_is, same_atom_refl, atom_pair_found, pairs-without}
 use Rattle.std.proofs.lemmas.List.{take_all, get_or_default}
 use Rattle.std.proofs.Math.Seq.{take-append_seam}
-use Rattle.chem_commit.specs.Parts.{place_from}
-use Rattle.chem_commit.specs.Differ.{AtomsDiffer, IsAtomAt, IsPicked, ArePicked}
+use Rattle.chem_commit.specs.inside.Parts.{place_from}
+use Rattle.chem_commit.specs.inside.Differ.{AtomsDiffer, IsAtomAt, IsPicked, ArePicked}
 
 pub atoms_differ : (n : Numbered) → IsSound n → AtomsDiffer n.atoms
 atoms_differ n sound p = omega (arith, sound.different p)

@@ -1,3 +1,2 @@
 pub mod Replaces
-pub mod Parts
-pub mod Differ
+pub mod inside

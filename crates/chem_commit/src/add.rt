@@ -1,7 +1,7 @@
 // What was made, added at the ends of the lists.
 ghost use Rattle.std.specs.Prelude.{◌≡◌, ◌++◌, OnOk, OnErr};
 ghost use Rattle.chem_model.specs.Pour.{add_made};
-ghost use Rattle.chem_commit.specs.Parts.{appended, cut, Keeps};
+ghost use Rattle.chem_commit.specs.inside.Parts.{appended, cut, Keeps};
 
 use chem_model::{Items, Made, Memory, Numbered};
 

@@ -8,7 +8,7 @@ ghost use Rattle.chem_model.specs.Apply.{rule_at, atom_at, without, without_all,
 ghost use Rattle.chem_model.specs.Apply.{with_atom, move_to, move_atom, halt_atom, detect_of};
 ghost use Rattle.chem_model.specs.Apply.{detect_atom};
 ghost use Rattle.chem_model.specs.Sound.{IsSound};
-ghost use Rattle.chem_commit.specs.Parts.{poured, moved, halted};
+ghost use Rattle.chem_commit.specs.inside.Parts.{poured, moved, halted};
 
 use crate::guesses::{Guesses, can_detect, can_go, find_rule, is_live, root_of};
 use crate::near::{atom_of, received_of};

@@ -4,10 +4,10 @@ ghost use Rattle.std.specs.Prelude.{◌≡◌, ◌<◌, ◌^◌, ◌&&◌, IfSom
 ghost use Rattle.std.specs.Option.{option_copied};
 ghost use Rattle.chem_model.specs.Solution.{host_of, is_there, is_marked, root, dead, live};
 ghost use Rattle.chem_model.specs.Numbered.{standing};
-ghost use Rattle.chem_model.specs.Poured.{standing_of};
+ghost use Rattle.chem_model.specs.inside.Poured.{standing_of};
 ghost use Rattle.chem_model.specs.Apply.{same_rule, rule_at, can_go, can_detect};
 ghost use Rattle.chem_model.specs.Sound.{IsSound};
-ghost use Rattle.chem_commit.specs.Differ.{PlacesDiffer, RulesDiffer};
+ghost use Rattle.chem_commit.specs.inside.Differ.{PlacesDiffer, RulesDiffer};
 
 use chem_model::{
     Loc, Memory, Numbered, NumberedRule, NumberedRules, Placed, PlacedList, RuleId, same_loc,

@@ -3,8 +3,8 @@ ghost use Rattle.std.specs.Prelude.{◌≡◌, ◌≤◌, length, take, IfOk, If
 ghost use Rattle.std.specs.Option.{option_copied};
 ghost use Rattle.chem_model.specs.Apply.{atom_at, received_all};
 ghost use Rattle.chem_model.specs.Sound.{IsSound};
-ghost use Rattle.chem_commit.specs.Differ.{AtomsDiffer, IsAtomAt, ArePicked};
-ghost use Rattle.chem_commit.specs.Parts.{place_from};
+ghost use Rattle.chem_commit.specs.inside.Differ.{AtomsDiffer, IsAtomAt, ArePicked};
+ghost use Rattle.chem_commit.specs.inside.Parts.{place_from};
 
 use chem_model::{
     AtomId, Atoms, Items, Loc, Memory, Naming, Numbered, NumberedAtom, NumberedAtoms, Pats,

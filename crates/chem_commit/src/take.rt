@@ -1,8 +1,8 @@
 // Changes of the first members of a list alone: what was appended behind them stays as it is.
 ghost use Rattle.std.specs.Prelude.{◌≡◌, ◌≤◌, ◌++◌, length, take, drop, IfSome};
 ghost use Rattle.chem_model.specs.Apply.{without, without_all, with_hosts, with_marks};
-ghost use Rattle.chem_commit.specs.Parts.{hosted, marked, IsEntry};
-ghost use Rattle.chem_commit.specs.Differ.{PlacesDiffer, AtomsDiffer};
+ghost use Rattle.chem_commit.specs.inside.Parts.{hosted, marked, IsEntry};
+ghost use Rattle.chem_commit.specs.inside.Differ.{PlacesDiffer, AtomsDiffer};
 
 use crate::near::place_of;
 use chem_model::{AtomId, Atoms, Loc, NumberedAtoms, Placed, PlacedList, same_loc};

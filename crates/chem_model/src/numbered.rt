@@ -2,7 +2,7 @@ ghost use Rattle.std.specs.Prelude.{◌≡◌, IfOk, slice_index};
 ghost use Rattle.chem_model.specs.Solution.{same_loc, host_of, is_there, is_marked, root, dead};
 ghost use Rattle.chem_model.specs.Solution.{live};
 ghost use Rattle.chem_model.specs.Numbered.{standing, same_name, binder_in};
-ghost use Rattle.chem_model.specs.Poured.{standing_of};
+ghost use Rattle.chem_model.specs.inside.Poured.{standing_of};
 
 use crate::event::{AtomId, Outs, RuleId};
 use crate::items::Items;

@@ -10,8 +10,8 @@ ghost use Rattle.chem_model.specs.Pour.{name_place, name_places, loc_or, births_
 ghost use Rattle.chem_model.specs.Pour.{lay_rules, rules_made, pour as made_by};
 ghost use Rattle.chem_model.specs.Pour.{pour_all as made_by_all, lay_place as made_by_place};
 ghost use Rattle.chem_model.specs.Pour.{lay_places as made_by_places};
-ghost use Rattle.chem_model.specs.Poured.{Pours};
-ghost use Rattle.chem_plain.specs.Drawn.{drawn};
+ghost use Rattle.chem_model.specs.inside.Poured.{Pours};
+ghost use Rattle.chem_plain.specs.inside.Drawn.{drawn};
 
 use chem_model::{
     AtomId, Defn, DefnNode, Defs, Items, Loc, Made, Memory, Name, Named, Names, Naming,

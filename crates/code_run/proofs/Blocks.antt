@@ -16,7 +16,7 @@ use Rattle.env_store.specs.declared.code.Instr.TheVariants.{Enter}
 use Rattle.env_store.specs.CodeFacts.{IsCode, IsLevelAt, IsBlockBelow, AreBelow, names_made}
 use Rattle.env_store.specs.Running.{nothing_ran, then_ran, births_ran, group_ran, NumberedLevel, with_level, numbered_levels, channel_names, place_names, place_births, Making, places_ran, levels_entered, block_entered, Entered}
 use Rattle.code_run.specs.declared.made.Run.{Run}
-use Rattle.code_run.specs.Steps.{Adds, IsThere, FitsFirst, levels_named, levels_laid}
+use Rattle.code_run.specs.inside.Steps.{Adds, IsThere, FitsFirst, levels_named, levels_laid}
 use Rattle.code_run.proofs.Runs.{adds_then, drop_number}
 use Rattle.code_run.proofs.Numbers.{block_long}
 

@@ -19,7 +19,7 @@ use Rattle.env_store.specs.Running.{refs_at, then_ran, group_ran, NumberedLevel,
 use Rattle.env_store.proofs.Bodies.{code_made_is}
 use Rattle.env_store.proofs.Environments.{block_entered_long}
 use Rattle.code_run.specs.declared.made.Run.{Run}
-use Rattle.code_run.specs.Steps.{Adds, FitsFirst, instr_ran, env_behind}
+use Rattle.code_run.specs.inside.Steps.{Adds, FitsFirst, instr_ran, env_behind}
 use Rattle.code_run.proofs.Runs.{adds_then, adds_nothing}
 use Rattle.code_run.proofs.Blocks.{numbered_first}
 

@@ -12,7 +12,7 @@ use Rattle.env_store.specs.CodeFacts.{IsCode, IsLevelAt, IsLevel, IsPlaceBody, I
 use Rattle.env_store.specs.Running.{nothing_ran, then_ran, NumberedLevel, numbered_levels, loc_at, block_names, block_laid, code_made, site_levels_ran, site_block_ran, site_made}
 use Rattle.code_run.specs.declared.made.Run.{Run}
 use Rattle.code_run.specs.Posts.{run_of}
-use Rattle.code_run.specs.Steps.{Adds, levels_laid}
+use Rattle.code_run.specs.inside.Steps.{Adds, levels_laid}
 use Rattle.code_run.proofs.Runs.{adds_then, from_nothing}
 use Rattle.code_run.proofs.Blocks.{numbered_first}
 use Rattle.code_run.proofs.Numbers.{block_long}

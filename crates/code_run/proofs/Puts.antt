@@ -25,7 +25,7 @@ use Rattle.code_run.specs.declared.made.Post.{Post}
 use Rattle.code_run.specs.declared.made.Post.TheVariants as post
 use Rattle.code_run.specs.declared.made.Run.{Run}
 use Rattle.code_run.specs.Posts.{posts_of}
-use Rattle.code_run.specs.Steps.{Adds}
+use Rattle.code_run.specs.inside.Steps.{Adds}
 
 pub known_back : (ns : List Name) → known (all_known ns) ≡ ns
 known_back [] = refl

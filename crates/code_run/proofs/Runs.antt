@@ -12,7 +12,7 @@ use Rattle.env_store.specs.Running.{Ran, nothing_ran, then_ran, atom_ran}
 use Rattle.net_laws.specs.Posting.{Posted, a_message, a_request, posted_term, posted_of}
 use Rattle.code_run.specs.declared.made.Run.{Run}
 use Rattle.code_run.specs.Posts.{post_of, posts_of, all_posted, run_of}
-use Rattle.code_run.specs.Steps.{Adds}
+use Rattle.code_run.specs.inside.Steps.{Adds}
 
 -- what is posted is what the site is to post
 pub posted_back : (ps : List Posted) → all_posted (posts_of ps) ≡ ps

@@ -1,3 +1,3 @@
 pub mod Posts
 pub mod RunFacts
-pub mod Steps
+pub mod inside

@@ -4,7 +4,7 @@ ghost use Rattle.chem_model.specs.Each.{Each};
 ghost use Rattle.env_store.specs.declared.code.Instr.TheVariants.{Enter};
 ghost use Rattle.env_store.specs.CodeFacts.{IsBodyAt, IsLevelAt, AreBelow, Falls};
 ghost use Rattle.env_store.specs.Running.{code_made, places_ran, block_entered, numbered_levels};
-ghost use Rattle.code_run.specs.Steps.{Adds, FitsFirst, levels_laid, instr_ran, env_behind};
+ghost use Rattle.code_run.specs.inside.Steps.{Adds, FitsFirst, levels_laid, instr_ran, env_behind};
 
 use crate::made::Run;
 use crate::naming::{after_place, bear_places, name_block, sum};

@@ -3,7 +3,7 @@ ghost use Rattle.std.specs.Prelude.{◌≡◌, ◌+◌, ◌++◌, IfOk, OnOk, le
 ghost use Rattle.chem_model.specs.Each.{Each};
 ghost use Rattle.env_store.specs.Running.{channel_names, place_names, place_births, after_place};
 ghost use Rattle.env_store.specs.Running.{numbered_levels};
-ghost use Rattle.code_run.specs.Steps.{IsThere, levels_named};
+ghost use Rattle.code_run.specs.inside.Steps.{IsThere, levels_named};
 
 use crate::parts::level_at;
 use chem_model::{Loc, Memory, Name, Names, Nums};

@@ -9,7 +9,7 @@ ghost use Rattle.env_store.specs.CodeFacts.{IsInEnv};
 ghost use Rattle.env_store.specs.Running.{nothing_ran, atom_ran, refs_at, group_ran};
 ghost use Rattle.net_laws.specs.Site.{ask_term};
 ghost use Rattle.code_run.specs.Posts.{run_of};
-ghost use Rattle.code_run.specs.Steps.{Adds};
+ghost use Rattle.code_run.specs.inside.Steps.{Adds};
 
 use crate::made::{Post, Run};
 use crate::naming::sum;

@@ -21,7 +21,8 @@ use Rattle.net_laws.specs.Meeting.{continuation_made, sent_here}
 use Rattle.net_laws.proofs.Meeting.{detection_is_one_event}
 use Rattle.site_solution.specs.Answers.{Answers}
 use Rattle.router.specs.Happening.{Happens}
-use Rattle.site_solution.specs.InTree.{name_stands, ask_stands, request_stands, is_in_tree}
+use Rattle.site_solution.specs.InTree.{name_stands, is_in_tree}
+use Rattle.site_solution.specs.inside.InTree.{ask_stands, request_stands}
 use Rattle.site_solution.specs.declared.effects.Effects.{Effects}
 use Rattle.site_solution.proofs.Possible.{some_cond}
 use Rattle.router.proofs.Sending.{asked_here, happens}

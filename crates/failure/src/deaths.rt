@@ -2,7 +2,8 @@ ghost use Rattle.std.specs.Prelude.{◌≡◌, List, Some, true, IsSome, is_some
 ghost use Rattle.chem_model.specs.declared.event.Event.TheVariants as event;
 ghost use Rattle.chem_model.specs.declared.numbered.NumberedRule.{NumberedRule};
 ghost use Rattle.wire_packet.specs.declared.packet.GroupInst.{GroupInst};
-ghost use Rattle.site_solution.specs.InTree.{name_stands, request_stands, is_in_tree};
+ghost use Rattle.site_solution.specs.InTree.{name_stands, is_in_tree};
+ghost use Rattle.site_solution.specs.inside.InTree.{request_stands};
 ghost use Rattle.loc_tree.specs.Tree.{spot};
 ghost use Rattle.site_solution.specs.Possible.{Foretells};
 ghost use Rattle.failure.specs.Deaths.{has_died, sees_death, dead_for};

@@ -13,8 +13,9 @@ use Rattle.env_store.specs.Layout.{rules_in, new_channels, new_counts, place_ord
 use Rattle.guard_compile.specs.declared.write.At.{At}
 use Rattle.guard_compile.specs.declared.write.Piece.{Piece}
 use Rattle.guard_compile.specs.declared.write.Defined.{Defined}
-use Rattle.guard_compile.specs.Written.{Wrote, behind, inside, above, no_definitions, write, write_defs, write_def}
-use Rattle.guard_compile.specs.Appends.{Appends, AppendsDefined}
+use Rattle.guard_compile.specs.inside.Written.{Wrote, behind, inside, above, no_definitions, write}
+use Rattle.guard_compile.specs.inside.Written.{write_defs, write_def}
+use Rattle.guard_compile.specs.inside.Appends.{Appends, AppendsDefined}
 
 pub take_front : (xs ys : List ℕ) → take (length xs) (xs ++ ys) ≡ xs
 take_front [] ys = refl

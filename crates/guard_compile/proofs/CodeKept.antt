@@ -35,7 +35,7 @@ use Rattle.env_store.proofs.NamingOrder.{order_is}
 use Rattle.env_store.proofs.Pouring.{laid_next, body_pours, site_pours}
 use Rattle.env_store.proofs.ReadSites.{site_read}
 use Rattle.env_store.proofs.SitePlaces.{program_sites}
-use Rattle.guard_compile.specs.Written.{code_of}
+use Rattle.guard_compile.specs.inside.Written.{code_of}
 use Rattle.guard_compile.proofs.CodeFalls.{code_falls}
 use Rattle.guard_compile.proofs.CodeIs.{code_is}
 use Rattle.guard_compile.proofs.Placed.{PlaceHasBody, LevelPlaced, code_placed}

@@ -10,8 +10,9 @@ use Rattle.env_store.specs.Layout.{rules_in, new_channels, new_counts, order}
 use Rattle.guard_compile.specs.declared.write.At.{At}
 use Rattle.guard_compile.specs.declared.write.Piece.{Piece}
 use Rattle.guard_compile.specs.declared.write.Defined.{Defined}
-use Rattle.guard_compile.specs.Written.{Wrote, behind, inside, above, no_definitions, with_body, write, write_defs, site_body, site_piece}
-use Rattle.guard_compile.specs.Appends.{Appends, AppendsDefined}
+use Rattle.guard_compile.specs.inside.Written.{Wrote, behind, inside, above, no_definitions}
+use Rattle.guard_compile.specs.inside.Written.{with_body, write, write_defs, site_body, site_piece}
+use Rattle.guard_compile.specs.inside.Appends.{Appends, AppendsDefined}
 
 -- definitions that begin with nothing
 pub definitions_begun : (tops : Naming) (at next : At) (channels layout named : List ℕ) (ds : Definitions) (start d : Defined) → start ≡ no_definitions next → layout ≡ [] → named ≡ channels

@@ -1,3 +1,2 @@
-pub mod Written
-pub mod Appends
-pub mod Drawing
+
+pub mod inside

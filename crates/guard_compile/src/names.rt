@@ -5,7 +5,7 @@ ghost use Rattle.chem_model.specs.Fill.{name_at};
 ghost use Rattle.chem_model.specs.Pour.{name_ref, name_pats, name_channels, name_place};
 ghost use Rattle.chem_model.specs.Pour.{name_places, naming};
 ghost use Rattle.chem_model.specs.Opening.{root_of, root_names, level_names, site_names};
-ghost use Rattle.guard_compile.specs.Drawing.{drawn};
+ghost use Rattle.guard_compile.specs.inside.Drawing.{drawn};
 
 use chem_model::{
     DefnNode, Defs, Items, Loc, Memory, Name, Named, Names, Naming, Pats, Program, Ref, SiteTerms,

@@ -3,8 +3,8 @@ ghost use Rattle.std.specs.Prelude.{◌≡◌, ◌++◌, ℕ, IfOk, OnOk, length
 ghost use Rattle.chem_model.specs.Fill.{name_at};
 ghost use Rattle.chem_model.specs.Opening.{site_names, counts_of};
 ghost use Rattle.env_store.specs.Reading.{locs_in, IsCodeOf};
-ghost use Rattle.guard_compile.specs.Written.{write_sites as written_sites, code_of};
-ghost use Rattle.guard_compile.specs.Appends.{Appends};
+ghost use Rattle.guard_compile.specs.inside.Written.{write_sites as written_sites, code_of};
+ghost use Rattle.guard_compile.specs.inside.Appends.{Appends};
 
 use crate::names::{NameTable, site_names};
 use crate::write::{At, Piece, write_site};

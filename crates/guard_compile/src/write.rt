@@ -2,11 +2,12 @@
 ghost use Rattle.std.specs.Prelude.{◌≡◌, [], ◌∷◌, ◌++◌, ◌+◌, IfOk, OnOk, Some, length};
 ghost use Rattle.chem_model.specs.Process.{definitions, processes, Def, Rule, Place};
 ghost use Rattle.env_store.specs.Layout.{place_in, places_order};
-ghost use Rattle.guard_compile.specs.Written.{behind, inside, above, no_definitions};
-ghost use Rattle.guard_compile.specs.Written.{write as written, write_all as written_all};
-ghost use Rattle.guard_compile.specs.Written.{write_def as written_def, write_defs as written_defs};
-ghost use Rattle.guard_compile.specs.Written.{with_body, site_piece, site_code};
-ghost use Rattle.guard_compile.specs.Appends.{Appends, AppendsDefined};
+ghost use Rattle.guard_compile.specs.inside.Written.{behind, inside, above, no_definitions};
+ghost use Rattle.guard_compile.specs.inside.Written.{write as written, write_all as written_all};
+ghost use Rattle.guard_compile.specs.inside.Written.{write_def as written_def};
+ghost use Rattle.guard_compile.specs.inside.Written.{write_defs as written_defs};
+ghost use Rattle.guard_compile.specs.inside.Written.{with_body, site_piece, site_code};
+ghost use Rattle.guard_compile.specs.inside.Appends.{Appends, AppendsDefined};
 
 use crate::binders::Binders;
 use crate::count::{births, rules, sends, sum};

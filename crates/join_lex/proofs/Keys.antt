@@ -5,7 +5,7 @@ use Rattle.std.proofs.lemmas.Slice.Eq.{bytes_eq-Decides}
 use Rattle.join_lex.specs.declared.token.Key.{Key}
 use Rattle.join_lex.specs.declared.token.Key.TheVariants as key
 use Rattle.join_lex.specs.Spelling.{first_version, key_bytes, in_word, is_lower, IsRun, IsAmong}
-use Rattle.join_lex.specs.Scan.{key_at}
+use Rattle.join_lex.specs.inside.Scan.{key_at}
 
 -- Two words are tested to be equal, or not to be.
 by_test : (a b : List ℕ) (C : Bool → Type 0) → (a ≡ b → C true) → (a ≢ b → C false) → C (bytes_eq a b)

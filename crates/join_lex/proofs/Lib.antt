@@ -2,3 +2,4 @@ pub mod Keys
 pub mod ScanLaws
 pub mod StepLaws
 pub mod TokenFacts
+pub mod Passed

@@ -11,7 +11,8 @@ use Rattle.join_lex.specs.declared.token.Sign.TheVariants as sign
 use Rattle.join_lex.specs.declared.token.Kind2.TheVariants as kind
 use Rattle.join_lex.specs.Spelling.{Version, key_bytes, sign_bytes, is_blank, is_lower, in_word, is_digit, is_hash, in_line, value_of, Pass, IsRun}
 use Rattle.join_lex.specs.Lexical.{Piece, Gap, Word, bytes_of, Stops, Fits, Begins, IsSmall, LargeNumber}
-use Rattle.join_lex.specs.Scan.{scan, key_at, sign_at, one_sign, sign_piece, number_piece, word_piece, word_kind}
+use Rattle.join_lex.specs.inside.Scan.{scan, key_at, sign_at, one_sign, sign_piece, number_piece}
+use Rattle.join_lex.specs.inside.Scan.{word_piece, word_kind}
 use Rattle.join_lex.proofs.Keys.{key-run, key_at-key, key_at-none, key_at-some, not-key}
 
 -- the longest run of a word that passes before a rest that doesn't

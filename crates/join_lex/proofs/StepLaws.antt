@@ -12,8 +12,9 @@ use Rattle.join_lex.specs.declared.token.Token.{Token}
 use Rattle.join_lex.specs.Spelling.{Version}
 use Rattle.join_lex.specs.Tokens.{TokensOfText}
 use Rattle.join_lex.specs.Lexical.{Fault, too_long, no_token, large_number, Piece, Gap, Word, bytes_of, Begins, IsSmall, NoToken, LargeNumber, BreaksAt, Splits, tokens_at, StandFor, AreTokensOf, IsFirstFault, NamesFault, IsOrMemory, kind_of, HasOneOutcome}
-use Rattle.join_lex.specs.Scan.{scan, piece_of, ScanFails}
-use Rattle.join_lex.specs.Steps.{StepsTo, Passed}
+use Rattle.join_lex.specs.inside.Scan.{scan, piece_of, ScanFails}
+use Rattle.join_lex.specs.inside.Steps.{StepsTo}
+use Rattle.join_lex.proofs.Passed.{Passed}
 use Rattle.join_lex.proofs.ScanLaws.{scan-sound, scan-none, Sound, begins-found}
 
 pub not-empty : (text : List ℕ) (at : ℕ) → at < length text → drop at text ≢ []

@@ -12,7 +12,7 @@ use Rattle.join_lex.specs.declared.token.Token.{Token}
 use Rattle.join_lex.specs.Spelling.{Version, first_version, IsRun, IsOfVersion, sign_bytes}
 use Rattle.join_lex.specs.Tokens.{TokensOfText, AreTokens}
 use Rattle.join_lex.specs.Lexical.{Begins, bytes_of, Piece, Gap, Word, Spells, IsSmall, Splits, tokens_at, AreTokensOf, IsSpelledAt}
-use Rattle.join_lex.specs.Steps.{Passed}
+use Rattle.join_lex.proofs.Passed.{Passed}
 use Rattle.join_lex.proofs.Keys.{key-run}
 
 run-some : {first f : ℕ → Bool} {word : List ℕ} → IsRun first f word → 0 < length word

@@ -4,7 +4,7 @@ ghost use Rattle.join_lex.specs.Spelling.{first_version};
 ghost use Rattle.join_lex.specs.Tokens.{TokensOfText};
 ghost use Rattle.join_lex.specs.Lexical.{AreTokensOf, NamesFault, AnswersTokens, AnswersFault};
 ghost use Rattle.join_lex.specs.Lexical.{HasOneOutcome, HoldSpellings};
-ghost use Rattle.join_lex.specs.Steps.{StepsTo, FailsAt};
+ghost use Rattle.join_lex.specs.inside.Steps.{StepsTo, FailsAt};
 
 use crate::scan::scan;
 use crate::token::{Token, TokenList, Tokens};

@@ -3,7 +3,7 @@ ghost use Rattle.std.specs.Prelude.{◌≡◌, ◌≢◌, ◌<◌, ◌≤◌, le
 ghost use Rattle.std.specs.List.{prefix_len};
 ghost use Rattle.join_lex.specs.Spelling.{first_version, in_word, is_digit};
 ghost use Rattle.join_lex.specs.Spelling.{in_line, value_of, key_bytes};
-ghost use Rattle.join_lex.specs.Scan.{sign_at, Scans};
+ghost use Rattle.join_lex.specs.inside.Scan.{sign_at, Scans};
 ghost use Rattle.join_lex.specs.declared.token.Key.{Key};
 
 use crate::token::{Key, Kind2, Sign};

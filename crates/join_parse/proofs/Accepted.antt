@@ -12,7 +12,7 @@ use Rattle.join_parse.specs.Source.{Process, Zero, Msg, Go, Fail, Halt, Group, D
 use Rattle.join_parse.specs.Grammar.{TreeOfText, more_names, names, more_patterns, of_process, of_processes, more_processes, of_definition, of_definitions, more_definitions, of_declarations, of_sites, sentence, IsSome, AreShort, IsSimple, IsProcess, AreProcesses, AreMore, IsDefinition, AreDefinitions, AreDeclarations, AreSites, IsGrammatical}
 use Rattle.join_parse.specs.Levels.{more_names_levels, names_levels, more_patterns_levels, process_levels, processes_levels, more_processes_levels, definition_levels, definitions_levels, more_definitions_levels, declarations_levels, sites_levels, levels}
 use Rattle.join_parse.specs.Begins.{Symbol, AName, ASign, AKey, CloseGroup, CloseSquare, EndDef, Program, Sites, Defs, MoreDefs, DefRest, MorePatterns, Names, MoreNames, AProc, MoreProcs}
-use Rattle.join_parse.specs.Automaton.{advance, may_end, level, is_sign, is_key}
+use Rattle.join_parse.specs.inside.Automaton.{advance, may_end, level, is_sign, is_key}
 
 abbrev pub followed : (List Symbol → List ℕ × Bool) → Option (List Symbol) → List ℕ × Bool
 followed go None = ([], false)

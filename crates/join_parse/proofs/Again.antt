@@ -17,7 +17,7 @@ use Rattle.join_parse.specs.Source.{Process, Zero, Msg, Go, Fail, Halt, Group, D
 use Rattle.join_parse.specs.Grammar.{TreeOfText, more_names, names, more_patterns, patterns, of_process, of_processes, more_processes, of_definition, of_definitions, more_definitions, of_declarations, of_sites, sentence, IsSome, AreShort, IsSimple, IsProcess, AreProcesses, AreMore, IsDefinition, AreDefinitions, AreDeclarations, AreSites, IsGrammatical}
 use Rattle.join_parse.specs.Levels.{levels, AreWithin}
 use Rattle.join_parse.specs.Begins.{Symbol, Program}
-use Rattle.join_parse.specs.Automaton.{advance, level}
+use Rattle.join_parse.specs.inside.Automaton.{advance, level}
 use Rattle.join_parse.specs.TreeFacts.{AreOfVersion, IsTree, most_levels}
 use Rattle.join_parse.specs.Printed.{spelling, printed, printed_behind}
 use Rattle.join_parse.specs.Bare.{bare_word, bare_pattern, bare_declaration, bare_process, bare_processes, bare_definition, bare_definitions, bare_place, bare, ReadsAs}

@@ -10,8 +10,9 @@ use Rattle.join_lex.specs.declared.token.Kind2.TheVariants as kind
 use Rattle.join_lex.specs.declared.token.Token.{Token}
 use Rattle.join_parse.specs.declared.bounds.Bounds.{Bounds}
 use Rattle.join_parse.specs.Begins.{Symbol, AName, ACount, ASite, AKey, ASign, CloseGroup, CloseSquare, EndDef, Program, Sites, Body, Defs, MoreDefs, DefRest, MorePatterns, Names, MoreNames, AProc, MoreProcs}
-use Rattle.join_parse.specs.Automaton.{is_key, is_sign, is_name, level, Stop, outcome}
-use Rattle.join_parse.specs.Parsed.{next_is_sign, next_is_key, next_is_name, next_is_zero, place_of}
+use Rattle.join_parse.specs.inside.Automaton.{is_key, is_sign, is_name, level, Stop, outcome}
+use Rattle.join_parse.specs.inside.Parsed.{next_is_sign, next_is_key, next_is_name, next_is_zero}
+use Rattle.join_parse.specs.inside.Parsed.{place_of}
 use Rattle.join_parse.proofs.Moves.{sign-kind, key-kind, takes, deepens, stops, stops-at-end}
 
 module _ (b : Bounds) where

@@ -13,7 +13,7 @@ use Rattle.join_parse.specs.Terminals.{kind_of, Terminal, terminal_of, terminals
 use Rattle.join_parse.specs.Grammar.{TreeOfText, IsGrammatical, IsSentence, sentence}
 use Rattle.join_parse.specs.Levels.{levels, AreWithin}
 use Rattle.join_parse.specs.Begins.{Symbol, Program, Begins, completion}
-use Rattle.join_parse.specs.Automaton.{advance, may_end, level, Whole, Stop, next, outcome}
+use Rattle.join_parse.specs.inside.Automaton.{advance, may_end, level, Whole, Stop, next, outcome}
 use Rattle.join_parse.specs.Faults.{IsTreeOf, GoesOn, NoneGoesOn, IsFirstRefused, IsFirstDeep, IsRefusedAs}
 use Rattle.join_parse.proofs.Accepted.{followed, run, over, run-sentence}
 use Rattle.join_parse.proofs.Completions.{leads-sentence, leads-fills, fills-sentence, may_end-fills}

@@ -10,7 +10,7 @@ use Rattle.join_parse.specs.declared.bounds.Bounds.{Bounds}
 use Rattle.join_parse.specs.Terminals.{Terminal, kind_of, terminal_of, terminals}
 use Rattle.join_parse.specs.Grammar.{TreeOfText, IsGrammatical, sentence}
 use Rattle.join_parse.specs.Begins.{Symbol, Program, Leads, Begins, completion}
-use Rattle.join_parse.specs.Automaton.{Outcome, Whole, Stop, advance, level, outcome}
+use Rattle.join_parse.specs.inside.Automaton.{Outcome, Whole, Stop, advance, level, outcome}
 use Rattle.join_parse.specs.Levels.{levels}
 use Rattle.join_parse.proofs.Accepted.{followed, run, run-sentence}
 use Rattle.join_parse.specs.Faults.{IsTreeOf, IsRefusedAs, OneOutcome}

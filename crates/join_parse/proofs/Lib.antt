@@ -18,3 +18,5 @@ use Rattle.join_parse.proofs.Lists.{definitions-all}
 use Rattle.join_parse.proofs.Whole.{tree-kept}
 use Rattle.join_parse.proofs.Prints.{text-printed}
 use Rattle.join_parse.proofs.Again.{reads-again}
+pub mod Listed
+pub mod LeftToPrint

@@ -10,7 +10,10 @@ use Rattle.join_parse.specs.declared.tree.PlaceTree.{PlaceTree}
 use Rattle.join_parse.specs.Terminals.{a_number, a_site, a_key, a_sign, named}
 use Rattle.join_parse.specs.Source.{Process, Processes, none, one_more, Definition, Definitions, no_definition, and_also, processes, definitions}
 use Rattle.join_parse.specs.Grammar.{names, applied, patterns, of_process, of_processes, of_definition, of_definitions, of_declarations, of_sites, IsSome, AreShort, IsSimple, AreProcesses, AreDefinitions, AreDeclarations, AreSites}
-use Rattle.join_parse.specs.Parsed.{terms, joined, also, ListedNames, ListedPatterns, ListedProcesses, ListedDefinitions, ListedDeclarations, ListedSites, SpellsProcess, SpellsProcesses, SpellsDefinition, SpellsDefinitions, SpellsSite}
+use Rattle.join_parse.specs.inside.Parsed.{terms, SpellsProcess, SpellsProcesses, SpellsDefinition}
+use Rattle.join_parse.specs.inside.Parsed.{SpellsDefinitions, SpellsSite}
+use Rattle.join_parse.proofs.Listed.{joined, also, ListedNames, ListedPatterns, ListedProcesses}
+use Rattle.join_parse.proofs.Listed.{ListedDefinitions, ListedDeclarations, ListedSites}
 
 module _ (ts : List Token) where
   -- identifiers

@@ -16,8 +16,10 @@ use Rattle.join_lex.specs.declared.token.Token.{Token}
 use Rattle.join_parse.specs.declared.bounds.Bounds.{Bounds}
 use Rattle.join_parse.specs.Terminals.{a_sign}
 use Rattle.join_parse.specs.Begins.{Symbol, AName, ACount, ASign}
-use Rattle.join_parse.specs.Automaton.{is_key, is_sign, Push, Pass, No, step, may_pass, level, Stop, outcome}
-use Rattle.join_parse.specs.Parsed.{next_is_sign, next_is_key, place_of, key_symbol, AtMost, Reads, Halts, Fails}
+use Rattle.join_parse.specs.inside.Automaton.{is_key, is_sign, Push, Pass, No, step, may_pass}
+use Rattle.join_parse.specs.inside.Automaton.{level, Stop, outcome}
+use Rattle.join_parse.specs.inside.Parsed.{next_is_sign, next_is_key, place_of, key_symbol, AtMost}
+use Rattle.join_parse.specs.inside.Parsed.{Reads, Halts, Fails}
 use Rattle.join_parse.proofs.Steps.{sign-is}
 
 -- the kind of a token that a test has found

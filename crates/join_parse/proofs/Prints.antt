@@ -9,7 +9,9 @@ use Rattle.join_parse.specs.declared.tree.PlaceTree.{PlaceTree}
 use Rattle.join_parse.specs.Terminals.{Terminal, a_site, a_key, a_sign, named}
 use Rattle.join_parse.specs.Source.{Definition, definitions}
 use Rattle.join_parse.specs.Grammar.{TreeOfText, IsSome, IsGrammatical, sentence, applied, of_definitions, of_declarations, of_sites}
-use Rattle.join_parse.specs.Printed.{spelling, printed, printed_behind, spaced, Prints, between, left_names, left_patterns, left_definitions}
+use Rattle.join_parse.specs.Printed.{spelling, printed, printed_behind}
+use Rattle.join_parse.specs.inside.Printed.{spaced, Prints, between}
+use Rattle.join_parse.proofs.LeftToPrint.{left_names, left_patterns, left_definitions}
 
 -- one member further
 module _ {A : Type 0} (left : Bool → List A → List Terminal → List Terminal) (one : A → List Terminal → List Terminal) (t : Terminal)

@@ -4,7 +4,8 @@ use Rattle.join_lex.specs.declared.token.Key.TheVariants as key
 use Rattle.join_lex.specs.declared.token.Sign.TheVariants as sign
 use Rattle.join_lex.specs.declared.token.Kind2.{Kind2}
 use Rattle.join_parse.specs.Begins.{Symbol, AName, AZero, ACount, ASite, AKey, ASign, CloseGroup, CloseSquare, EndDef, Program, Sites, Body, Defs, MoreDefs, DefRest, MorePatterns, Names, MoreNames, AProc, MoreProcs}
-use Rattle.join_parse.specs.Automaton.{is_key, is_sign, is_name, is_zero, is_count, Move, Push, Pass, No, step, moved, advance, opened, level}
+use Rattle.join_parse.specs.inside.Automaton.{is_key, is_sign, is_name, is_zero, is_count, Move}
+use Rattle.join_parse.specs.inside.Automaton.{Push, Pass, No, step, moved, advance, opened, level}
 
 pick : (P : List Symbol → Type 0) (b : Bool) (X : List Symbol) (rest : Move) (more : List Symbol) → P X → (rest ≡ Push more → P more) → cond b (Push X) rest ≡ Push more → P more
 pick P true X rest more hit miss e = let same : X ≡ more = cc in subst P same hit

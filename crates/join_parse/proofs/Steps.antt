@@ -10,7 +10,9 @@ use Rattle.join_lex.specs.declared.token.Kind2.TheVariants as kind
 use Rattle.join_lex.specs.declared.token.Token.{Token}
 use Rattle.join_parse.specs.Terminals.{Terminal, a_key, a_sign, key_terminal, terminal_of, terminals}
 use Rattle.join_parse.specs.Begins.{Symbol, AName, AZero, ACount, ASite, AKey, ASign, CloseGroup, CloseSquare, EndDef, Program, Sites, Body, Defs, MoreDefs, DefRest, MorePatterns, Names, MoreNames, AProc, MoreProcs, Alternative, observed, first_site, last_site, next_site, body, void, first_definition, last_definition, next_definition, rule, place, last_pattern, next_pattern, no_name, first_name, last_name, next_name, zero, message, go, fail, halt, group, def_in, last_process, next_process, end_def, StandsFor, name_stands, zero_stands, count_stands, site_stands, key_stands, sign_stands, group_stands, square_stands, Leads, ends, takes, opens}
-use Rattle.join_parse.specs.Automaton.{key_number, sign_number, is_key, is_sign, is_name, is_zero, is_count, Move, Push, Pass, No, step, moved, advance}
+use Rattle.join_parse.specs.inside.Automaton.{key_number, sign_number, is_key, is_sign, is_name}
+use Rattle.join_parse.specs.inside.Automaton.{is_zero, is_count, Move, Push, Pass, No, step, moved}
+use Rattle.join_parse.specs.inside.Automaton.{advance}
 
 -- what a test on a kind says of its terminal
 pub sign-is : (s : Sign) (k : Kind2) (at : ℕ) → is_sign s k ≡ true → terminal_of k at ≡ a_sign s

@@ -17,10 +17,10 @@ use Rattle.join_parse.specs.Terminals.{terminal_of, terminals}
 use Rattle.join_parse.specs.Grammar.{TreeOfText, IsSentence, sentence}
 use Rattle.join_parse.specs.Levels.{levels}
 use Rattle.join_parse.specs.Begins.{Symbol, AName, ASite, Body, Sites, Program}
-use Rattle.join_parse.specs.Automaton.{level, Stop, Whole, outcome}
+use Rattle.join_parse.specs.inside.Automaton.{level, Stop, Whole, outcome}
 use Rattle.join_parse.specs.Faults.{IsTreeOf, IsRefusedAs}
 use Rattle.join_parse.specs.TreeFacts.{AreOfVersion, IsTree, most_levels}
-use Rattle.join_parse.specs.Parsed.{next_is_key, place_of, Runs, Halts, IsStop}
+use Rattle.join_parse.specs.inside.Parsed.{next_is_key, place_of, Runs, Halts, IsStop}
 use Rattle.join_parse.proofs.Accepted.{run, run-sentence}
 use Rattle.join_parse.proofs.Firsts.{kind-of-terminal, stop-fault, whole-low}
 use Rattle.join_parse.proofs.Expansions.{program-site}

@@ -10,9 +10,8 @@ pub mod Levels
 pub mod Begins
 pub mod Faults
 pub mod Laws
-pub mod Automaton
-pub mod Parsed
 pub mod TreeFacts
 pub mod TreeCode
 pub mod Printed
 pub mod Bare
+pub mod inside

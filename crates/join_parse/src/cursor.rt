@@ -6,10 +6,11 @@ ghost use Rattle.join_base.specs.declared.fault.Front.TheVariants as front;
 ghost use Rattle.join_base.specs.declared.fault.Kind.TheVariants as fault;
 ghost use Rattle.join_parse.specs.Terminals.{a_number, a_sign, named};
 ghost use Rattle.join_parse.specs.Begins.{AName, ACount, ASign};
-ghost use Rattle.join_parse.specs.Automaton.{is_sign, is_key};
-ghost use Rattle.join_parse.specs.Parsed.{next_is_sign, next_is_key, next_is_name, next_is_zero};
-ghost use Rattle.join_parse.specs.Parsed.{place_of, key_symbol, key_here};
-ghost use Rattle.join_parse.specs.Parsed.{SpellsOne, AtMost, Reads, Fails};
+ghost use Rattle.join_parse.specs.inside.Automaton.{is_sign, is_key};
+ghost use Rattle.join_parse.specs.inside.Parsed.{next_is_sign, next_is_key, next_is_name};
+ghost use Rattle.join_parse.specs.inside.Parsed.{next_is_zero};
+ghost use Rattle.join_parse.specs.inside.Parsed.{place_of, key_symbol, key_here};
+ghost use Rattle.join_parse.specs.inside.Parsed.{SpellsOne, AtMost, Reads, Fails};
 
 use crate::bounds::Bounds;
 use crate::word::Word;

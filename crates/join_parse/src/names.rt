@@ -2,8 +2,8 @@
 ghost use Rattle.std.specs.Prelude.{◌≡◌, ◌∷◌, [], ◌≤◌, length, IfOk};
 ghost use Rattle.join_parse.specs.Grammar.{names, applied, patterns, pair, IsSome, AreShort};
 ghost use Rattle.join_parse.specs.Begins.{Names};
-ghost use Rattle.join_parse.specs.Parsed.{terms, a_pattern, some_patterns};
-ghost use Rattle.join_parse.specs.Parsed.{a_pair, AtMost, Reads, Fails};
+ghost use Rattle.join_parse.specs.inside.Parsed.{terms, a_pattern, some_patterns};
+ghost use Rattle.join_parse.specs.inside.Parsed.{a_pair, AtMost, Reads, Fails};
 
 use crate::bounds::Bounds;
 use crate::cursor::{is_sign_at, sign, word};

@@ -7,8 +7,8 @@ ghost use Rattle.join_parse.specs.Faults.{IsTreeOf, IsRefusedAs, AnswersTree, An
 ghost use Rattle.join_parse.specs.Faults.{OneOutcome};
 ghost use Rattle.join_parse.specs.Laws.{HaveOneLevel, IsCompleted, EachPrefixBegins};
 ghost use Rattle.join_parse.specs.TreeFacts.{most_levels};
-ghost use Rattle.join_parse.specs.Automaton.{Whole, outcome};
-ghost use Rattle.join_parse.specs.Parsed.{IsStop};
+ghost use Rattle.join_parse.specs.inside.Automaton.{Whole, outcome};
+ghost use Rattle.join_parse.specs.inside.Parsed.{IsStop};
 
 use crate::bounds::Bounds;
 use crate::cursor::refused;

@@ -7,8 +7,9 @@ ghost use Rattle.join_parse.specs.Grammar.{of_processes, of_definition, of_defin
 ghost use Rattle.join_parse.specs.Grammar.{of_declarations, of_sites, sentence};
 ghost use Rattle.join_parse.specs.TreeFacts.{IsTree};
 ghost use Rattle.join_parse.specs.Bare.{ReadsAs};
-ghost use Rattle.join_parse.specs.Printed.{printed, gap, between};
-ghost use Rattle.join_parse.specs.Printed.{one_declaration, of_place, Prints};
+ghost use Rattle.join_parse.specs.Printed.{printed};
+ghost use Rattle.join_parse.specs.inside.Printed.{gap, between};
+ghost use Rattle.join_parse.specs.inside.Printed.{one_declaration, of_place, Prints};
 ghost use Rattle.join_lex.specs.declared.token.Key.TheVariants as word;
 ghost use Rattle.join_lex.specs.Spelling.{key_bytes, sign_bytes};
 

@@ -7,9 +7,9 @@ ghost use Rattle.join_parse.specs.Terminals.{a_key, a_sign};
 ghost use Rattle.join_parse.specs.Grammar.{IsSimple};
 ghost use Rattle.join_parse.specs.Begins.{AName, ASign, Body, Defs, DefRest};
 ghost use Rattle.join_parse.specs.Begins.{Names, MorePatterns, AProc, MoreProcs};
-ghost use Rattle.join_parse.specs.Parsed.{terms, next_is_sign, next_is_key, Exactly};
-ghost use Rattle.join_parse.specs.Parsed.{Reads, Fails, SpellsProcess, SpellsProcesses};
-ghost use Rattle.join_parse.specs.Parsed.{SpellsDefinition, SpellsDefinitions, SpellsBody};
+ghost use Rattle.join_parse.specs.inside.Parsed.{terms, next_is_sign, next_is_key, Exactly};
+ghost use Rattle.join_parse.specs.inside.Parsed.{Reads, Fails, SpellsProcess, SpellsProcesses};
+ghost use Rattle.join_parse.specs.inside.Parsed.{SpellsDefinition, SpellsDefinitions, SpellsBody};
 
 use crate::bounds::Bounds;
 use crate::cursor::{

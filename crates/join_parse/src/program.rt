@@ -4,9 +4,9 @@ ghost use Rattle.join_lex.specs.declared.token.Key.TheVariants as word;
 ghost use Rattle.join_parse.specs.Grammar.{of_declarations, of_sites};
 ghost use Rattle.join_parse.specs.Grammar.{AreDeclarations, AreSites, IsSome};
 ghost use Rattle.join_parse.specs.Begins.{Program};
-ghost use Rattle.join_parse.specs.Parsed.{terms, next_is_key, AtMost, Exactly};
-ghost use Rattle.join_parse.specs.Parsed.{a_declaration, a_whole_site, some_sites};
-ghost use Rattle.join_parse.specs.Parsed.{Runs, Reads, Fails, SpellsDeclaration, SpellsSite};
+ghost use Rattle.join_parse.specs.inside.Parsed.{terms, next_is_key, AtMost, Exactly};
+ghost use Rattle.join_parse.specs.inside.Parsed.{a_declaration, a_whole_site, some_sites};
+ghost use Rattle.join_parse.specs.inside.Parsed.{Runs, Reads, Fails, SpellsDeclaration, SpellsSite};
 
 use crate::bounds::Bounds;
 use crate::cursor::{count, is_key_at, key, place_at, sign, word};

@@ -18,7 +18,7 @@ use Rattle.site_runner.specs.declared.outcome.How.{How}
 use Rattle.join_top.specs.Task.{Words, task, ring_asked, text_of}
 use Rattle.join_top.specs.Text.{IsProgramOfText}
 use Rattle.join_top.specs.RunJoin.{OnTold, has_run, EndsAs, IsRunAsked, Keeps, GoesWith, IsMadeBy, IsMadeAsAsked}
-use Rattle.join_top.specs.Ran.{ending_of, IsEnded, IsWholeOfBook, IsRunBy}
+use Rattle.join_top.specs.inside.Ran.{ending_of, IsEnded, IsWholeOfBook, IsRunBy}
 
 same_solution : (k : Kept) (n m : Numbered) → solution k ≡ Some n → solution k ≡ Some m → n ≡ m
 same_solution k n m e f = cc

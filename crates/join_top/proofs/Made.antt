@@ -21,7 +21,7 @@ use Rattle.site_runner.specs.Free.{IsFinished, IsFree, first_workers}
 use Rattle.site_runner.specs.declared.outcome.Done.{Done}
 use Rattle.site_runner.specs.declared.outcome.How.TheVariants as how
 use Rattle.join_words.specs.declared.answer.By.TheVariants as by
-use Rattle.join_top.specs.Ran.{IsRunBy}
+use Rattle.join_top.specs.inside.Ran.{IsRunBy}
 
 -- a program's book without an event
 abbrev pub begun : ProgramTerms → Kept

@@ -4,7 +4,7 @@ use Rattle.std.proofs.Common.{refl, sym, subst, lit≤}
 use Rattle.join_base.specs.Bytes.{TakesAtMost}
 use Rattle.join_top.specs.Task.{ReadOrRing}
 use Rattle.join_top.specs.RunJoin.{IsReadAt, IsReadToEnd}
-use Rattle.join_top.specs.Ran.{ReadsAll}
+use Rattle.join_top.specs.inside.Ran.{ReadsAll}
 
 nothing_taken : (left : Option (List ℕ)) → TakesAtMost left left 1048576
 nothing_taken None = ([], tt, lit≤ tt)

@@ -16,7 +16,9 @@ use Rattle.scope_check.specs.Checked.{IsProgramOf}
 use Rattle.scope_check.specs.Checked as scope
 use Rattle.scope_check.specs.declared.fault.Fault as found
 use Rattle.chem_model.specs.ProgramFacts.{ProgramTerms}
-use Rattle.join_top.specs.Text.{IsRefusal, lexical, grammatical, of_the_tree, IsProgramOfText, NamesRefusal, HasOneOutcome}
+use Rattle.join_top.specs.Text.{IsRefusal, lexical, grammatical, of_the_tree, IsProgramOfText}
+use Rattle.join_top.specs.Text.{HasOneOutcome}
+use Rattle.join_top.specs.inside.Text.{NamesRefusal}
 
 pub by_bytes : (text : List ℕ) (e : Front) → NamesFault first_version e text → NamesRefusal text e
 by_bytes text (front.Refused kind place) h = lexical h

@@ -2,4 +2,4 @@ pub mod Task
 pub mod Text
 pub mod Printed
 pub mod RunJoin
-pub mod Ran
+pub mod inside

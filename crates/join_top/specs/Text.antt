@@ -2,10 +2,8 @@
 use Rattle.std.specs.Prelude.{◌≡◌, ℕ, ◌++◌, ◌⊎◌, List, codes, decimal}
 use Rattle.join_base.specs.declared.fault.Kind.{Kind}
 use Rattle.join_base.specs.declared.fault.Kind.TheVariants.{Lex1, Lex2, Lex3, Grammar1, Grammar2}
-use Rattle.join_base.specs.declared.fault.Kind.TheVariants.{Scope1, Scope2, Scope3, Scope4}
-use Rattle.join_base.specs.declared.fault.Kind.TheVariants.{Scope5, Scope6}
-use Rattle.join_base.specs.declared.fault.Kind.TheVariants.{Arity1, Arity2, Arity3, Arity4}
-use Rattle.join_base.specs.declared.fault.Front.{Front}
+use Rattle.join_base.specs.declared.fault.Kind.TheVariants.{Scope1, Scope2, Scope3, Scope4, Scope5}
+use Rattle.join_base.specs.declared.fault.Kind.TheVariants.{Scope6, Arity1, Arity2, Arity3, Arity4}
 use Rattle.join_base.specs.declared.fault.Front.TheVariants as front
 use Rattle.join_lex.specs.Spelling.{first_version}
 use Rattle.join_lex.specs.Tokens.{TokensOfText}
@@ -37,11 +35,6 @@ pub record IsProgramOfText (text : List ℕ) (p : ProgramTerms) : Type 0 where
   pub are_tokens : AreTokensOf first_version tokens text
   pub is_tree : IsTreeOf most_levels tokens.list tree
   pub is_program : IsProgramOf tree p
-
--- the error names the refusal of the text; want of memory names none
-abbrev pub NamesRefusal : List ℕ → Front → Type 0
-NamesRefusal text (front.Refused kind place) = IsRefusal text kind place
-NamesRefusal text front.Memory = Unit {0}
 
 -- a text has one program or one refusal, and never both
 pub record HasOneOutcome (text : List ℕ) : Type 0 where

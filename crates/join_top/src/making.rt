@@ -4,7 +4,7 @@ ghost use Rattle.net_laws.specs.Opened.{opened_net};
 ghost use Rattle.site_runner.specs.Rounds.{StandForOne};
 ghost use Rattle.join_words.specs.Asks.{IsWithin};
 ghost use Rattle.join_words.specs.declared.answer.By.TheVariants as by;
-ghost use Rattle.join_top.specs.Ran.{IsRunBy};
+ghost use Rattle.join_top.specs.inside.Ran.{IsRunBy};
 
 use chem_model::{Memory, Program};
 use guard_compile::compile;

@@ -1,7 +1,7 @@
 // The whole text of a run.
 ghost use Rattle.std.specs.Prelude.{◌≡◌, ◌≤◌, length, IfOk};
 ghost use Rattle.join_top.specs.Printed.{counts_text};
-ghost use Rattle.join_top.specs.Ran.{WhereRead, IsWholeOfBook};
+ghost use Rattle.join_top.specs.inside.Ran.{WhereRead, IsWholeOfBook};
 
 use chem_model::{Items, Memory, Text};
 use join_words::Asked;

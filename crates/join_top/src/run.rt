@@ -2,7 +2,7 @@
 ghost use Rattle.std.specs.Prelude.{◌≡◌, ◌≤◌, length, IfOk};
 ghost use Rattle.join_words.specs.Asks.{IsWithin};
 ghost use Rattle.join_top.specs.RunJoin.{IsMadeBy};
-ghost use Rattle.join_top.specs.Ran.{WhereRead, ending_of, IsEnded};
+ghost use Rattle.join_top.specs.inside.Ran.{WhereRead, ending_of, IsEnded};
 
 use crate::making::make;
 use crate::printed::printed;

@@ -1,6 +1,7 @@
 //! The program of a text, or its refusal.
 ghost use Rattle.std.specs.Prelude.{◌≡◌, ◌++◌, ℕ, List, IfOk, IfErr};
-ghost use Rattle.join_top.specs.Text.{IsProgramOfText, NamesRefusal, HasOneOutcome};
+ghost use Rattle.join_top.specs.Text.{IsProgramOfText, HasOneOutcome};
+ghost use Rattle.join_top.specs.inside.Text.{NamesRefusal};
 ghost use Rattle.join_top.specs.Text.{kind_text, refusal_line};
 
 use chem_model::{Items, Memory, Program, Text};

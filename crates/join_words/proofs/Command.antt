@@ -9,7 +9,7 @@ use Rattle.clap.specs.Simple.{Shape, built, filled, is_simple, with_index}
 use Rattle.clap.specs.Faults.{default_fault, defaults_fault, is_simple_and_free, use_fault}
 use Rattle.clap.specs.Kinds.{Kinds, or_else}
 use Rattle.join_words.specs.Line.{Field, Kind, budget, by, flag, kind_of, unknown, valued, workers}
-use Rattle.join_words.specs.Command.{flagged, line_app, optional, positional}
+use Rattle.join_words.specs.inside.Command.{flagged, line_app, optional, positional}
 use Rattle.join_words.proofs.Rows.{put}
 
 abbrev pub shape : Shape

@@ -12,7 +12,7 @@ use Rattle.clap.specs.Faults.{defaults_fault, entered_fault, fault_of, level_fau
 use Rattle.clap.specs.Kinds.{Kinds, or_else}
 use Rattle.join_words.specs.Line.{Field, Line, budget, by, line_of, nothing_read, workers}
 use Rattle.join_words.specs.Asks.{asked}
-use Rattle.join_words.specs.Command.{line_app}
+use Rattle.join_words.specs.inside.Command.{line_app}
 use Rattle.join_words.proofs.Rows.{at_none, has-look, look, look-other, look-same}
 use Rattle.join_words.proofs.Lines.{at}
 use Rattle.join_words.proofs.Command.{all_rules, defaults_pass, field_id, finish, log_rule, shape}

@@ -1,3 +1,3 @@
 pub mod Line
 pub mod Asks
-pub mod Command
+pub mod inside

@@ -3,7 +3,7 @@ ghost use Rattle.std.specs.Prelude.{◌≡◌, IfOk, map, string_bytes};
 ghost use Rattle.std.specs.List.{All};
 ghost use Rattle.std.specs.Str.{IsUtf8};
 ghost use Rattle.clap.specs.Words.{app_of, kind_of};
-ghost use Rattle.join_words.specs.Command.{Gives, line_app};
+ghost use Rattle.join_words.specs.inside.Command.{Gives, line_app};
 
 use crate::answer::WordEnd;
 use clap::error::ErrorKind;

@@ -1,7 +1,7 @@
 // From the texts of a line to what it asks for.
 ghost use Rattle.std.specs.Prelude.{◌≡◌, map, option_map, string_bytes, IfOk, IfSome};
 ghost use Rattle.join_words.specs.Asks.{Answers, IsWithin, asked, by_named, by_or_alone, judged};
-ghost use Rattle.join_words.specs.Command.{line_given};
+ghost use Rattle.join_words.specs.inside.Command.{line_given};
 
 use crate::answer::{Asked, By, WordEnd};
 use crate::line::{LineTexts, texts_given, texts_of};

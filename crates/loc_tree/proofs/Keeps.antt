@@ -6,7 +6,7 @@ use Rattle.chem_model.specs.Solution.{same_loc}
 use Rattle.loc_tree.specs.declared.tree.Spot.{Spot}
 use Rattle.std.specs.Map.{lookup}
 use Rattle.loc_tree.specs.Tree.{Tree, spot, is_pair_of, change_spot, can_move, unmarked_roots, with_birth, with_number, with_mark, marked, renumbered}
-use Rattle.loc_tree.specs.Stored.{IsStored}
+use Rattle.loc_tree.specs.inside.Stored.{IsStored}
 use Rattle.loc_tree.proofs.Spots.{lookup-change}
 use Rattle.loc_tree.proofs.Follows.{roots_is, birth_is, moves, move_is, mark_is}
 use Rattle.loc_tree.proofs.Newest.{newest_start, newest_birth, newest_same, changed_some, Notes}

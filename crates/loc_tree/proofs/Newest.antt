@@ -10,7 +10,7 @@ use Rattle.chem_model.specs.Solution.{same_loc}
 use Rattle.chem_model.specs.Opening.{root_of}
 use Rattle.loc_tree.specs.declared.tree.Spot.{Spot}
 use Rattle.loc_tree.specs.Tree.{Tree, Entries, spot, is_pair_of, number_in, IsFresh, roots_from, unmarked_roots, with_birth}
-use Rattle.loc_tree.specs.Stored.{loc_at, is_below, IsNewest, AreNewest}
+use Rattle.loc_tree.specs.inside.Stored.{loc_at, is_below, IsNewest, AreNewest}
 use Rattle.loc_tree.proofs.Spots.{same_loc_is, same_loc_refl, lookup-birth, found_root, root_found}
 
 some_number : (o : Option Spot) → is_some (number_in o) ≡ is_some o

@@ -1,4 +1,4 @@
 pub mod Tree
 pub mod Places
 pub mod Laws
-pub mod Stored
+pub mod inside

@@ -17,7 +17,7 @@ ghost use Rattle.loc_tree.specs.Tree.{IsFresh, unmarked_roots, with_room, with_b
 ghost use Rattle.loc_tree.specs.Tree.{with_number, with_mark};
 ghost use Rattle.loc_tree.specs.Places.{IsTree, IsTreeOf};
 ghost use Rattle.loc_tree.specs.Laws.{born_under};
-ghost use Rattle.loc_tree.specs.Stored.{is_below};
+ghost use Rattle.loc_tree.specs.inside.Stored.{is_below};
 
 use chem_model::{Loc, Memory};
 use indexmap::IndexMap;
@@ -46,7 +46,7 @@ pub struct LocTree {
 impl Model for LocTree {
     ghost use Rattle.indexmap.specs.IndexMap.{spare};
     ghost use Rattle.loc_tree.specs.Tree.{Tree};
-    ghost use Rattle.loc_tree.specs.Stored.{IsStored};
+    ghost use Rattle.loc_tree.specs.inside.Stored.{IsStored};
 
     ghost Value = { Tree };
 

@@ -26,14 +26,16 @@ use Rattle.net_laws.proofs.Meeting.{move_within_is_one_event}
 use Rattle.net_laws.proofs.Trees.{number_kept}
 use Rattle.site_solution.specs.Answers.{Answers}
 use Rattle.router.specs.Happening.{Happens}
-use Rattle.site_solution.specs.InTree.{name_stands, ask_stands, request_stands, is_in_tree}
+use Rattle.site_solution.specs.InTree.{name_stands, is_in_tree}
+use Rattle.site_solution.specs.inside.InTree.{ask_stands, request_stands}
 use Rattle.site_solution.specs.Pours.{HasEmitted}
 use Rattle.site_solution.specs.Staying.{StillFits}
 use Rattle.site_solution.proofs.Staying.{same_numbers}
 use Rattle.site_solution.specs.declared.effects.Effects.{Effects}
 use Rattle.router.proofs.Sending.{asked_here, happens}
 use Rattle.site_solution.proofs.Together.{in_tree_parts, in_tree_from, number_here, request_id, request_passes, numbers_same, fresh_same, places_same}
-use Rattle.migration.specs.Moves.{has_goal, goes, is_ready, can_go}
+use Rattle.migration.specs.inside.Moves.{has_goal}
+use Rattle.migration.specs.Moves.{goes, is_ready, can_go}
 use Rattle.migration.specs.Within.{goes_to_one_of, leads_to_one_of, leads_into, IsMoveWithin, IsOneMove}
 
 -- ---- what a request tells whose location may move

@@ -1,5 +1,5 @@
 -- When a request to go may be met.
-use Rattle.std.specs.Prelude.{Bool, true, false, Option, Some, None}
+use Rattle.std.specs.Prelude.{Bool, false, Option, Some, None}
 use Rattle.chem_model.specs.declared.name.Loc.{Loc}
 use Rattle.chem_model.specs.declared.name.Name.{Name}
 use Rattle.chem_model.specs.declared.name.Name.TheVariants as name
@@ -29,14 +29,3 @@ is_ready t (Some q) = goes t q.loc q.ask
 -- a request to go, where the rule Go lets its location move to the target
 abbrev pub can_go : Tree → AtomId → Site → Bool
 can_go t i s = is_ready t (request_with i s.requests)
-
--- a request to go to a location
-abbrev pub is_place : Name → Bool
-is_place (name.Seen i) = false
-is_place (name.Place b) = true
-is_place (name.Chan s k h) = false
-
-abbrev pub has_goal : Ask → Bool
-has_goal (request.Go b k) = is_place b
-has_goal (request.Fail a k) = false
-has_goal request.Halt = false

@@ -10,7 +10,8 @@ ghost use Rattle.site_solution.specs.InCode.{is_in_code};
 ghost use Rattle.site_solution.specs.Draws.{CanDraw};
 ghost use Rattle.site_solution.specs.Pours.{HasEmitted};
 ghost use Rattle.site_solution.specs.Staying.{StillFits};
-ghost use Rattle.migration.specs.Moves.{has_goal, can_go};
+ghost use Rattle.migration.specs.inside.Moves.{has_goal};
+ghost use Rattle.migration.specs.Moves.{can_go};
 ghost use Rattle.migration.specs.Within.{leads_into, IsMoveWithin, IsOneMove};
 
 use chem_model::{AtomId, Items, Loc, Memory, Name, Nums};

@@ -40,10 +40,11 @@ use Rattle.router.specs.Delivering.{is_channel, home_at, can_deliver}
 use Rattle.net_laws.specs.Site.{Group}
 use Rattle.net_core.specs.declared.turn.Made.{Made}
 use Rattle.net_core.specs.Acting.{Reacts, Delivers}
-use Rattle.net_core.specs.AtSites.{AllStayFit}
-use Rattle.net_core.specs.Alone.{IsAlone, IsReadyForCalls, IsBroughtTo, Arrives, HasArrived, ReactsOnce, IsNoted, HasReacted}
+use Rattle.net_core.specs.inside.AtSites.{AllStayFit}
+use Rattle.net_core.specs.inside.Alone.{IsAlone, IsReadyForCalls, IsBroughtTo, Arrives, HasArrived}
+use Rattle.net_core.specs.inside.Alone.{ReactsOnce, IsNoted, HasReacted}
 use Rattle.net_core.specs.Bare.{bare}
-use Rattle.net_core.specs.Delivering.{GoesOn}
+use Rattle.net_core.specs.inside.Delivering.{GoesOn}
 use Rattle.net_core.specs.Lending.{mail_to, ReactsAlone, WorksAlone, used_up, rests, reacts}
 use Rattle.net_core.specs.Parts.{message_in, carried, all_carried, IsMessageFlight}
 use Rattle.net_core.specs.Playing as does

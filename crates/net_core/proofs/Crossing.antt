@@ -9,8 +9,8 @@ use Rattle.net_laws.specs.Site.{Site}
 use Rattle.site_solution.specs.Staying.{StillFits, HasReceived}
 use Rattle.site_solution.specs.declared.effects.Effects.{Effects}
 use Rattle.migration.specs.Across.{IsMoveBetween}
-use Rattle.net_core.specs.AtSites.{AllStayFit, MayCrossAt, CrossesAt}
-use Rattle.net_core.specs.Fitting.{AreNumbered}
+use Rattle.net_core.specs.inside.AtSites.{AllStayFit, MayCrossAt, CrossesAt}
+use Rattle.net_core.specs.inside.Fitting.{AreNumbered}
 use Rattle.net_core.specs.Whole.{AllFit}
 use Rattle.net_core.proofs.Fitting.{fits_at, others_stay, stay_set}
 

@@ -20,12 +20,12 @@ use Rattle.router.specs.declared.routing.Delivery.TheVariants.{Forward}
 use Rattle.net_core.specs.declared.parts.Parts.{Parts}
 use Rattle.net_core.specs.Bare.{bare}
 use Rattle.net_core.specs.Parts.{joined, message_in, carried, all_carried, IsMessageFlight, net_of}
-use Rattle.net_core.specs.Pieces.{without, IsPlace}
+use Rattle.net_core.specs.inside.Pieces.{without, IsPlace}
 use Rattle.net_core.specs.Whole.{AllFit, AreFlying, IsWhole, IsRunning}
 use Rattle.net_core.specs.Acting.{Delivers, delivered}
-use Rattle.net_core.specs.Handing.{AreAsBefore}
+use Rattle.net_core.specs.inside.Handing.{AreAsBefore}
 use Rattle.net_core.specs.Playing.{deliver}
-use Rattle.net_core.specs.Delivering.{IsBrought, GoesOn}
+use Rattle.net_core.specs.inside.Delivering.{IsBrought, GoesOn}
 use Rattle.net_core.proofs.Carrying.{carried_append, carried_without, carried_at, carried_length, each_without}
 use Rattle.net_core.proofs.Deliverable.{may_be_delivered}
 use Rattle.net_core.proofs.Fitting.{fit_bare, fit_full}

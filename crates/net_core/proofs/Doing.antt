@@ -24,8 +24,8 @@ use Rattle.migration.specs.Moves.{can_go, is_ready}
 use Rattle.migration.specs.Within.{leads_into, leads_to_one_of, goes_to_one_of}
 use Rattle.migration.specs.Across.{joins, can_join}
 use Rattle.net_core.specs.declared.choice.Choice.{Choice}
-use Rattle.net_core.specs.Searched.{meets, IsMet, NoneMeets}
-use Rattle.net_core.specs.AtSites.{MayGoAt, HasGoal, MayMoveAt, MayCrossAt}
+use Rattle.net_core.specs.inside.Searched.{meets, IsMet, NoneMeets}
+use Rattle.net_core.specs.inside.AtSites.{MayGoAt, HasGoal, MayMoveAt, MayCrossAt}
 use Rattle.net_core.specs.Whole.{RunsSome}
 use Rattle.net_core.proofs.Going.{can_is, root_is, root_low}
 use Rattle.net_core.proofs.Joins.{may_join}

@@ -14,10 +14,10 @@ use Rattle.net_core.specs.declared.choice.Choice.TheVariants as choice
 use Rattle.net_laws.proofs.Sites.{get_below}
 use Rattle.net_core.specs.declared.parts.Parts.{Parts}
 use Rattle.net_core.specs.Bare.{bare}
-use Rattle.net_core.specs.AtSites.{MayReactAt}
+use Rattle.net_core.specs.inside.AtSites.{MayReactAt}
 use Rattle.net_core.specs.Choosing.{MayReact, MayDeliver, Allows, request_of}
 use Rattle.net_core.specs.Parts.{joined, all_carried, net_of}
-use Rattle.net_core.specs.Searched.{meets, IsMet}
+use Rattle.net_core.specs.inside.Searched.{meets, IsMet}
 use Rattle.net_core.specs.Acting.{Reacts, Delivers, Halts, Detects, Moves}
 use Rattle.net_core.specs.Acts.{Acts}
 use Rattle.net_core.specs.Acts as acts

@@ -31,7 +31,10 @@ use Rattle.net_core.specs.Acting.{Asks, MayGo}
 use Rattle.net_core.specs.Enabled.{MayHalt, MayDetect}
 use Rattle.net_core.specs.Choosing.{Allows, request_of}
 use Rattle.net_core.specs.Asking.{choice_by}
-use Rattle.net_core.specs.Searched.{HasSites, meets, IsMet, NoneMeets, choice_for, IsMeetable, NoneMeetable, IsLeastAt, lesser_of, IsLeastOf, IsLeast, NoneMeetsAny, IsFirstMeeting}
+use Rattle.net_core.specs.inside.Searched.{HasSites, meets, IsMet, NoneMeets, choice_for}
+use Rattle.net_core.specs.inside.Searched.{IsMeetable, IsLeastAt, lesser_of, IsLeastOf, IsLeast}
+use Rattle.net_core.specs.inside.Searched.{NoneMeetsAny, IsFirstMeeting}
+use Rattle.net_core.proofs.NoneFound.{NoneMeetable}
 use Rattle.net_core.specs.Bare.{bare}
 use Rattle.net_core.proofs.SiteReactions.{below_or, one_member, alive_bare, dead_bare, move_bare}
 

@@ -13,9 +13,9 @@ use Rattle.site_solution.specs.InTree.{is_in_tree}
 use Rattle.site_solution.specs.InCode.{is_in_code}
 use Rattle.site_solution.specs.Draws.{all_drawn, CanDraw}
 use Rattle.site_solution.specs.Staying.{StillFits, HasReceived}
-use Rattle.net_core.specs.AtSites.{AllStayFit}
+use Rattle.net_core.specs.inside.AtSites.{AllStayFit}
 use Rattle.net_core.specs.Bare.{bare}
-use Rattle.net_core.specs.Fitting.{AreNumbered}
+use Rattle.net_core.specs.inside.Fitting.{AreNumbered}
 use Rattle.net_core.specs.Whole.{AllFit}
 
 -- one site

@@ -30,7 +30,7 @@ use Rattle.net_core.specs.declared.parts.Parts.{Parts}
 use Rattle.net_core.specs.Bare.{bare}
 use Rattle.net_core.specs.Parts.{joined, all_carried, net_of}
 use Rattle.net_core.specs.Acting.{MayGo, Stays, Leaves, Moves, stays, leaves}
-use Rattle.net_core.specs.AtSites.{MovesAt, CrossesAt}
+use Rattle.net_core.specs.inside.AtSites.{MovesAt, CrossesAt}
 use Rattle.net_core.specs.Whole.{RunsSome}
 use Rattle.net_core.proofs.Carrying.{carried_append, all_carry}
 use Rattle.net_core.proofs.Deliveries.{same_net}

@@ -39,7 +39,7 @@ use Rattle.net_core.specs.declared.parts.Parts.{Parts}
 use Rattle.net_core.specs.Bare.{bare}
 use Rattle.net_core.specs.Parts.{joined, all_carried, IsMessageFlight, net_of}
 use Rattle.net_core.specs.Acting.{Asks, Halts, Detects}
-use Rattle.net_core.specs.AtSites.{AllStayFit, HaltsAt, DetectsAt}
+use Rattle.net_core.specs.inside.AtSites.{AllStayFit, HaltsAt, DetectsAt}
 use Rattle.net_core.specs.Playing.{Does}
 use Rattle.net_core.specs.Whole.{IsWhole}
 use Rattle.chem_laws.proofs.Lists.{Each-append}

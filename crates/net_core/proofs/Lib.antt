@@ -38,3 +38,5 @@ pub mod OpeningHere
 pub mod SlotLists
 pub mod RoundDone
 pub mod Requests
+pub mod SoFar
+pub mod NoneFound

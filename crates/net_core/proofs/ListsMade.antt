@@ -13,7 +13,8 @@ use Rattle.net_core.specs.Acts as acts
 use Rattle.net_core.specs.Choosing.{Allows}
 use Rattle.net_core.specs.Making.{counted}
 use Rattle.net_core.specs.Played.{ActsAll, stops, makes, carries, GoesOn, GetsStuck, Stops, HasPlayed}
-use Rattle.net_core.specs.PlayedSoFar.{listed, MakesMore, IsPlaying}
+use Rattle.net_core.specs.inside.PlayedSoFar.{listed, MakesMore}
+use Rattle.net_core.proofs.SoFar.{IsPlaying}
 use Rattle.net_core.specs.Playing.{Does, DoesAll, react, deliver, halt, detect, move}
 use Rattle.net_core.specs.Playing as lists
 use Rattle.net_core.specs.Whole.{NetParts}

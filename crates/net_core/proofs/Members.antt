@@ -4,7 +4,7 @@ use Rattle.std.proofs.lemmas.Option.{get_or_from_slice_get}
 use Rattle.std.specs.Prelude.{◌-◌, slice_get, slice_set, slice_index_or, is_ok, IsOk, if◌then◌else◌}
 use Rattle.chem_laws.proofs.Lists.{append_nil}
 use Rattle.net_core.specs.Parts.{joined}
-use Rattle.net_core.specs.Pieces.{without, IsPlace}
+use Rattle.net_core.specs.inside.Pieces.{without, IsPlace}
 
 pub joined_append : {X : Type 0} (ps qs : List (List X)) → joined (ps ++ qs) ≡ joined ps ++ joined qs
 joined_append [] qs = refl

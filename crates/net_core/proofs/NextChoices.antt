@@ -16,7 +16,7 @@ use Rattle.net_core.specs.Choosing as next
 use Rattle.net_core.specs.Resting.{IsNoneWhereQuiet}
 use Rattle.net_core.proofs.Enabling.{none_enabled_is_quiet}
 use Rattle.net_core.proofs.SiteReactions.{fires_reacts}
-use Rattle.net_core.specs.Searched.{HasSites, NoneMeetsAny, IsFirstMeeting}
+use Rattle.net_core.specs.inside.Searched.{HasSites, NoneMeetsAny, IsFirstMeeting}
 
 -- ---- packets
 

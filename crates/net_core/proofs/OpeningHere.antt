@@ -10,7 +10,7 @@ use Rattle.reducer.specs.Ready.{IsReady}
 use Rattle.net_core.specs.declared.choice.Choice.TheVariants as choice
 use Rattle.net_core.specs.Bare.{bare}
 use Rattle.net_core.specs.Scheduling.{births_or, births_of, ReadyOpensNone}
-use Rattle.net_core.specs.Searched.{HasSites}
+use Rattle.net_core.specs.inside.Searched.{HasSites}
 use Rattle.net_core.specs.Working.{IsOpeningAt}
 use Rattle.net_core.proofs.Picking.{ready_one}
 use Rattle.net_core.proofs.SiteReactions.{one_member, ready_bare}

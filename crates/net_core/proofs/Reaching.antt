@@ -54,14 +54,14 @@ use Rattle.net_core.specs.declared.parts.Parts.{Parts}
 use Rattle.net_core.specs.Bare.{bare}
 use Rattle.net_core.specs.Parts.{joined, net_of}
 use Rattle.net_core.specs.Acting.{HasGuard, Reacts}
-use Rattle.net_core.specs.AtSites.{AllStayFit, ReactsAt}
+use Rattle.net_core.specs.inside.AtSites.{AllStayFit, ReactsAt}
 use Rattle.net_core.specs.Whole.{AllFit, RunsSome}
 use Rattle.net_laws.specs.Opened.{AreNew}
 use Rattle.net_laws.specs.Choices.{with_outcome}
 use Rattle.net_core.proofs.Rising.{reactions_bear_new}
 use Rattle.net_core.proofs.Existing.{guard_rule}
 use Rattle.net_core.proofs.Picking.{IsFine}
-use Rattle.net_core.specs.Fitting.{AreNumbered}
+use Rattle.net_core.specs.inside.Fitting.{AreNumbered}
 use Rattle.net_core.proofs.Fitting.{others_stay}
 use Rattle.net_core.proofs.Handed.{run_bare, outcome_net, new_full}
 

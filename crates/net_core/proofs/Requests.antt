@@ -6,7 +6,7 @@ use Rattle.net_laws.specs.Holding.{precedes, with_request}
 use Rattle.net_laws.specs.Site.{Site}
 use Rattle.net_core.specs.declared.choice.Choice.{Choice}
 use Rattle.net_core.specs.Asking.{in_order, requests_of, choices_for}
-use Rattle.net_core.specs.Searched.{place_for, choice_for}
+use Rattle.net_core.specs.inside.Searched.{place_for, choice_for}
 use Rattle.net_core.proofs.Mail.{drop_next}
 
 pub put_in_place : (q : Request) (rs : List Request) → insert rs (place_for q.id rs) q ≡ with_request q rs

@@ -18,12 +18,14 @@ use Rattle.net_laws.proofs.Holds.{each_get}
 use Rattle.net_core.specs.declared.parts.Parts.{Parts}
 use Rattle.net_core.specs.declared.slots.Slot.{Slot}
 use Rattle.net_core.specs.declared.turn.Work.{Work}
-use Rattle.net_core.specs.Alone.{IsAlone, IsReadyForCalls, IsWorked}
+use Rattle.net_core.specs.inside.Alone.{IsAlone, IsReadyForCalls, IsWorked}
 use Rattle.net_core.specs.Bare.{bare}
 use Rattle.net_core.specs.Lending.{mail_to, WorksAlone, AllAreLent, no_site, a_site}
 use Rattle.net_core.specs.Parts.{joined, all_carried, IsMessageFlight, net_of}
 use Rattle.net_core.specs.Scheduling.{AreTurns, numbers}
-use Rattle.net_core.specs.Slots.{CanWork, IsServedAs, IsServed, Pairwise, slot_of, HasWork, events_in, outs_in, flights_in, sites_of, events_of, outs_of, flights_of, HasRound}
+use Rattle.net_core.specs.inside.Slots.{CanWork, IsServedAs, IsServed, Pairwise, slot_of, HasWork}
+use Rattle.net_core.specs.inside.Slots.{events_in, outs_in, flights_in, sites_of, events_of}
+use Rattle.net_core.specs.inside.Slots.{outs_of, flights_of, HasRound}
 use Rattle.net_core.specs.Whole.{NetParts, AllFit, IsRunning, IsWhole, RunsSome}
 use Rattle.net_core.specs.Working.{HasWorked}
 use Rattle.net_core.proofs.Alone.{alone_fits}

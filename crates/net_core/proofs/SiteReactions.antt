@@ -20,7 +20,8 @@ use Rattle.reducer.proofs.Masks.{HaveFronts, held_fronts, fronts_held}
 use Rattle.net_core.specs.Bare.{bare}
 use Rattle.net_core.specs.Enabled.{HasFront}
 use Rattle.net_core.specs.Choosing.{MayReact, NoneReacts, IsFirstReaction}
-use Rattle.net_core.specs.Searched.{HasSites, NoneReady}
+use Rattle.net_core.specs.inside.Searched.{HasSites}
+use Rattle.net_core.proofs.NoneFound.{NoneReady}
 
 -- ---- members of a list
 

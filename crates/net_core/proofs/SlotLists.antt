@@ -8,7 +8,8 @@ use Rattle.net_core.specs.declared.parts.Parts.{Parts}
 use Rattle.net_core.specs.declared.slots.Slot.{Slot}
 use Rattle.net_core.specs.declared.turn.Work.{Work}
 use Rattle.net_core.specs.Parts.{joined}
-use Rattle.net_core.specs.Slots.{Pairwise, HasWork, events_in, outs_in, flights_in, sites_of, events_of, outs_of, flights_of, AreBack}
+use Rattle.net_core.specs.inside.Slots.{Pairwise, HasWork, events_in, outs_in, flights_in, sites_of}
+use Rattle.net_core.specs.inside.Slots.{events_of, outs_of, flights_of, AreBack}
 
 module _ {X : Type 0} (R : X → X → Type 0) where
   pub pairwise : (xs ys : List X) → length ys ≡ length xs → ((i : ℕ) (d : X) → i < length xs → R (slice_index_or xs i d) (slice_index_or ys i d)) → Pairwise R xs ys

@@ -50,7 +50,7 @@ use Rattle.net_core.specs.Bare.{bare}
 use Rattle.net_core.specs.Parts.{joined, all_carried, IsMessageFlight, net_of}
 use Rattle.net_core.specs.Whole.{AllFit, IsWhole}
 use Rattle.net_core.specs.Rising.{AllMade}
-use Rattle.net_core.specs.Starting.{IsUpTo}
+use Rattle.net_core.specs.inside.Starting.{IsUpTo}
 use Rattle.net_core.proofs.Carrying.{carried_append, all_carry}
 use Rattle.net_core.proofs.Deliveries.{same_net}
 use Rattle.net_core.proofs.Fitting.{fit_bare, fit_full}

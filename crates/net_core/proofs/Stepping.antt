@@ -5,7 +5,7 @@ use Rattle.env_store.specs.CodeParts.{CodeParts}
 use Rattle.net_laws.specs.Site.{Site}
 use Rattle.net_laws.specs.Net.{Net}
 use Rattle.chem_model.specs.Each.{Each}
-use Rattle.net_core.specs.AtSites.{AllStayFit}
+use Rattle.net_core.specs.inside.AtSites.{AllStayFit}
 use Rattle.net_core.specs.Making.{counted}
 use Rattle.net_core.specs.Playing.{Does}
 use Rattle.net_core.specs.Rising.{AllMade}

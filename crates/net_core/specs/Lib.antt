@@ -7,11 +7,6 @@ pub mod Rising
 pub mod Bare
 pub mod Parts
 pub mod Whole
-pub mod Pieces
-pub mod Delivering
-pub mod Handing
-pub mod AtSites
-pub mod Fitting
 pub mod Choosing
 pub mod OneAnswer
 pub mod Acts
@@ -19,12 +14,8 @@ pub mod Making
 pub mod Asking
 pub mod Scheduling
 pub mod Rounds
-pub mod Starting
-pub mod Searched
 pub mod Resting
 pub mod Played
-pub mod PlayedSoFar
 pub mod Lending
 pub mod Working
-pub mod Alone
-pub mod Slots
+pub mod inside

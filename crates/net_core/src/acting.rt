@@ -10,12 +10,12 @@ ghost use Rattle.chem_model.specs.declared.event.Event.TheVariants as event;
 ghost use Rattle.wire_packet.specs.declared.packet.Ask.TheVariants as sent;
 ghost use Rattle.net_core.specs.Acting.{Moves};
 ghost use Rattle.net_core.specs.Acts.{Acts};
-ghost use Rattle.net_core.specs.AtSites.{MayGoAt, HasGoal};
+ghost use Rattle.net_core.specs.inside.AtSites.{MayGoAt, HasGoal};
 ghost use Rattle.net_core.specs.Choosing.{Allows};
-ghost use Rattle.net_core.specs.Handing.{AreAsBefore};
+ghost use Rattle.net_core.specs.inside.Handing.{AreAsBefore};
 ghost use Rattle.net_core.specs.Making.{counted, HasActed};
 ghost use Rattle.net_core.specs.Parts.{net_of};
-ghost use Rattle.net_core.specs.Searched.{IsMet};
+ghost use Rattle.net_core.specs.inside.Searched.{IsMet};
 ghost use Rattle.net_core.specs.Whole.{IsWhole};
 
 use crate::choice::Choice;

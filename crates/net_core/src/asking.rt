@@ -2,7 +2,7 @@
 ghost use Rattle.std.specs.Prelude.{◌≡◌, ◌<◌, ◌≤◌, length, slice_get, Some, IfOk, OnOk};
 ghost use Rattle.net_laws.specs.Holding.{with_request};
 ghost use Rattle.net_core.specs.Asking.{in_order, requests_of, choices_for};
-ghost use Rattle.net_core.specs.Searched.{place_for};
+ghost use Rattle.net_core.specs.inside.Searched.{place_for};
 
 use crate::choice::Choices;
 use crate::searching::{choice_for, comes_before};

@@ -8,9 +8,9 @@ ghost use Rattle.net_laws.specs.Site.{Site as site_seen};
 ghost use Rattle.router.specs.Delivering.{can_deliver};
 ghost use Rattle.net_core.specs.Acting.{Delivers};
 ghost use Rattle.net_core.specs.Parts.{joined, message_in, IsMessageFlight, net_of};
-ghost use Rattle.net_core.specs.Pieces.{without, IsPlace};
+ghost use Rattle.net_core.specs.inside.Pieces.{without, IsPlace};
 ghost use Rattle.net_core.specs.Whole.{AllFit, IsWhole};
-ghost use Rattle.net_core.specs.Delivering.{IsBrought, GoesOn};
+ghost use Rattle.net_core.specs.inside.Delivering.{IsBrought, GoesOn};
 
 use crate::parts::Parts;
 use crate::pieces::{add_piece, member_at, place_of, take_out};

@@ -6,9 +6,9 @@ ghost use Rattle.env_store.specs.CodeParts.{CodeParts};
 ghost use Rattle.net_laws.specs.Site.{Site as site_seen};
 ghost use Rattle.reducer.specs.Picks.{Picked, Picks, IsPick};
 ghost use Rattle.net_core.specs.Acting.{Reacts, Halts, Detects, Moves};
-ghost use Rattle.net_core.specs.AtSites.{MayReactAt, MayHaltAt, MayDetectAt};
-ghost use Rattle.net_core.specs.AtSites.{MayMoveAt, MayCrossAt};
-ghost use Rattle.net_core.specs.Handing.{AreAsBefore};
+ghost use Rattle.net_core.specs.inside.AtSites.{MayReactAt, MayHaltAt, MayDetectAt};
+ghost use Rattle.net_core.specs.inside.AtSites.{MayMoveAt, MayCrossAt};
+ghost use Rattle.net_core.specs.inside.Handing.{AreAsBefore};
 ghost use Rattle.net_core.specs.Parts.{net_of};
 ghost use Rattle.net_core.specs.Whole.{IsWhole};
 

@@ -5,7 +5,7 @@ ghost use Rattle.std.specs.Prelude.{OnOk, OnErr};
 ghost use Rattle.net_laws.specs.Net.{with_births};
 ghost use Rattle.net_laws.specs.Opened.{AreNew};
 ghost use Rattle.net_core.specs.Parts.{joined};
-ghost use Rattle.net_core.specs.Handing.{AreAsBefore, HaveRoom};
+ghost use Rattle.net_core.specs.inside.Handing.{AreAsBefore, HaveRoom};
 
 use crate::parts::Parts;
 use crate::pieces::add_piece;

@@ -3,7 +3,8 @@ ghost use Rattle.std.specs.Prelude.{◌≡◌, Some, slice_get, IfOk, OnOk, OnEr
 ghost use Rattle.chem_model.specs.declared.event.Event.TheVariants as event;
 ghost use Rattle.env_store.specs.CodeParts.{CodeParts};
 ghost use Rattle.net_laws.specs.Site.{Site as site_seen};
-ghost use Rattle.net_core.specs.AtSites.{AllStayFit, MayHaltAt, HaltsAt, MayDetectAt, DetectsAt};
+ghost use Rattle.net_core.specs.inside.AtSites.{AllStayFit, MayHaltAt, HaltsAt, MayDetectAt};
+ghost use Rattle.net_core.specs.inside.AtSites.{DetectsAt};
 ghost use Rattle.net_core.specs.Whole.{AllFit};
 
 use chem_model::{AtomId, Event, Memory, Nums};

@@ -2,8 +2,9 @@
 ghost use Rattle.std.specs.Prelude.{◌≡◌, Some, slice_get, IfOk, OnOk, OnErr};
 ghost use Rattle.env_store.specs.CodeParts.{CodeParts};
 ghost use Rattle.net_laws.specs.Site.{Site as site_seen};
-ghost use Rattle.net_core.specs.AtSites.{AllStayFit, MayMoveAt, MovesAt, MayCrossAt, CrossesAt};
-ghost use Rattle.net_core.specs.Fitting.{AreNumbered};
+ghost use Rattle.net_core.specs.inside.AtSites.{AllStayFit, MayMoveAt, MovesAt, MayCrossAt};
+ghost use Rattle.net_core.specs.inside.AtSites.{CrossesAt};
+ghost use Rattle.net_core.specs.inside.Fitting.{AreNumbered};
 ghost use Rattle.net_core.specs.Whole.{AllFit};
 
 use chem_model::{AtomId, Memory, Nums};

@@ -10,7 +10,7 @@ ghost use Rattle.net_laws.specs.Net.{Stands};
 ghost use Rattle.net_laws.specs.Opened.{with_tops, opened_net};
 ghost use Rattle.reducer.specs.Opens.{IsOfProgram};
 ghost use Rattle.net_core.specs.Bare.{bare};
-ghost use Rattle.net_core.specs.Starting.{IsUpTo};
+ghost use Rattle.net_core.specs.inside.Starting.{IsUpTo};
 
 use crate::handing::{add_births, add_flights, make_room};
 use crate::net::Net;

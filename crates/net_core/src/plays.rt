@@ -2,7 +2,7 @@
 ghost use Rattle.std.specs.Prelude.{◌≡◌, ◌+◌, ◌-◌, ◌<◌, ◌≤◌, ◌^◌, length, OnOk, OnErr};
 ghost use Rattle.net_core.specs.Choosing.{Allows};
 ghost use Rattle.net_core.specs.Played.{HasPlayed};
-ghost use Rattle.net_core.specs.PlayedSoFar.{MakesMore};
+ghost use Rattle.net_core.specs.inside.PlayedSoFar.{MakesMore};
 
 use crate::choice::Choice;
 use crate::net::Net;

@@ -2,7 +2,7 @@
 ghost use Rattle.std.specs.Prelude.{◌≡◌, Some, slice_get, IfOk, OnErr};
 ghost use Rattle.net_laws.specs.Site.{Site as site_seen};
 ghost use Rattle.reducer.specs.Picks.{Picked, Picks};
-ghost use Rattle.net_core.specs.AtSites.{MayReactAt, ReactsAt};
+ghost use Rattle.net_core.specs.inside.AtSites.{MayReactAt, ReactsAt};
 ghost use Rattle.net_core.specs.Whole.{AllFit};
 
 use chem_model::{Event, Memory};

@@ -1,6 +1,6 @@
 // Rounds of all sites, lent to workers.
 ghost use Rattle.std.specs.Prelude.{◌≡◌, ℕ, ◌+◌, ◌-◌, ◌*◌, ◌<◌, ◌≤◌, ◌^◌, length, IfOk};
-ghost use Rattle.net_core.specs.Slots.{HasRound};
+ghost use Rattle.net_core.specs.inside.Slots.{HasRound};
 ghost use Rattle.net_core.specs.Whole.{IsWhole};
 ghost use Rattle.net_core.specs.Working.{HasWorked};
 

@@ -11,9 +11,9 @@ ghost use Rattle.site_solution.specs.InTree.{is_in_tree};
 ghost use Rattle.site_solution.specs.InCode.{is_in_code};
 ghost use Rattle.net_core.specs.declared.choice.Choice.{Choice};
 ghost use Rattle.net_core.specs.Choosing.{MayReact, Allows, NoneReacts, IsFirstReaction, IsNext};
-ghost use Rattle.net_core.specs.Searched.{HasSites, meets, IsMet, NoneMeets, choice_for};
-ghost use Rattle.net_core.specs.Searched.{IsMeetable, IsLeastAt, lesser_of, IsLeast};
-ghost use Rattle.net_core.specs.Searched.{NoneMeetsAny, IsFirstMeeting};
+ghost use Rattle.net_core.specs.inside.Searched.{HasSites, meets, IsMet, NoneMeets, choice_for};
+ghost use Rattle.net_core.specs.inside.Searched.{IsMeetable, IsLeastAt, lesser_of, IsLeast};
+ghost use Rattle.net_core.specs.inside.Searched.{NoneMeetsAny, IsFirstMeeting};
 ghost use Rattle.net_core.specs.Scheduling.{ReadyOpensNone};
 ghost use Rattle.net_core.specs.Working.{IsOpeningAt};
 

@@ -2,7 +2,7 @@
 ghost use Rattle.std.specs.Prelude.{◌≡◌, ◌+◌, ◌<◌, ◌≤◌, ◌^◌, ◌∷◌, [], ◌++◌};
 ghost use Rattle.std.specs.Prelude.{All, map, length, IfOk, OnOk};
 ghost use Rattle.net_core.specs.Parts.{joined};
-ghost use Rattle.net_core.specs.Slots.{CanWork, IsServed, Pairwise, slot_of, AreBack};
+ghost use Rattle.net_core.specs.inside.Slots.{CanWork, IsServed, Pairwise, slot_of, AreBack};
 
 use crate::handing::add_flights;
 use crate::parts::Parts;

@@ -7,9 +7,11 @@ ghost use Rattle.site_solution.specs.InTree.{is_in_tree};
 ghost use Rattle.site_solution.specs.InCode.{is_in_code};
 ghost use Rattle.reducer.specs.Picks.{MayFire};
 ghost use Rattle.router.specs.Delivering.{can_deliver};
-ghost use Rattle.net_core.specs.Alone.{IsAlone, IsReadyForCalls, IsBroughtTo, Arrives, HasArrived};
-ghost use Rattle.net_core.specs.Alone.{IsNextHere, NoneIsNext, ReactsBy, IsNoted, HasReacted};
-ghost use Rattle.net_core.specs.Alone.{IsWorked};
+ghost use Rattle.net_core.specs.inside.Alone.{IsAlone, IsReadyForCalls, IsBroughtTo, Arrives};
+ghost use Rattle.net_core.specs.inside.Alone.{HasArrived};
+ghost use Rattle.net_core.specs.inside.Alone.{IsNextHere, NoneIsNext, ReactsBy, IsNoted};
+ghost use Rattle.net_core.specs.inside.Alone.{HasReacted};
+ghost use Rattle.net_core.specs.inside.Alone.{IsWorked};
 ghost use Rattle.net_core.specs.Lending.{mail_to};
 ghost use Rattle.net_core.specs.Parts.{message_in, all_carried, IsMessageFlight};
 

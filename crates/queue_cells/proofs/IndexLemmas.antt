@@ -6,7 +6,7 @@ use Rattle.std.proofs.lemmas.List.{length-set, length-append, get_or-set_same, g
 use Rattle.std.proofs.lemmas.List.Sums.{sum_by-cons}
 use Rattle.queue_cells.specs.Grouped.{Queued, lists_at, with_queue, idle_group, waiting, but_where}
 use Rattle.queue_cells.specs.Busy.{any_waits}
-use Rattle.queue_cells.specs.Index.{IsIndex}
+use Rattle.queue_cells.specs.inside.Index.{IsIndex}
 use Rattle.queue_cells.proofs.RowLemmas.{length-with_queue}
 
 pub waiting-replicate : (T : Type 0) (n : ℕ) → waiting {T = T} (replicate n []) ≡ 0

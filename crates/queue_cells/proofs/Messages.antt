@@ -8,8 +8,8 @@ use Rattle.queue_cells.specs.declared.cells.Ends.{Ends}
 use Rattle.queue_cells.specs.declared.rows.Row.{Row}
 use Rattle.queue_cells.specs.Grouped.{waiting}
 use Rattle.queue_cells.specs.Messages.{messages_in}
-use Rattle.queue_cells.specs.Walk.{walked, messages, AllQueues, total}
-use Rattle.queue_cells.specs.Rows.{queued, AllRows}
+use Rattle.queue_cells.specs.inside.Walk.{walked, messages, AllQueues, total}
+use Rattle.queue_cells.specs.inside.Rows.{queued, AllRows}
 
 ends-waiting : {T : Type 0} (slots : List (Option (Cell T))) (es : List Ends) → AllQueues slots es → waiting (map (messages slots) es) ≡ total es
 ends-waiting slots [] h = refl

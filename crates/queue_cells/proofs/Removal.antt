@@ -7,9 +7,11 @@ use Rattle.slab.specs.Slab.{Slab}
 use Rattle.queue_cells.specs.declared.cells.Cell.{Cell}
 use Rattle.queue_cells.specs.declared.cells.Ends.{Ends}
 use Rattle.queue_cells.specs.declared.rows.Row.{Row}
-use Rattle.queue_cells.specs.Grouped.{Queued, lists_at, queue_in, with_queue, emptied, waiting, but_where, waiting_where}
-use Rattle.queue_cells.specs.Walk.{messages, all_uses, total}
-use Rattle.queue_cells.specs.Rows.{queued, IsRow, AllRows, row_uses, AreRows}
+use Rattle.queue_cells.specs.Grouped.{Queued, lists_at, queue_in, with_queue, waiting, but_where}
+use Rattle.queue_cells.specs.Grouped.{waiting_where}
+use Rattle.queue_cells.specs.inside.Grouped.{emptied}
+use Rattle.queue_cells.specs.inside.Walk.{messages, all_uses, total}
+use Rattle.queue_cells.specs.inside.Rows.{queued, IsRow, AllRows, row_uses, AreRows}
 use Rattle.queue_cells.proofs.RowLemmas.{empty_ends, waiting-at}
 use Rattle.queue_cells.proofs.IndexLemmas.{waiting-replicate}
 

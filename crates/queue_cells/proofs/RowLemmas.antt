@@ -12,8 +12,10 @@ use Rattle.queue_cells.specs.declared.rows.Row.{Row}
 use Rattle.status_words.specs.Words.{Covers, NoneFrom, IsNext}
 use Rattle.queue_cells.specs.Grouped.{Queued, lists_at, queue_in, with_queue, idle_group, waiting, AllHeld}
 use Rattle.queue_cells.specs.Busy.{any_waits}
-use Rattle.queue_cells.specs.Walk.{walked, messages, uses, IsQueue, AllQueues, all_uses, total, Chained, Unchained}
-use Rattle.queue_cells.specs.Rows.{is_held, no_ends, IsIdle, queued, IsRow, AllRows, row_uses, AreRows}
+use Rattle.queue_cells.specs.inside.Walk.{walked, messages, uses, IsQueue, AllQueues, all_uses}
+use Rattle.queue_cells.specs.inside.Walk.{total, Chained, Unchained}
+use Rattle.queue_cells.specs.inside.Rows.{is_held, no_ends, IsIdle, queued, IsRow, AllRows}
+use Rattle.queue_cells.specs.inside.Rows.{row_uses, AreRows}
 use Rattle.queue_cells.proofs.Walks.{queues-same, queue-set, uses-le-all, vacant_unused, uses-append, AllQueues-at, messages-at, one_at_most, eqb-same}
 
 -- one queue of a group was replaced

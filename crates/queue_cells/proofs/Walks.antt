@@ -6,7 +6,8 @@ use Rattle.std.proofs.lemmas.List.{length-append}
 use Rattle.slab.specs.Slab.{Slab, Updates}
 use Rattle.queue_cells.specs.declared.cells.Cell.{Cell}
 use Rattle.queue_cells.specs.declared.cells.Ends.{Ends}
-use Rattle.queue_cells.specs.Walk.{from_cell, walk, walked, messages, uses, last_key, IsQueue, AllQueues, all_uses, Chained, Unchained}
+use Rattle.queue_cells.specs.inside.Walk.{from_cell, walk, walked, messages, uses, last_key}
+use Rattle.queue_cells.specs.inside.Walk.{IsQueue, AllQueues, all_uses, Chained, Unchained}
 
 pub eqb-same : (k : ℕ) → eqb k k ≡ true
 eqb-same k = grind (arith, nat_tests)

@@ -43,12 +43,6 @@ module _ {G T : Type 0} where
       record { told = q.told; lists = slice_set q.lists chan ms } ∷ qs
   with_queue (q ∷ qs) (suc group) chan ms = q ∷ with_queue qs group chan ms
 
-  -- the groups with empty queues in one of them
-  abbrev pub emptied : List (Queued G T) → ℕ → List (Queued G T)
-  emptied [] group = []
-  emptied (q ∷ qs) zero = idle_group q.told (length q.lists) ∷ qs
-  emptied (q ∷ qs) (suc group) = q ∷ emptied qs group
-
   -- the groups with one message more, behind the others of one queue
   abbrev pub with_last : List (Queued G T) → ℕ → ℕ → T → List (Queued G T)
   with_last qs group chan m = with_queue qs group chan (queue_in qs group chan ++ m ∷ [])

@@ -1,6 +1,4 @@
 pub mod Grouped
 pub mod Messages
-pub mod Walk
-pub mod Rows
 pub mod Busy
-pub mod Index
+pub mod inside

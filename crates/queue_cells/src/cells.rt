@@ -1,7 +1,7 @@
 ghost use Rattle.std.specs.Prelude.{◌≡◌, ◌≢◌, ◌+◌, ◌<◌, ◌≤◌, ℕ, Some};
 ghost use Rattle.slab.specs.Slab.{get, HasRoomFor, slab_len};
 ghost use Rattle.queue_cells.specs.declared.cells.Cell.{Cell};
-ghost use Rattle.queue_cells.specs.Walk.{IsQueue, uses, walked, leading, Chained, Unchained};
+ghost use Rattle.queue_cells.specs.inside.Walk.{IsQueue, uses, walked, leading, Chained, Unchained};
 
 use slab::Slab;
 

@@ -1,7 +1,8 @@
 ghost use Rattle.std.specs.Prelude.{◌≡◌, ◌≤◌, ◌<◌, ◌+◌, ◌∷◌, ◌++◌, ◌↔◌, [], length, Some};
 ghost use Rattle.std.specs.Prelude.{slice_get, remove, option_copied, IsOk, IsTrue, OnOk, OnErr};
 ghost use Rattle.queue_cells.specs.Grouped.{lists_at, queue_in, with_queue, with_last, waiting};
-ghost use Rattle.queue_cells.specs.Grouped.{idle_group, emptied, but_where, waiting_where, AllHeld};
+ghost use Rattle.queue_cells.specs.Grouped.{idle_group, but_where, waiting_where, AllHeld};
+ghost use Rattle.queue_cells.specs.inside.Grouped.{emptied};
 ghost use Rattle.queue_cells.specs.Busy.{any_waits};
 ghost use Rattle.queue_cells.specs.Messages.{messages_in};
 ghost use Rattle.status_words.specs.Words.{number_of_words};
@@ -34,7 +35,7 @@ impl<G, T> Model for Groups<G, T> {
     ghost coded = { grouped_code G.code T.code };
 
     ghost use Rattle.slab.specs.Slab.{slab_len};
-    ghost use Rattle.queue_cells.specs.Rows.{queued, AreRows};
+    ghost use Rattle.queue_cells.specs.inside.Rows.{queued, AreRows};
 
     ghost view = { λ q. record {
       groups = map (queued q.cells.slots) q.rows.items;

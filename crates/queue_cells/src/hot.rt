@@ -27,7 +27,7 @@ impl<G, T> Model for Hot<G, T> {
 
     ghost coded = { grouped_code G.code T.code };
 
-    ghost use Rattle.queue_cells.specs.Index.{IsIndex};
+    ghost use Rattle.queue_cells.specs.inside.Index.{IsIndex};
 
     ghost view = { λ h. record {
       groups = h.groups.groups;

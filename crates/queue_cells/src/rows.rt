@@ -1,6 +1,6 @@
 ghost use Rattle.std.specs.Prelude.{◌≡◌, ◌<◌, map, length, slice_set, IfOk};
 ghost use Rattle.queue_cells.specs.Grouped.{ForGroup};
-ghost use Rattle.queue_cells.specs.Rows.{is_held};
+ghost use Rattle.queue_cells.specs.inside.Rows.{is_held};
 
 use crate::cells::Ends;
 use chem_model::Memory;
@@ -47,7 +47,7 @@ impl<G> Model for Idle<G> {
 
     ghost coded = { for_group_code G.code };
 
-    ghost use Rattle.queue_cells.specs.Rows.{IsIdle};
+    ghost use Rattle.queue_cells.specs.inside.Rows.{IsIdle};
 
     ghost view = { λ i. record { told = i.row.told; width = length i.row.status } };
 

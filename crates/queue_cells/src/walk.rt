@@ -1,5 +1,5 @@
 ghost use Rattle.std.specs.Prelude.{◌≡◌};
-ghost use Rattle.queue_cells.specs.Walk.{IsQueue, messages};
+ghost use Rattle.queue_cells.specs.inside.Walk.{IsQueue, messages};
 ghost use Rattle.std.specs.Iterator.{YieldsFirstBy, item_count};
 
 use crate::cells::{Cell, Ends};
@@ -19,7 +19,7 @@ impl<'a, T> Model for Iter<'a, T> {
 
     ghost Value = { List T };
 
-    ghost use Rattle.queue_cells.specs.Walk.{walk};
+    ghost use Rattle.queue_cells.specs.inside.Walk.{walk};
 
     ghost view = { λ it. map (λ p. p.1) (walk it.cells.now.slots it.left it.key) };
 

@@ -12,7 +12,8 @@ use Rattle.reducer.specs.declared.pick.Pick.{Pick}
 use Rattle.reducer.specs.declared.choosing.Found.{Found}
 use Rattle.reducer.specs.Picks.{Picked, Fires, rule_of}
 use Rattle.reducer.specs.Ready.{precedes, NoneFires, IsReady}
-use Rattle.reducer.specs.Searching.{pick_of, IsOffer, NoOffer, IsBestOf, IsBest, better_of}
+use Rattle.reducer.specs.inside.Searching.{pick_of, IsOffer, NoOffer, better_of}
+use Rattle.reducer.proofs.BestOf.{IsBestOf, IsBest}
 use Rattle.reducer.proofs.Levels.{group_same, level_same}
 
 -- ---- the order of rules

@@ -50,7 +50,7 @@ use Rattle.site_solution.specs.Held.{without_fronts, taken_in, taken_at}
 use Rattle.reducer.specs.declared.pick.Pick.{Pick}
 use Rattle.reducer.specs.Picks.{Picked, Picks, Fires}
 use Rattle.reducer.specs.Fronts.{taken_by, event_of}
-use Rattle.reducer.specs.Searching.{IsOfLevel}
+use Rattle.reducer.specs.inside.Searching.{IsOfLevel}
 use Rattle.reducer.specs.Reacting.{RunsProgram, MakesEvent, ran_by, ReactionIsOneEvent}
 use Rattle.reducer.proofs.Levels.{level_at, group_number, of_level, told_as, queues_at}
 use Rattle.reducer.proofs.Masks.{AreDifferent, HaveFronts, held_fronts, fronts_taken, fronts_args}

@@ -19,7 +19,7 @@ use Rattle.net_laws.specs.Kept.{IsKept}
 use Rattle.site_solution.specs.Held.{queues_in, queues_of, inst_in}
 use Rattle.reducer.specs.declared.pick.Pick.{Pick}
 use Rattle.reducer.specs.Picks.{Picked, Picks, IsPick, Covers, IsToldAs}
-use Rattle.reducer.specs.Searching.{IsOfLevel, pick_of, NoneCovered, IsFirstCovered, NoOffer}
+use Rattle.reducer.specs.inside.Searching.{IsOfLevel, pick_of, NoneCovered, IsFirstCovered, NoOffer}
 use Rattle.reducer.proofs.Levels.{some_is, many_queues, group_same, level_same}
 use Rattle.reducer.proofs.Masks.{words_are}
 use Rattle.reducer.proofs.Best.{below_or, not_both}

@@ -10,7 +10,7 @@ use Rattle.site_solution.specs.Guards as site
 use Rattle.reducer.specs.declared.pick.Pick.{Pick}
 use Rattle.reducer.specs.Picks.{Picked, Fires}
 use Rattle.reducer.specs.Ready.{NoneFires, IsReady}
-use Rattle.reducer.specs.Searching.{pick_of}
+use Rattle.reducer.specs.inside.Searching.{pick_of}
 use Rattle.reducer.specs.Reacting.{NoRuleReacts}
 use Rattle.reducer.proofs.Quiet.{no_rule_reacts}
 

@@ -23,7 +23,7 @@ use Rattle.site_solution.specs.InTree.{is_number, has_number, is_in_tree}
 use Rattle.site_solution.specs.InCode.{same_pairs, same_counts, is_level_of, is_told_by, is_in_code}
 use Rattle.reducer.specs.declared.pick.Pick.{Pick}
 use Rattle.reducer.specs.Picks.{Picked, Picks, IsToldAs}
-use Rattle.reducer.specs.Searching.{IsOfLevel}
+use Rattle.reducer.specs.inside.Searching.{IsOfLevel}
 
 pub all_get : {X : Type 0} (p : X → Bool) (xs : List X) (i : ℕ) (x : X) → slice_get xs i ≡ Some x → list_all p xs ≡ true → p x ≡ true
 all_get p [] i x e h = cc

@@ -12,3 +12,4 @@ pub mod Reactions
 pub mod Openings
 pub mod OpeningFit
 pub mod OpeningFresh
+pub mod BestOf

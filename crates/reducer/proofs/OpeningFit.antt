@@ -40,7 +40,7 @@ use Rattle.site_solution.specs.Draws.{is_drawn, message_drawn, told_drawn, all_d
 use Rattle.site_solution.specs.Named.{name_in, names_in, message_in, group_in, request_in, in_tree}
 use Rattle.site_solution.proofs.AllHold.{AllHold, come-holds, all-both}
 use Rattle.site_solution.proofs.Adding.{HasCome}
-use Rattle.site_solution.specs.Split.{waits_in, asked_in}
+use Rattle.site_solution.specs.inside.Split.{waits_in, asked_in}
 use Rattle.site_solution.proofs.Leaves.{drawn-new}
 use Rattle.site_solution.proofs.Poured.{run-comes, named-in_run, posts-named, groups-named, waits-hold, asks-hold, posts-drawn, laid-drawn, born-drawn, all-drawn-of, all-told_again}
 use Rattle.reducer.specs.Opens.{HasTops, IsOpenedFit}

@@ -30,7 +30,9 @@ use Rattle.net_laws.proofs.Holds.{each_get, laid_at}
 use Rattle.code_run.specs.RunFacts.{AreBorn}
 use Rattle.code_run.proofs.Facts.{body_facts}
 use Rattle.site_solution.specs.Held.{queues_of, inst_in, taken_in, taken_at}
-use Rattle.site_solution.specs.InTree.{name_stands, names_stand, message_stands, queues_stand, group_stands, request_stands, has_number, is_in_tree}
+use Rattle.site_solution.specs.InTree.{name_stands, message_stands, has_number, is_in_tree}
+use Rattle.site_solution.specs.inside.InTree.{names_stand, queues_stand, group_stands}
+use Rattle.site_solution.specs.inside.InTree.{request_stands}
 use Rattle.site_solution.specs.InCode.{is_in_code}
 use Rattle.site_solution.specs.Draws.{CanDraw}
 use Rattle.site_solution.specs.Named.{name_in, names_in, all_in, in_tree, in_reach}

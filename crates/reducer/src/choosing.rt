@@ -9,8 +9,8 @@ ghost use Rattle.site_solution.specs.InCode.{is_in_code};
 ghost use Rattle.reducer.specs.Picks.{Picked, Picks, IsPick};
 ghost use Rattle.reducer.specs.Ready.{precedes, NoneFires, IsReady};
 ghost use Rattle.reducer.specs.Reacting.{NoRuleReacts};
-ghost use Rattle.reducer.specs.Searching.{IsOfLevel, pick_of, NoneCovered, IsFirstCovered};
-ghost use Rattle.reducer.specs.Searching.{IsOffer, NoOffer, better_of};
+ghost use Rattle.reducer.specs.inside.Searching.{IsOfLevel, pick_of, NoneCovered, IsFirstCovered};
+ghost use Rattle.reducer.specs.inside.Searching.{IsOffer, NoOffer, better_of};
 
 use crate::naming::rule_of;
 use crate::parts::{code_is_kept, guard_at, level_at};

@@ -5,7 +5,7 @@ ghost use Rattle.net_laws.specs.Site.{Group};
 ghost use Rattle.site_solution.specs.InTree.{is_in_tree};
 ghost use Rattle.site_solution.specs.InCode.{is_in_code};
 ghost use Rattle.reducer.specs.Picks.{Picked, Picks, IsPick, IsCovered, MayFire};
-ghost use Rattle.reducer.specs.Searching.{IsOfLevel};
+ghost use Rattle.reducer.specs.inside.Searching.{IsOfLevel};
 
 use crate::parts::{code_is_kept, guard_at, level_at};
 use crate::pick::Pick;

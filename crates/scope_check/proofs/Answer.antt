@@ -10,16 +10,18 @@ use Rattle.chem_model.specs.ProgramFacts.{ProgramTerms, IsProgram}
 use Rattle.scope_check.specs.declared.fault.Fault.{Fault}
 use Rattle.join_base.specs.declared.fault.Kind.{Kind}
 use Rattle.join_base.specs.declared.fault.Kind.TheVariants.{Lex1, Lex2, Lex3, Grammar1, Grammar2, Scope1, Scope2, Scope3, Scope4, Scope5, Scope6, Arity1, Arity2, Arity3, Arity4}
-use Rattle.scope_check.specs.Order.{rank, IsSooner, IsFirst, first_of}
+use Rattle.scope_check.specs.Order.{rank, IsSooner, IsFirst}
+use Rattle.scope_check.specs.inside.Order.{first_of}
 use Rattle.scope_check.specs.Blocks.{Defining, defining, block, place_of, sites_of, observed_from, outermost, Scope, open_at, scopes_in_def, scopes_in_defs}
 use Rattle.scope_check.specs.Uses.{uses_of}
 use Rattle.scope_check.specs.Faults.{IsFault}
-use Rattle.scope_check.specs.FaultList.{use_faults, clashes, level_faults, declared_faults, many, fault_list}
+use Rattle.scope_check.proofs.FaultList.{use_faults, declared_faults, fault_list}
+use Rattle.scope_check.specs.inside.FaultList.{clashes, level_faults, many}
 use Rattle.scope_check.specs.Numbers.{Binder, binders, index_of}
 use Rattle.scope_check.specs.Stands.{together, site_terms, seen_decls, program}
-use Rattle.scope_check.specs.Twin.{Table, site_terms_in, level_uses_in}
-use Rattle.scope_check.specs.Clashes.{clashes_in}
-use Rattle.scope_check.specs.Naming.{Level, name_all, walk_level}
+use Rattle.scope_check.specs.inside.Twin.{Table, site_terms_in, level_uses_in}
+use Rattle.scope_check.specs.inside.Clashes.{clashes_in}
+use Rattle.scope_check.specs.inside.Naming.{Level, name_all, walk_level}
 use Rattle.join_parse.specs.declared.word.SeenTree.{SeenTree}
 use Rattle.scope_check.specs.Checked.{most_sites, no_literals, IsProgramOf, OneOutcome}
 use Rattle.scope_check.proofs.Lists.{none_left, none_right}

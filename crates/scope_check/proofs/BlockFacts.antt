@@ -18,7 +18,8 @@ use Rattle.chem_model.specs.Binders as chem
 use Rattle.chem_model.specs.Binders.{is_among, times}
 use Rattle.chem_model.specs.Scope.{Agree, IsBlock}
 use Rattle.scope_check.specs.Blocks.{Defining, channels, defining, defining_one, places_of, first_in, Scope}
-use Rattle.scope_check.specs.FaultList.{clash_if, clashes, is_spelled_in, repeated_if, repeats}
+use Rattle.scope_check.specs.inside.FaultList.{clash_if, clashes, is_spelled_in, repeated_if}
+use Rattle.scope_check.specs.inside.FaultList.{repeats}
 use Rattle.scope_check.specs.Numbers.{Binder, binder, is_same, keys, in_params, index_of}
 use Rattle.scope_check.specs.Stands.{numbers, level}
 use Rattle.scope_check.proofs.Lists.{none_left, none_right}

@@ -13,7 +13,8 @@ use Rattle.chem_model.specs.Process as t
 use Rattle.chem_model.specs.Binders as chem
 use Rattle.chem_model.specs.Binders.{is_among, times, once, bound_in, bound_in_all, bound_in_definition, bound_in_definitions}
 use Rattle.scope_check.specs.Blocks.{Defining, params, parameters, block, Scope, open_at, scopes_in, scopes_in_all, scopes_in_def, scopes_in_defs}
-use Rattle.scope_check.specs.FaultList.{clashes, repeats, pattern_faults, process_faults, processes_faults, definition_faults, level_faults}
+use Rattle.scope_check.specs.inside.FaultList.{clashes, repeats, pattern_faults, process_faults}
+use Rattle.scope_check.specs.inside.FaultList.{processes_faults, definition_faults, level_faults}
 use Rattle.scope_check.specs.Faults.{ons}
 use Rattle.scope_check.specs.Numbers.{Binder, binder, is_same, keys, in_params, in_patterns, in_process, in_processes, in_definition, in_definitions, index_of}
 use Rattle.scope_check.specs.Stands.{together, numbers, pats_of, process, members, definition, level}

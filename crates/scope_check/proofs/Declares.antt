@@ -11,9 +11,12 @@ use Rattle.scope_names.specs.declared.scope.Entry.{Entry}
 use Rattle.scope_names.specs.Frames.{in_frame}
 use Rattle.scope_check.specs.Blocks.{Defining, params, first_in}
 use Rattle.scope_check.specs.Faults.{ons}
-use Rattle.scope_check.specs.FaultList.{clash_if, clashes, is_spelled_in, repeated_if, repeats, pattern_faults}
-use Rattle.scope_check.specs.Clashes.{clash_with, remember_if, remember, clashes_in, remember_all, repeats_in, channel_repeats, parameter_repeats}
-use Rattle.scope_check.specs.Twin.{Table}
+use Rattle.scope_check.specs.inside.FaultList.{clash_if, clashes, is_spelled_in, repeated_if}
+use Rattle.scope_check.specs.inside.FaultList.{repeats, pattern_faults}
+use Rattle.scope_check.specs.inside.Clashes.{clash_with, remember_if, remember, clashes_in}
+use Rattle.scope_check.specs.inside.Clashes.{remember_all, repeats_in, channel_repeats}
+use Rattle.scope_check.specs.inside.Clashes.{parameter_repeats}
+use Rattle.scope_check.specs.inside.Twin.{Table}
 use Rattle.scope_check.proofs.Lists.{or_sort, first-append, or_entry, frame-append, frame-kept, spelled-append}
 
 abbrev new_entry : Sort → Entry

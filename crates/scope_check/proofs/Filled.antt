@@ -2,8 +2,8 @@
 use Rattle.std.proofs.Common.{◌≡◌, ℕ, zero, suc, ◌<◌, List, [], ◌∷◌, ◌++◌, length, get_or, take, set, refl, sym, ap, ◌∙◌, arith, length-append, append_assoc}
 use Rattle.std.specs.List.{swap}
 use Rattle.join_parse.specs.Source.{Process, Def, Definitions, Processes}
-use Rattle.scope_check.specs.Twin.{Table}
-use Rattle.scope_check.specs.Naming.{walk, walk_all, walk_level}
+use Rattle.scope_check.specs.inside.Twin.{Table}
+use Rattle.scope_check.specs.inside.Naming.{walk, walk_all, walk_level}
 use Rattle.std.proofs.lemmas.List.Edits.{swap_is}
 
 keep : {X : Type 0} (xs : List X) (s v : X) → take (length xs) (set (xs ++ s ∷ []) (length xs) v) ≡ xs

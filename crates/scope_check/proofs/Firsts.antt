@@ -2,7 +2,8 @@
 use Rattle.std.proofs.Common.{◌≡◌, ◌⊎◌, inl, inr, ℕ, ◌<◌, ◌≤◌, Bool, true, false, cond, List, [], ◌∷◌, ◌++◌, refl, sym, ◌∙◌, subst, arith, Option, Some, None, eqb, ltb, ◌&&◌, ◌||◌}
 use Rattle.std.proofs.lemmas.Bool.Decides.{nat_tests}
 use Rattle.scope_check.specs.declared.fault.Fault.{Fault}
-use Rattle.scope_check.specs.Order.{rank, IsSooner, IsFirst, sooner, first_of}
+use Rattle.scope_check.specs.Order.{rank, IsSooner, IsFirst}
+use Rattle.scope_check.specs.inside.Order.{sooner, first_of}
 
 abbrev pub In : Fault → List Fault → Type 0
 In f [] = ⊥

@@ -1,7 +1,7 @@
 -- The first of two lists of faults.
 use Rattle.std.proofs.Common.{◌≡◌, List, [], ◌∷◌, ◌++◌, Option, refl, sym, ap, ◌∙◌}
 use Rattle.scope_check.specs.declared.fault.Fault.{Fault}
-use Rattle.scope_check.specs.Order.{sooner, first_of}
+use Rattle.scope_check.specs.inside.Order.{sooner, first_of}
 
 pub first-append : (o : Option Fault) (xs ys : List Fault) → first_of o (xs ++ ys) ≡ first_of (first_of o xs) ys
 first-append o [] ys = refl

@@ -26,7 +26,10 @@ use Rattle.chem_model.specs.ProgramFacts.{IsDeclared}
 use Rattle.scope_check.specs.Blocks.{Defining, channels, params, parameters, defining, defining_one, places_of, block, first_in, observed_from, Scope, Resolved, resolved_in, resolve, open_at, scopes_in, scopes_in_def, scopes_in_defs}
 use Rattle.scope_check.specs.Uses.{Manner, called, headed, sent, sent_unless, all_sent, uses, all_uses, definition_uses, level_uses}
 use Rattle.scope_check.specs.Faults.{ons}
-use Rattle.scope_check.specs.FaultList.{used_by, use_faults, clashes, is_spelled_in, repeated_if, repeats, pattern_faults, process_faults, processes_faults, definition_faults, level_faults}
+use Rattle.scope_check.proofs.FaultList.{used_by, use_faults}
+use Rattle.scope_check.specs.inside.FaultList.{clashes, is_spelled_in, repeated_if, repeats}
+use Rattle.scope_check.specs.inside.FaultList.{pattern_faults, process_faults, processes_faults}
+use Rattle.scope_check.specs.inside.FaultList.{definition_faults, level_faults}
 use Rattle.scope_check.specs.Numbers.{Binder, binder, is_same, keys, in_params, in_patterns, in_process, in_processes, in_definition, in_definitions, index_of}
 use Rattle.scope_check.specs.Stands.{together, ref_as, ref_to, ref_of, refs_of, numbers, pats_of, process, members, definition, level}
 use Rattle.scope_check.proofs.Lists.{keys-append, none_left, none_right, spelled-append, same-spelling}

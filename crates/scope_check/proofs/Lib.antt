@@ -42,3 +42,4 @@ use Rattle.scope_check.proofs.Good.{level-term}
 use Rattle.scope_check.proofs.Bound.{level-within}
 use Rattle.scope_check.proofs.Program.{program-kept}
 use Rattle.scope_check.proofs.Answer.{answers}
+pub mod FaultList

@@ -10,9 +10,9 @@ use Rattle.scope_names.specs.declared.scope.Entry.{Entry}
 use Rattle.scope_names.specs.Frames.{in_frame}
 use Rattle.scope_check.specs.declared.fault.Fault.{Fault}
 use Rattle.scope_check.specs.Blocks.{Defining, parameters, first_in}
-use Rattle.scope_check.specs.FaultList.{is_spelled_in}
+use Rattle.scope_check.specs.inside.FaultList.{is_spelled_in}
 use Rattle.scope_check.specs.Numbers.{binder, keys}
-use Rattle.scope_check.specs.Twin.{Table}
+use Rattle.scope_check.specs.inside.Twin.{Table}
 
 abbrev pub or_sort : Option Sort → Option Sort → Option Sort
 or_sort None o = o

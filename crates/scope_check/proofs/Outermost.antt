@@ -13,8 +13,9 @@ use Rattle.scope_names.specs.Frames.{in_frame}
 use Rattle.scope_check.specs.Blocks.{Defining, block, sites_of, observed_from, outermost, first_in, scopes_in_defs}
 use Rattle.scope_check.specs.Numbers.{Binder, binder, is_same, firsts_after, keys, observed, site_names, all_binding, site_level, others, binders, index_of}
 use Rattle.scope_check.specs.Stands.{texts}
-use Rattle.scope_check.specs.Naming.{Named, numbered_as, name_if, name_one, name_all, Level, walk_level}
-use Rattle.scope_check.specs.Twin.{Table}
+use Rattle.scope_check.specs.inside.Naming.{Named, numbered_as, name_if, name_one, name_all, Level}
+use Rattle.scope_check.specs.inside.Naming.{walk_level}
+use Rattle.scope_check.specs.inside.Twin.{Table}
 use Rattle.scope_check.proofs.Counting.{Consecutive, Counts}
 use Rattle.scope_check.proofs.Lists.{or_sort, first-append, or_entry, frame-append, frame-kept, any-append}
 use Rattle.scope_check.proofs.Tables.{StandsFor, entered, LevelFits}

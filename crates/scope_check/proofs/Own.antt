@@ -9,7 +9,7 @@ use Rattle.scope_names.specs.declared.scope.Sort.{Sort}
 use Rattle.scope_names.specs.declared.scope.Sort.TheVariants.{Channel, Location, Parameter}
 use Rattle.scope_check.specs.Blocks.{Defining, channels, params, parameters, defining, defining_one, places_of, first_in}
 use Rattle.scope_check.specs.Numbers.{Binder}
-use Rattle.scope_check.specs.Twin.{Table}
+use Rattle.scope_check.specs.inside.Twin.{Table}
 use Rattle.scope_check.proofs.Lists.{first-append, or_sort, parameters-append}
 use Rattle.scope_check.proofs.Tables.{IsBinding, Defined, AllDefined, PatsDefined, OwnDefined, AllOwnDefined}
 

@@ -22,10 +22,13 @@ use Rattle.chem_model.specs.Binders.{is_among, once, bound_in_definitions, defin
 use Rattle.chem_model.specs.Scope.{AreRulesAndPlaces, IsBlock, AreDefinitions}
 use Rattle.chem_model.specs.ProgramFacts.{IsProgram, IsDeclared, places}
 use Rattle.scope_check.specs.declared.fault.Fault.{Fault}
-use Rattle.scope_check.specs.Order.{rank, sooner, first_of}
+use Rattle.scope_check.specs.Order.{rank}
+use Rattle.scope_check.specs.inside.Order.{sooner, first_of}
 use Rattle.scope_check.specs.Blocks.{Defining, channels, defining, defining_one, block, place_of, places_of, sites_of, observed_from, outermost, first_in, Scope, open_at, scopes_in_def, scopes_in_defs}
 use Rattle.scope_check.specs.Uses.{all_uses, definition_uses, level_uses, uses_of}
-use Rattle.scope_check.specs.FaultList.{use_faults, clashes, processes_faults, definition_faults, level_faults, declared_faults, many, fault_list}
+use Rattle.scope_check.proofs.FaultList.{use_faults, declared_faults, fault_list}
+use Rattle.scope_check.specs.inside.FaultList.{clashes, processes_faults, definition_faults}
+use Rattle.scope_check.specs.inside.FaultList.{level_faults, many}
 use Rattle.scope_check.specs.Numbers.{Binder, binder, is_same, firsts_after, keys, observed, site_names, all_binding, site_level, others, binders, index_of, in_params, in_patterns, in_processes, in_definition, in_definitions}
 use Rattle.scope_check.specs.Stands.{together, members, level, site_terms, seen_decls, texts, program}
 use Rattle.scope_check.specs.Checked.{most_sites}

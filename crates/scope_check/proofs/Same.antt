@@ -14,11 +14,16 @@ use Rattle.chem_model.specs.declared.name.Ref.{Ref}
 use Rattle.scope_names.specs.declared.scope.Sort.{Sort}
 use Rattle.scope_names.specs.declared.scope.Sort.TheVariants.{Channel, Location, Observed, Parameter}
 use Rattle.scope_check.specs.declared.fault.Fault.{Fault}
-use Rattle.scope_check.specs.Order.{IsFirst, first_of}
+use Rattle.scope_check.specs.Order.{IsFirst}
+use Rattle.scope_check.specs.inside.Order.{first_of}
 use Rattle.scope_check.specs.Blocks.{Defining, params, block, sites_of, outermost, first_in, Resolved, resolve}
 use Rattle.scope_check.specs.Uses.{Manner, called, headed, sent, Use, uses_of, Declared, a_block, a_join, declared, all_declared, definition_declared, level_declared, declared_of}
 use Rattle.scope_check.specs.Faults.{Member, stands, WrongAs, WrongBy, WrongAfter, Repeated, ons, WrongDeclared, WrongSite, IsFault, of_use, of_declared, of_site}
-use Rattle.scope_check.specs.FaultList.{fault, unless, used_as, used_by, use_faults, clash, clash_if, clashes, is_spelled_in, repeated_if, repeats, pattern_faults, process_faults, processes_faults, definition_faults, level_faults, declared_faults, many, fault_list}
+use Rattle.scope_check.specs.inside.FaultList.{fault, unless, clash, clash_if, clashes}
+use Rattle.scope_check.specs.inside.FaultList.{is_spelled_in, repeated_if, repeats, pattern_faults}
+use Rattle.scope_check.specs.inside.FaultList.{process_faults, processes_faults, definition_faults}
+use Rattle.scope_check.specs.inside.FaultList.{level_faults, many}
+use Rattle.scope_check.proofs.FaultList.{used_as, used_by, use_faults, declared_faults, fault_list}
 use Rattle.scope_check.proofs.Firsts.{In, in-append, in-left, in-right, first-of-set}
 
 -- ---- members of lists

@@ -4,11 +4,11 @@ use Rattle.join_parse.specs.declared.tree.PlaceTree.{PlaceTree}
 use Rattle.join_parse.specs.Source as s
 use Rattle.chem_model.specs.Process as t
 use Rattle.scope_check.specs.declared.fault.Fault.{Fault}
-use Rattle.scope_check.specs.Order.{first_of}
+use Rattle.scope_check.specs.inside.Order.{first_of}
 use Rattle.scope_check.specs.Blocks.{place_of, places_of, sites_of, scopes_in, scopes_in_all}
 use Rattle.scope_check.specs.Stands.{together}
-use Rattle.scope_check.specs.Twin.{Table, members_in, all_uses_in}
-use Rattle.scope_check.specs.Naming.{walk_one, walk_level}
+use Rattle.scope_check.specs.inside.Twin.{Table, members_in, all_uses_in}
+use Rattle.scope_check.specs.inside.Naming.{walk_one, walk_level}
 
 drop-suc : {A : Type 0} (xs : List A) (i : ℕ) (x : A) → i < length xs → x ≡ get_or xs i x → drop i xs ≡ x ∷ drop (suc i) xs
 drop-suc [] i x h e = absurd (omega arith)

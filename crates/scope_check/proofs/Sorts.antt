@@ -13,7 +13,8 @@ use Rattle.scope_names.specs.declared.scope.Sort.TheVariants.{Channel, Location,
 use Rattle.chem_model.specs.Binders.{times}
 use Rattle.scope_check.specs.declared.fault.Fault.{Fault}
 use Rattle.scope_check.specs.Blocks.{Defining, first_in}
-use Rattle.scope_check.specs.FaultList.{fault, unless, clash, clash_if, clashes, is_spelled_in, repeated_if, repeats}
+use Rattle.scope_check.specs.inside.FaultList.{fault, unless, clash, clash_if, clashes}
+use Rattle.scope_check.specs.inside.FaultList.{is_spelled_in, repeated_if, repeats}
 use Rattle.scope_check.specs.Numbers.{Binder, is_same, in_params, index_of}
 use Rattle.scope_check.specs.Stands.{numbers}
 use Rattle.scope_check.proofs.Lists.{or_sort, first-append, spelled-append, none_left, none_right}

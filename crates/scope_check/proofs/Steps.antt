@@ -10,8 +10,8 @@ use Rattle.scope_names.specs.Frames.{in_frame}
 use Rattle.scope_check.specs.Blocks.{Defining, first_in}
 use Rattle.scope_check.specs.Numbers.{Binder, binder, is_same, firsts_after}
 use Rattle.scope_check.specs.Stands.{texts}
-use Rattle.scope_check.specs.Twin.{Table}
-use Rattle.scope_check.specs.Naming.{Named, numbered_as, spells_as, name_if, name_one}
+use Rattle.scope_check.specs.inside.Twin.{Table}
+use Rattle.scope_check.specs.inside.Naming.{Named, numbered_as, spells_as, name_if, name_one}
 use Rattle.scope_check.proofs.Counting.{Consecutive, Counts}
 use Rattle.scope_check.proofs.Lists.{or_sort, first-append, or_entry, frame-append, any-append}
 use Rattle.scope_check.proofs.Tables.{IsBinding, StandsFor, entered}

@@ -13,8 +13,10 @@ use Rattle.scope_check.specs.Blocks.{Defining, params, parameters, block, first_
 use Rattle.scope_check.specs.Numbers.{Binder, binder}
 use Rattle.scope_check.specs.Stands.{together, ref_as, ref_to, ref_of, refs_of, numbers, pats_of, process, members, definition, level}
 use Rattle.scope_check.specs.Checked.{no_literals}
-use Rattle.scope_check.specs.Naming.{numbered_as}
-use Rattle.scope_check.specs.Twin.{Table, ref_as_entry, ref_by, refs_in, binder_by, binder_in, binders_in, pats_in, table_at, process_in, members_in, definition_in, level_in}
+use Rattle.scope_check.specs.inside.Naming.{numbered_as}
+use Rattle.scope_check.specs.inside.Twin.{Table, ref_as_entry, ref_by, refs_in, binder_by}
+use Rattle.scope_check.specs.inside.Twin.{binder_in, binders_in, pats_in, table_at, process_in}
+use Rattle.scope_check.specs.inside.Twin.{members_in, definition_in, level_in}
 
 -- a sort that has a binder: all but an observed name
 abbrev pub IsBinding : Sort → Type 0

@@ -4,10 +4,11 @@ use Rattle.join_parse.specs.declared.word.Word.{Word}
 use Rattle.join_parse.specs.Source.{Process, Zero, Msg, Go, Fail, Halt, Group, Def, Processes, none, one_more, Definition, Rule, Place, Definitions, no_definition, and_also}
 use Rattle.scope_check.specs.Blocks.{params, parameters, block, Scope, Resolved, resolve, open_at, scopes_in, scopes_in_def, scopes_in_defs}
 use Rattle.scope_check.specs.Uses.{called, headed, sent, Use, all_sent, uses, all_uses, definition_uses, level_uses}
-use Rattle.scope_check.specs.FaultList.{used_by, use_faults}
+use Rattle.scope_check.proofs.FaultList.{used_by, use_faults}
 use Rattle.scope_check.specs.Checked.{no_literals}
 use Rattle.scope_check.specs.Numbers.{Binder}
-use Rattle.scope_check.specs.Twin.{Table, called_by, headed_by, sent_by, sent_in, table_at, uses_in, all_uses_in, definition_uses_in, level_uses_in}
+use Rattle.scope_check.specs.inside.Twin.{Table, called_by, headed_by, sent_by, sent_in, table_at}
+use Rattle.scope_check.specs.inside.Twin.{uses_in, all_uses_in, definition_uses_in, level_uses_in}
 use Rattle.scope_names.specs.Frames.{in_env}
 use Rattle.scope_check.proofs.Tables.{EnvStandsFor, entered_resolved, env-resolves, Fits, AllFit, DefinitionFits, LevelFits}
 

@@ -6,8 +6,9 @@ use Rattle.join_parse.specs.Source.{Process, Zero, Msg, Go, Fail, Halt, Group, D
 use Rattle.scope_names.specs.declared.scope.Sort.TheVariants.{Channel, Location, Parameter}
 use Rattle.scope_check.specs.Blocks.{Defining, channels, params, parameters, defining, defining_one, places_of, block, first_in, scopes_in, scopes_in_all, scopes_in_def, scopes_in_defs}
 use Rattle.scope_check.specs.Numbers.{Binder, binder, is_same, in_params, in_patterns, in_process, in_processes, in_definition, in_definitions, firsts_after}
-use Rattle.scope_check.specs.Twin.{Table}
-use Rattle.scope_check.specs.Naming.{Named, name_one, name_words, Joined, name_patterns, Walked, Level, walk, walk_all, walk_one, walk_level}
+use Rattle.scope_check.specs.inside.Twin.{Table}
+use Rattle.scope_check.specs.inside.Naming.{Named, name_one, name_words, Joined, name_patterns}
+use Rattle.scope_check.specs.inside.Naming.{Walked, Level, walk, walk_all, walk_one, walk_level}
 use Rattle.scope_check.proofs.Counting.{Counts}
 use Rattle.scope_check.proofs.Lists.{any-append, or-false, parameters-append}
 use Rattle.scope_check.proofs.Steps.{key, Before, before-more, name-step}

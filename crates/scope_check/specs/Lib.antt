@@ -2,11 +2,7 @@ pub mod Order
 pub mod Blocks
 pub mod Uses
 pub mod Faults
-pub mod FaultList
 pub mod Numbers
 pub mod Stands
-pub mod Twin
-pub mod Naming
-pub mod Clashes
-pub mod Shown
 pub mod Checked
+pub mod inside

@@ -1,6 +1,5 @@
 -- The first of a set of faults: the least place, and at one place the kind that stands first.
-use Rattle.std.specs.Prelude.{◌≡◌, ℕ, ◌<◌, ◌≤◌, ◌⊎◌, ◌==◌, ◌||◌, ◌&&◌, nat_lt}
-use Rattle.std.specs.Prelude.{List, Option, Some, None, if◌then◌else◌, fold}
+use Rattle.std.specs.Prelude.{◌≡◌, ℕ, ◌<◌, ◌≤◌, ◌⊎◌, Option, Some, None}
 use Rattle.join_base.specs.declared.fault.Kind.{Kind}
 use Rattle.join_base.specs.declared.fault.Kind.TheVariants.{Lex1, Lex2, Lex3, Grammar1, Grammar2}
 use Rattle.join_base.specs.declared.fault.Kind.TheVariants.{Scope1, Scope2, Scope3, Scope4, Scope5}
@@ -32,13 +31,3 @@ IsSooner a b = (a.place < b.place) ⊎ ((a.place ≡ b.place) × (rank a.kind �
 abbrev pub IsFirst : (Fault → Type 0) → Option Fault → Type 0
 IsFirst faults None = (f : Fault) → faults f → ⊥
 IsFirst faults (Some f) = faults f × ((g : Fault) → faults g → IsSooner f g)
-
--- the sooner of what is kept and one more
-abbrev pub sooner : Option Fault → Fault → Option Fault
-sooner None g = Some g
-sooner (Some f) g =
-    if nat_lt g.place f.place || (g.place == f.place && nat_lt (rank g.kind) (rank f.kind))
-    then Some g else Some f
-
-abbrev pub first_of : Option Fault → List Fault → Option Fault
-first_of o fs = fold sooner o fs

@@ -1,12 +1,12 @@
 // The check of a tree.
 ghost use Rattle.std.specs.Prelude.{◌≡◌, ◌+◌, ◌≤◌, ◌++◌, ◌∷◌, [], get_or};
 ghost use Rattle.std.specs.Prelude.{length, drop, IfOk, IfErr, OnOk};
-ghost use Rattle.scope_check.specs.Order.{first_of};
+ghost use Rattle.scope_check.specs.inside.Order.{first_of};
 ghost use Rattle.scope_check.specs.Blocks.{observed_from, defining, sites_of, scopes_in_defs};
-ghost use Rattle.scope_check.specs.FaultList.{many, level_faults};
-ghost use Rattle.scope_check.specs.Clashes.{clashes_in};
-ghost use Rattle.scope_check.specs.Naming.{outermost, walk_sites as walked_sites};
-ghost use Rattle.scope_check.specs.Twin.{site_terms_in, level_uses_in};
+ghost use Rattle.scope_check.specs.inside.FaultList.{many, level_faults};
+ghost use Rattle.scope_check.specs.inside.Clashes.{clashes_in};
+ghost use Rattle.scope_check.specs.inside.Naming.{outermost, walk_sites as walked_sites};
+ghost use Rattle.scope_check.specs.inside.Twin.{site_terms_in, level_uses_in};
 ghost use Rattle.scope_check.specs.Stands.{seen_decls};
 ghost use Rattle.scope_check.specs.Checked.{IsProgramOf, IsRefusedAs, OneOutcome};
 ghost use Rattle.join_parse.specs.Grammar.{TreeOfText};

@@ -1,6 +1,7 @@
 // Faults of scope and arity, and the sooner of two.
 ghost use Rattle.std.specs.Prelude.{◌≡◌};
-ghost use Rattle.scope_check.specs.Order.{rank as rank_of, sooner};
+ghost use Rattle.scope_check.specs.Order.{rank as rank_of};
+ghost use Rattle.scope_check.specs.inside.Order.{sooner};
 
 use join_base::Kind;
 

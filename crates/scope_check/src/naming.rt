@@ -3,11 +3,12 @@
 ghost use Rattle.std.specs.Prelude.{◌≡◌, ◌+◌, ◌<◌, ◌++◌, OnOk, IfOk, length, set};
 ghost use Rattle.join_parse.specs.Source.{processes, definitions as source_definitions};
 ghost use Rattle.scope_check.specs.Blocks.{place_of, places_of, places, sites_of};
-ghost use Rattle.scope_check.specs.Naming.{name_one as named_one, name_all as named_all};
-ghost use Rattle.scope_check.specs.Naming.{numbered_as, spells_as, name_words as named_words};
-ghost use Rattle.scope_check.specs.Naming.{name_patterns as named_patterns, walk as walked};
-ghost use Rattle.scope_check.specs.Naming.{walk_all as walked_all, walk_one as walked_one};
-ghost use Rattle.scope_check.specs.Naming.{walk_level as walked_level};
+ghost use Rattle.scope_check.specs.inside.Naming.{name_one as named_one, name_all as named_all};
+ghost use Rattle.scope_check.specs.inside.Naming.{numbered_as, spells_as};
+ghost use Rattle.scope_check.specs.inside.Naming.{name_words as named_words};
+ghost use Rattle.scope_check.specs.inside.Naming.{name_patterns as named_patterns, walk as walked};
+ghost use Rattle.scope_check.specs.inside.Naming.{walk_all as walked_all, walk_one as walked_one};
+ghost use Rattle.scope_check.specs.inside.Naming.{walk_level as walked_level};
 
 use crate::block::Defining;
 use chem_model::{Memory, Texts};

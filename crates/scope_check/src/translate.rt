@@ -4,13 +4,13 @@ ghost use Rattle.std.specs.Prelude.{OnOk, IfSome, IfNone, length};
 ghost use Rattle.join_parse.specs.Source.{processes, definitions as source_definitions};
 ghost use Rattle.join_parse.specs.Nodes.{process_of, definition_of};
 ghost use Rattle.scope_check.specs.Stands.{together};
-ghost use Rattle.scope_check.specs.Order.{first_of};
+ghost use Rattle.scope_check.specs.inside.Order.{first_of};
 ghost use Rattle.scope_check.specs.Blocks.{place_of, sites_of, scopes_in, scopes_in_all};
 ghost use Rattle.scope_check.specs.Blocks.{scopes_in_def, scopes_in_defs};
-ghost use Rattle.scope_check.specs.Twin.{process_in, members_in, definition_in, level_in};
-ghost use Rattle.scope_check.specs.Twin.{uses_in, all_uses_in, definition_uses_in};
-ghost use Rattle.scope_check.specs.Twin.{level_uses_in, site_terms_in};
-ghost use Rattle.scope_check.specs.Shown.{Shows};
+ghost use Rattle.scope_check.specs.inside.Twin.{process_in, members_in, definition_in, level_in};
+ghost use Rattle.scope_check.specs.inside.Twin.{uses_in, all_uses_in, definition_uses_in};
+ghost use Rattle.scope_check.specs.inside.Twin.{level_uses_in, site_terms_in};
+ghost use Rattle.scope_check.specs.inside.Shown.{Shows};
 
 use crate::fault::Fault;
 use crate::words::{all_sent, binder_of, called, headed, patterns_of};

@@ -1,9 +1,9 @@
 // Uses of words under the scopes around them.
 ghost use Rattle.std.specs.Prelude.{◌≡◌, IfOk, OnOk, None, length};
-ghost use Rattle.scope_check.specs.Order.{first_of};
-ghost use Rattle.scope_check.specs.Twin.{called_by, headed_by, sent_in, sent_by, ref_by};
-ghost use Rattle.scope_check.specs.Twin.{refs_in, binder_by, binder_in, binders_in, pats_in};
-ghost use Rattle.scope_check.specs.FaultList.{called_as, headed_for};
+ghost use Rattle.scope_check.specs.inside.Order.{first_of};
+ghost use Rattle.scope_check.specs.inside.Twin.{called_by, headed_by, sent_in, sent_by, ref_by};
+ghost use Rattle.scope_check.specs.inside.Twin.{refs_in, binder_by, binder_in, binders_in, pats_in};
+ghost use Rattle.scope_check.specs.inside.FaultList.{called_as, headed_for};
 ghost use Rattle.scope_names.specs.Frames.{in_env, in_frame};
 
 use crate::fault::{Fault, note};

@@ -5,7 +5,7 @@ use Rattle.chem_model.specs.Each.{Each}
 use Rattle.wire_packet.specs.MessageFacts.{MessageParts}
 use Rattle.net_laws.specs.Site.{Group, Site}
 use Rattle.site_solution.specs.Held.{queues_in, queues_of, queue_of, without_front, taken_in, taken_at}
-use Rattle.site_solution.specs.New.{gone_at}
+use Rattle.site_solution.specs.inside.New.{gone_at}
 use Rattle.site_solution.proofs.Fronts.{gone-empty, gone-more, taken-is, taken-nothing}
 
 group_at : (gs : List Group) (j : ℕ) → j < length gs → (g : Group) × (slice_get gs j ≡ Some g)

@@ -11,8 +11,9 @@ use Rattle.shared_net.specs.declared.differs.Differs.{Differs}
 use Rattle.shared_net.specs.declared.differs.Differs.TheVariants as cause
 use Rattle.shared_net.specs.Passes.{Rise}
 use Rattle.shared_net.specs.Agrees.{all_receipts, times_at, Stands, Agrees}
-use Rattle.shared_net.specs.Causes.{OneOf, HasPlace, HasReceipt, IsHolder, DifferInNumber, IsCause, IsShownBy}
-use Rattle.shared_net.specs.Walk.{slot_at, has_place, IsFresh, IsStale, Marks}
+use Rattle.shared_net.specs.Causes.{OneOf, HasPlace, HasReceipt, IsHolder, DifferInNumber, IsCause}
+use Rattle.shared_net.specs.inside.Causes.{IsShownBy}
+use Rattle.shared_net.specs.inside.Walk.{slot_at, has_place, IsFresh, IsStale, Marks}
 use Rattle.shared_net.proofs.Members.{OneOf-at, OneOf-weaker, OneOf-gives}
 use Rattle.shared_net.proofs.Slots.{slot-free}
 

@@ -7,8 +7,10 @@ use Rattle.trace_history.specs.Kept.{Kept}
 use Rattle.shared_net.specs.declared.turn.Turn.{Turn}
 use Rattle.shared_net.specs.declared.turn.Turn.TheVariants.{Did, Passed, Nothing, NotEnabled, Full}
 use Rattle.shared_net.specs.Passes.{PassKept}
-use Rattle.shared_net.specs.Proposes.{IsFull, Proposes, with_receipt, pass_after}
-use Rattle.shared_net.specs.Offers.{Offers, Turned, MayGain, MayHaveCommitted}
+use Rattle.shared_net.specs.inside.Proposes.{IsFull, Proposes, pass_after}
+use Rattle.shared_net.specs.Proposes.{with_receipt}
+use Rattle.shared_net.specs.inside.Offers.{Offers, Turned, MayHaveCommitted}
+use Rattle.shared_net.specs.Offers.{MayGain}
 
 module _ (old : Kept) (held : PassKept) (e : Event) where
   -- what doesn't fit

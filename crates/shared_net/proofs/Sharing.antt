@@ -7,7 +7,9 @@ use Rattle.chem_model.specs.contracts.program.Program as program
 use Rattle.env_store.specs.contracts.code.Code as code
 use Rattle.shared_net.specs.contracts.net.Parts as parts
 use Rattle.shared_net.specs.declared.net.Parts as declared
-use Rattle.shared_net.specs.Crosses.{ProgramIsShared, CodeIsShared, LockedTreeIsShared, LockedSitesAreShared, LockedMailIsShared, PartsAreShared}
+use Rattle.shared_net.specs.inside.Crosses.{ProgramIsShared, CodeIsShared, LockedTreeIsShared}
+use Rattle.shared_net.specs.inside.Crosses.{LockedSitesAreShared, LockedMailIsShared}
+use Rattle.shared_net.specs.inside.Crosses.{PartsAreShared}
 
 budget_is_shared : IsSync u32
 budget_is_shared = search sendable

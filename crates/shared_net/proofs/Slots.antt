@@ -3,7 +3,7 @@ use Rattle.std.proofs.Common.{◌≡◌, ℕ, zero, suc, ◌+◌, ◌<◌, List,
 use Rattle.std.specs.Prelude.{replicate}
 use Rattle.std.proofs.lemmas.Bool.Decides.{nat_tests}
 use Rattle.shared_net.specs.declared.receipt.Receipt.{Receipt}
-use Rattle.shared_net.specs.Walk.{slot_at, has_place}
+use Rattle.shared_net.specs.inside.Walk.{slot_at, has_place}
 use Rattle.shared_net.proofs.Members.{drop-at}
 
 slot-set : (slots : List (Option ℕ)) (i number k : ℕ) → i < length slots → slot_at (slice_set slots i (Some number)) k ≡ cond (i == k) (Some number) (slot_at slots k)

@@ -1,15 +1,14 @@
 -- What the end of a run on threads answers.
-use Rattle.std.specs.Prelude.{◌≡◌, ℕ, ◌<◌, ◌≤◌, List, Some, None, is_some, true, length, IfSome}
+use Rattle.std.specs.Prelude.{◌≡◌, ℕ, ◌<◌, ◌≤◌, List, None, is_some, true, length, IfSome}
 use Rattle.chem_model.specs.Each.{Each}
 use Rattle.chem_model.specs.ProgramFacts.{ProgramTerms}
 use Rattle.trace_history.specs.Kept.{Kept}
 use Rattle.shared_net.specs.declared.report.Worked.{Worked}
-use Rattle.shared_net.specs.declared.differs.Differs.{Differs as Cause}
 use Rattle.shared_net.specs.declared.closing.Closed.{Closed}
 use Rattle.shared_net.specs.declared.closing.Closed.TheVariants.{Agreed, Differs}
 use Rattle.shared_net.specs.Passes.{PassKept}
 use Rattle.shared_net.specs.Agrees.{all_receipts, times_at, Agrees}
-use Rattle.shared_net.specs.Causes.{Compares, IsOfStarted}
+use Rattle.shared_net.specs.Causes.{IsOfStarted}
 
 -- the passes have this budget
 abbrev pub HaveBudget : ℕ → List PassKept → Type 0
@@ -33,11 +32,3 @@ Closes program budget rows (Agreed book report) =
 Closes program budget rows (Differs report) =
     (report.workers ≡ rows) × (is_some report.differs ≡ true)
     × IfSome report.differs (IsOfStarted program)
-
--- which of the two comes, said of the book behind the lock: that very book where the receipts
--- agree with it, and else a cause that is true
-abbrev pub Settles : Kept → List Worked → Closed → Type 0
-Settles kept rows (Agreed book report) =
-    (book ≡ kept) × Agrees kept.journal (all_receipts rows)
-Settles kept rows (Differs report) =
-    (cause : Cause) × (report.differs ≡ Some cause) × Compares kept.journal rows (Some cause)

@@ -1,11 +1,11 @@
 // What of a network may go to another thread, and what threads may share. Nothing here does
 // anything.
 ghost use denote.Param.Send.{IsSend, IsSync};
-ghost use Rattle.shared_net.specs.Crosses.{TreeCrosses, SiteCrosses, LockedCrosses};
-ghost use Rattle.shared_net.specs.Crosses.{MailboxCrosses, ProgramIsShared, CodeIsShared};
-ghost use Rattle.shared_net.specs.Crosses.{TreeIsShared, LockedTreeIsShared};
-ghost use Rattle.shared_net.specs.Crosses.{LockedSitesAreShared, LockedMailIsShared};
-ghost use Rattle.shared_net.specs.Crosses.{PartsAreShared};
+ghost use Rattle.shared_net.specs.inside.Crosses.{TreeCrosses, SiteCrosses, LockedCrosses};
+ghost use Rattle.shared_net.specs.inside.Crosses.{MailboxCrosses, ProgramIsShared, CodeIsShared};
+ghost use Rattle.shared_net.specs.inside.Crosses.{TreeIsShared, LockedTreeIsShared};
+ghost use Rattle.shared_net.specs.inside.Crosses.{LockedSitesAreShared, LockedMailIsShared};
+ghost use Rattle.shared_net.specs.inside.Crosses.{PartsAreShared};
 
 use crate::locked::Locked;
 use crate::mail::Mailbox;

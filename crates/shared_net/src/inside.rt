@@ -2,8 +2,9 @@
 ghost use Rattle.std.specs.Prelude.{◌≡◌, ◌<◌, ◌↔◌, None, IsTrue, length, map, IfOk};
 ghost use Rattle.chem_model.specs.Each.{Each};
 ghost use Rattle.shared_net.specs.Agrees.{row_of, all_receipts, Agrees};
-ghost use Rattle.shared_net.specs.Causes.{DifferInNumber, Compares};
-ghost use Rattle.shared_net.specs.Walk.{slot_at, Looks, LooksAll, Marks};
+ghost use Rattle.shared_net.specs.Causes.{DifferInNumber};
+ghost use Rattle.shared_net.specs.inside.Causes.{Compares};
+ghost use Rattle.shared_net.specs.inside.Walk.{slot_at, Looks, LooksAll, Marks};
 
 pub use crate::across::make_across;
 pub use crate::arriving::arrive;

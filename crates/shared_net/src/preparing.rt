@@ -10,10 +10,10 @@ ghost use Rattle.loc_tree.specs.Tree.{unmarked_roots};
 ghost use Rattle.net_laws.specs.Net.{Stands};
 ghost use Rattle.net_laws.specs.Opened.{with_tops, opened_net};
 ghost use Rattle.reducer.specs.Opens.{IsOfProgram};
-ghost use Rattle.shared_net.specs.Beginning.{bare, with_text, with_flights, IsUpTo};
-ghost use Rattle.shared_net.specs.Mail.{IsMessageText};
+ghost use Rattle.shared_net.specs.inside.Beginning.{bare, with_text, with_flights, IsUpTo};
+ghost use Rattle.shared_net.specs.inside.Mail.{IsMessageText};
 ghost use Rattle.shared_net.specs.Passes.{new_passes};
-ghost use Rattle.shared_net.specs.Preparing.{IsOpenedAs};
+ghost use Rattle.shared_net.specs.inside.Preparing.{IsOpenedAs};
 
 use crate::lists::{Mails, Sites};
 use crate::locked::{Locked, open};

@@ -2,12 +2,13 @@
 ghost use Rattle.std.specs.Prelude.{◌≡◌, ◌≢◌, ◌<◌, IfOk, OnErr};
 ghost use Rattle.chem_model.specs.Each.{Each};
 ghost use Rattle.shared_net.specs.declared.choosing.Chosen.TheVariants as choice;
-ghost use Rattle.shared_net.specs.Choosing.{Chooses, OpensNone, IsToGo};
-ghost use Rattle.shared_net.specs.Mail.{IsMessageFlight};
-ghost use Rattle.shared_net.specs.Offers.{Turned, MayGain};
+ghost use Rattle.shared_net.specs.inside.Choosing.{Chooses, OpensNone, IsToGo};
+ghost use Rattle.shared_net.specs.inside.Mail.{IsMessageFlight};
+ghost use Rattle.shared_net.specs.inside.Offers.{Turned};
+ghost use Rattle.shared_net.specs.Offers.{MayGain};
 ghost use Rattle.shared_net.specs.Passes.{PassKept};
 ghost use Rattle.shared_net.specs.Turning.{Turns};
-ghost use Rattle.shared_net.specs.TurnParts.{Steps, StepsFirst};
+ghost use Rattle.shared_net.specs.inside.TurnParts.{Steps, StepsFirst};
 
 use crate::choosing::{Chosen, leads_to, opens_none};
 use crate::door::{Desk, enter};

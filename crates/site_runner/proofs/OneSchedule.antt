@@ -8,7 +8,7 @@ use Rattle.chem_model.specs.Sound.{IsSound}
 use Rattle.chem_model.specs.Laws.{OpeningIsAStart, EventIsAReduction}
 use Rattle.trace_history.specs.declared.book.Found.{Found}
 use Rattle.trace_history.specs.First.{IsFirst}
-use Rattle.trace_history.specs.Search.{IsFound}
+use Rattle.trace_history.specs.inside.Search.{IsFound}
 use Rattle.trace_history.proofs.Replays.{same_some}
 use Rattle.trace_history.proofs.OneFirst.{one_first}
 use Rattle.trace_history.proofs.SomeFirst.{some_first}

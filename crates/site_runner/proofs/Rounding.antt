@@ -48,7 +48,8 @@ use Rattle.net_core.proofs.Ending.{rounds_end, not_enabled}
 use Rattle.net_core.proofs.Picking.{IsFine}
 use Rattle.net_core.proofs.SomeSchedule.{idle_round}
 use Rattle.site_runner.specs.Rounds.{StandForOne, RunsInRounds, RoundsOf}
-use Rattle.site_runner.specs.RoundParts.{events_of, and_then, AreOne, IsMade, HaveRun, HasTurn, made, passed, MeetsRequest, CanFollow}
+use Rattle.site_runner.specs.inside.RoundParts.{events_of, and_then, AreOne, IsMade, HaveRun}
+use Rattle.site_runner.specs.inside.RoundParts.{HasTurn, made, passed, MeetsRequest, CanFollow}
 
 -- ---- books with more events
 

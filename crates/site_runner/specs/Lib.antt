@@ -1,5 +1,5 @@
 pub mod Schedule
 pub mod Run
 pub mod Rounds
-pub mod RoundParts
 pub mod Free
+pub mod inside

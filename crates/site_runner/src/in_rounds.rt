@@ -8,8 +8,8 @@ ghost use Rattle.net_core.specs.Scheduling.{numbers, GoesOn, InTurn, Opens, Read
 ghost use Rattle.net_core.specs.Scheduling.{Meets, Forbids, IsRound, AreRounds};
 ghost use Rattle.net_core.specs.Whole.{NetParts};
 ghost use Rattle.site_runner.specs.Rounds.{StandForOne, RunsInRounds, RoundsOf};
-ghost use Rattle.site_runner.specs.RoundParts.{and_then, AreOne, IsMade, HaveRun, HasTurn};
-ghost use Rattle.site_runner.specs.RoundParts.{MeetsRequest, CanFollow};
+ghost use Rattle.site_runner.specs.inside.RoundParts.{and_then, AreOne, IsMade, HaveRun, HasTurn};
+ghost use Rattle.site_runner.specs.inside.RoundParts.{MeetsRequest, CanFollow};
 ghost use Rattle.site_runner.specs.declared.outcome.How.TheVariants as how;
 
 use crate::outcome::{Done, How};

@@ -18,16 +18,16 @@ use Rattle.site_solution.specs.CanLay.{HasNumbers, CanLay}
 use Rattle.site_solution.specs.Held.{taken_at}
 use Rattle.site_solution.specs.declared.told.NewGroup.{NewGroup}
 use Rattle.site_solution.specs.Counted.{over_stuck, over_waiting, one_each, id_of, over_requests, times, waiting_in}
-use Rattle.site_solution.specs.Rising.{with_requests}
-use Rattle.site_solution.specs.Index.{Rows, groups_of, holding, new_groups, IsIndex}
+use Rattle.site_solution.specs.inside.Rising.{with_requests}
+use Rattle.site_solution.specs.inside.Index.{Rows, groups_of, holding, new_groups, IsIndex}
 use Rattle.site_solution.specs.declared.told.Spots.{Spots}
 use Rattle.site_solution.proofs.Queueing.{index-same}
-use Rattle.site_solution.specs.Split.{with_more}
+use Rattle.site_solution.specs.inside.Split.{with_more}
 use Rattle.site_solution.specs.declared.more.More.{More}
-use Rattle.site_solution.specs.New.{told_of_new, gone_at, IsNewGroup}
-use Rattle.site_solution.specs.More.{IsRestacked, some_of, lays, CanAdd, IsAt, added}
-use Rattle.site_solution.specs.Stored.{seen, IsStored}
-use Rattle.site_solution.specs.Covered.{IsCovering}
+use Rattle.site_solution.specs.inside.New.{told_of_new, gone_at, IsNewGroup}
+use Rattle.site_solution.specs.inside.More.{IsRestacked, some_of, lays, CanAdd, IsAt, added}
+use Rattle.site_solution.specs.inside.Stored.{seen, IsStored}
+use Rattle.site_solution.specs.inside.Covered.{IsCovering}
 use Rattle.site_solution.proofs.Counting.{put_all-sum, lay_all-sum, request-more}
 use Rattle.site_solution.proofs.Fronts.{AreGone, are-gone, taken-is, taken-nothing}
 use Rattle.site_solution.proofs.LaidAll.{MayLay, laid-all}

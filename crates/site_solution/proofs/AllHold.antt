@@ -11,7 +11,7 @@ use Rattle.wire_packet.specs.declared.packet.Request.{Request}
 use Rattle.net_laws.specs.Site.{Told, Group, Site, told_in}
 use Rattle.net_laws.specs.Holding.{precedes, with_request}
 use Rattle.site_solution.specs.Counted.{over_queue, over_queues, over_groups, over_stuck}
-use Rattle.site_solution.specs.Rising.{with_requests}
+use Rattle.site_solution.specs.inside.Rising.{with_requests}
 use Rattle.site_solution.proofs.Fronts.{AreGone}
 use Rattle.site_solution.proofs.Adding.{HasCome}
 

@@ -6,7 +6,7 @@ use Rattle.wire_packet.specs.declared.packet.Waiting.{Waiting}
 use Rattle.queue_cells.specs.Grouped.{waiting}
 use Rattle.queue_cells.specs.Messages.{messages_in}
 use Rattle.site_solution.specs.Counted.{over_queue, over_queues, over_groups, over_stuck, one_each}
-use Rattle.site_solution.specs.Index.{Rows, groups_of}
+use Rattle.site_solution.specs.inside.Index.{Rows, groups_of}
 
 queue-many : (q : List MessageParts) → over_queue one_each q ≡ length q
 queue-many [] = refl

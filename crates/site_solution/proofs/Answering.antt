@@ -18,7 +18,7 @@ use Rattle.code_run.specs.Posts.{all_posted, posts_of, run_of}
 use Rattle.code_run.proofs.Runs.{posted_back}
 use Rattle.site_solution.specs.declared.effects.Effects.{Effects}
 use Rattle.site_solution.specs.Answers.{AreFlights, Answers}
-use Rattle.site_solution.specs.Leave.{IsLeft}
+use Rattle.site_solution.specs.inside.Leave.{IsLeft}
 use Rattle.site_solution.specs.Held.{taken_at}
 use Rattle.site_solution.proofs.Fronts.{taken-nothing}
 

@@ -33,11 +33,11 @@ use Rattle.site_solution.specs.Named.{name_in, names_in, message_in, request_in,
 use Rattle.site_solution.specs.InTree.{is_number, has_number, name_stands, is_in_tree}
 use Rattle.site_solution.specs.InCode.{is_told_by, is_in_code}
 use Rattle.site_solution.specs.Draws.{is_drawn, are_drawn, message_drawn, told_drawn, all_drawn, CanDraw}
-use Rattle.site_solution.specs.Split.{waits_in, asked_in}
-use Rattle.site_solution.specs.New.{told_of_new}
+use Rattle.site_solution.specs.inside.Split.{waits_in, asked_in}
+use Rattle.site_solution.specs.inside.New.{told_of_new}
 use Rattle.site_solution.specs.Held.{taken_at}
-use Rattle.site_solution.specs.More.{CanAdd, added}
-use Rattle.site_solution.specs.Carried.{IsCarried, IsBeside}
+use Rattle.site_solution.specs.inside.More.{CanAdd, added}
+use Rattle.site_solution.specs.inside.Carried.{IsCarried, IsBeside}
 use Rattle.site_solution.specs.Staying.{AgreeBut, StillFits, HasReceived}
 use Rattle.site_solution.specs.Arriving.{load_in, load_drawn, FitsInto}
 use Rattle.site_solution.proofs.Fronts.{taken-nothing}

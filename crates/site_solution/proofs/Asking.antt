@@ -7,7 +7,7 @@ use Rattle.chem_laws.proofs.Taking.{same_atom_refl}
 use Rattle.wire_packet.specs.declared.packet.Request.{Request}
 use Rattle.net_laws.specs.Holding.{request_with, with_request}
 use Rattle.site_solution.specs.Counted.{is_id, over_requests}
-use Rattle.site_solution.specs.Rising.{AreNewIn}
+use Rattle.site_solution.specs.inside.Rising.{AreNewIn}
 use Rattle.site_solution.proofs.Counting.{request-more}
 
 pub taken-ok : {A E X : Type 0} (r : Result A E) (xs ys new : X) → IsOk r → new ≡ (if is_ok r then xs else ys) → new ≡ xs

@@ -22,11 +22,11 @@ use Rattle.site_solution.specs.declared.more.More.{More}
 use Rattle.site_solution.specs.CanLay.{HasNumbers}
 use Rattle.site_solution.specs.Held.{taken_at}
 use Rattle.site_solution.specs.Counted.{over_stuck, id_of, over_requests, times}
-use Rattle.site_solution.specs.New.{told_of_new}
-use Rattle.site_solution.specs.Split.{with_more}
-use Rattle.site_solution.specs.More.{CanAdd, IsAt, added}
+use Rattle.site_solution.specs.inside.New.{told_of_new}
+use Rattle.site_solution.specs.inside.Split.{with_more}
+use Rattle.site_solution.specs.inside.More.{CanAdd, IsAt, added}
 use Rattle.site_solution.specs.Parcels.{CanTakeIn}
-use Rattle.site_solution.specs.Carried.{IsCarried}
+use Rattle.site_solution.specs.inside.Carried.{IsCarried}
 use Rattle.site_solution.proofs.Fronts.{taken-nothing}
 
 pub among-last : (xs : List Loc) (l : Loc) → among (xs ++ l ∷ []) l ≡ true

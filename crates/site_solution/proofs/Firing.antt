@@ -17,9 +17,11 @@ use Rattle.env_store.specs.CodeParts.{CodeParts}
 use Rattle.loc_tree.specs.Tree.{Tree}
 use Rattle.queue_cells.specs.Grouped.{AllHeld}
 use Rattle.net_laws.specs.Site.{Told, Group}
-use Rattle.site_solution.specs.Index.{Rise}
-use Rattle.site_solution.specs.Covered.{Key, Keys, key_cmp, has, Levels, AreMasksOf, Agrees, IsIndexed, AreIndexed}
-use Rattle.site_solution.specs.Fired.{IsGuardOf, IsFiredBy, NothingFiredBy, NothingFired, IsFirstFired, AreGuardsWide}
+use Rattle.site_solution.specs.inside.Index.{Rise}
+use Rattle.site_solution.specs.inside.Covered.{Key, Keys, key_cmp, has, Levels, AreMasksOf, Agrees}
+use Rattle.site_solution.specs.inside.Covered.{IsIndexed, AreIndexed}
+use Rattle.site_solution.specs.inside.Fired.{IsGuardOf, IsFiredBy, NothingFiredBy, NothingFired}
+use Rattle.site_solution.specs.inside.Fired.{IsFirstFired, AreGuardsWide}
 use Rattle.site_solution.specs.Guards.{Picked, PicksAt, CoversAt, FiresAt, rule_at, precedes, NothingFires, FiresFirst}
 use Rattle.site_solution.proofs.Noting.{key-parts, some-is, same-place}
 

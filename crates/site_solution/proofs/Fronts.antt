@@ -8,7 +8,7 @@ use Rattle.net_laws.specs.Changes.{Takes}
 use Rattle.net_laws.proofs.Posting.{fronts_go}
 use Rattle.site_solution.specs.Held.{without_front, without_fronts, taken_in, taken_at}
 use Rattle.site_solution.specs.Counted.{over_waiting}
-use Rattle.site_solution.specs.New.{gone_in, gone_at}
+use Rattle.site_solution.specs.inside.New.{gone_in, gone_at}
 use Rattle.site_solution.proofs.Counting.{front-sum}
 
 pub set-get : {X : Type 0} (xs : List X) (j : ℕ) (x y : X) → slice_get xs j ≡ Some x → slice_get (slice_set xs j y) j ≡ Some y

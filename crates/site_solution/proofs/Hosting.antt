@@ -6,7 +6,8 @@ use Rattle.loc_tree.proofs.Spots.{same_loc_sym}
 use Rattle.chem_model.specs.declared.name.Loc.{Loc}
 use Rattle.chem_model.specs.Solution.{same_loc}
 use Rattle.net_laws.specs.Net.{among}
-use Rattle.site_solution.specs.Hosted.{locs_of, same_pair_as}
+use Rattle.site_solution.specs.inside.Hosted.{locs_of}
+use Rattle.site_solution.proofs.SamePair.{same_pair_as}
 
 same-there : (p : ℕ × ℕ) (l : Loc) → same_pair_as (l.site, l.k) p ≡ same_loc (record { site = p.0; k = p.1 }) l
 same-there p l = same_loc_sym l (record { site = p.0; k = p.1 })

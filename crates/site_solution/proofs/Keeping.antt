@@ -20,11 +20,11 @@ use Rattle.net_laws.proofs.Holding.{put_is}
 use Rattle.net_laws.proofs.Posting.{each_with, fronts_go}
 use Rattle.site_solution.specs.declared.site.Site.TheInside.{Inside}
 use Rattle.site_solution.specs.Held.{queues_in, queue_of, without_front, has_atom}
-use Rattle.site_solution.specs.Rising.{Pending}
+use Rattle.site_solution.specs.inside.Rising.{Pending}
 use Rattle.site_solution.specs.Counted.{is_id, id_of, one_each, over_waiting, over_requests, times, waiting_in}
 use Rattle.site_solution.proofs.Counting.{put-sum, front-sum, request-more, request-less, absent-times, id-below}
-use Rattle.site_solution.specs.Index.{Rows, groups_of, told_of, holding, IsIndex}
-use Rattle.site_solution.specs.Stored.{seen, IsStored}
+use Rattle.site_solution.specs.inside.Index.{Rows, groups_of, told_of, holding, IsIndex}
+use Rattle.site_solution.specs.inside.Stored.{seen, IsStored}
 use Rattle.site_solution.specs.CanLay.{HasNumbers}
 use Rattle.site_solution.proofs.Queueing.{queues-are, index-same}
 use Rattle.site_solution.proofs.Putting.{told-many, queue-set}

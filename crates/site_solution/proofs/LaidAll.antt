@@ -11,7 +11,7 @@ use Rattle.net_laws.specs.Kept.{AreDisjoint, AreApart, IsKept}
 use Rattle.net_laws.specs.Holding.{put, put_all, new_group, lay, lay_all}
 use Rattle.net_laws.proofs.Holding.{MayWait, put_is, lay_is}
 use Rattle.net_laws.proofs.Interleaved.{lay_put}
-use Rattle.site_solution.specs.Index.{new_groups}
+use Rattle.site_solution.specs.inside.Index.{new_groups}
 
 pub append-one : {X : Type 0} (xs : List X) (y : X) (ys : List X) → (xs ++ y ∷ []) ++ ys ≡ xs ++ y ∷ ys
 append-one [] y ys = refl

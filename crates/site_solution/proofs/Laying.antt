@@ -5,8 +5,8 @@ use Rattle.net_laws.specs.Kept.{AreApart}
 use Rattle.net_laws.specs.Holding.{new_group}
 use Rattle.site_solution.specs.declared.told.NewGroup.{NewGroup}
 use Rattle.site_solution.specs.declared.told.Spots.{Spots}
-use Rattle.site_solution.specs.Index.{Rows, groups_of, told_of, new_groups, HasRoom}
-use Rattle.site_solution.specs.New.{told_of_new, widths}
+use Rattle.site_solution.specs.inside.Index.{Rows, groups_of, told_of, new_groups, HasRoom}
+use Rattle.site_solution.specs.inside.New.{told_of_new, widths}
 use Rattle.site_solution.proofs.Putting.{told-more}
 use Rattle.site_solution.proofs.LaidAll.{append-one, apart-next}
 

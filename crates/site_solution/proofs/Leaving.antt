@@ -14,16 +14,16 @@ use Rattle.net_laws.proofs.Posting.{among_append}
 use Rattle.site_solution.specs.Counted.{over_stuck, is_id, id_of, over_requests}
 use Rattle.site_solution.specs.Commit.{AreNew, MayStand, times_posted, CanLeave}
 use Rattle.site_solution.specs.Answers.{AreFlights}
-use Rattle.site_solution.specs.Split.{waits_in, asked_in, away_from, with_more}
+use Rattle.site_solution.specs.inside.Split.{waits_in, asked_in, away_from, with_more}
 use Rattle.site_solution.specs.declared.more.More.{More}
-use Rattle.site_solution.specs.New.{told_of_new, IsNewGroup}
-use Rattle.site_solution.specs.More.{IsAt, CanAdd, added}
-use Rattle.site_solution.specs.Leave.{IsSorted, IsLeft}
+use Rattle.site_solution.specs.inside.New.{told_of_new, IsNewGroup}
+use Rattle.site_solution.specs.inside.More.{IsAt, CanAdd, added}
+use Rattle.site_solution.specs.inside.Leave.{IsSorted, IsLeft}
 use Rattle.site_solution.specs.declared.commit.Sorted.{Sorted}
 use Rattle.code_run.specs.declared.made.Post.{Post}
 use Rattle.code_run.specs.Posts.{all_posted}
 use Rattle.site_solution.specs.Held.{taken_at}
-use Rattle.site_solution.specs.New.{gone_at}
+use Rattle.site_solution.specs.inside.New.{gone_at}
 use Rattle.site_solution.proofs.Fronts.{taken-is}
 use Rattle.site_solution.proofs.Splitting.{poured-split}
 

@@ -16,8 +16,9 @@ use Rattle.net_laws.specs.Parcels.{groups_but}
 use Rattle.net_laws.proofs.Parcels.{each_group_but, apart_but}
 use Rattle.site_solution.specs.declared.told.Mark.{Mark}
 use Rattle.site_solution.specs.declared.told.Spots.{Spots}
-use Rattle.site_solution.specs.Index.{Rows, groups_of, told_of, key_of, same_key, is_one_of, has_channel, mark_in, Rise, IsIndex}
-use Rattle.site_solution.specs.Forgotten.{has_any, serials_but}
+use Rattle.site_solution.specs.inside.Index.{Rows, groups_of, told_of, key_of, same_key, is_one_of}
+use Rattle.site_solution.specs.inside.Index.{has_channel, mark_in, Rise, IsIndex}
+use Rattle.site_solution.specs.inside.Forgotten.{has_any, serials_but}
 use Rattle.site_solution.proofs.Naming.{one-more}
 use Rattle.site_solution.proofs.Putting.{told-many}
 

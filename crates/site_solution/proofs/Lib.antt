@@ -36,3 +36,5 @@ pub mod Noting
 pub mod Firing
 pub mod Staying
 pub mod Arriving
+pub mod CoveredBelow
+pub mod SamePair

@@ -6,7 +6,8 @@ use Rattle.chem_model.specs.declared.name.Loc.{Loc}
 use Rattle.net_laws.specs.Site.{Told}
 use Rattle.site_solution.specs.declared.told.Spot.{Spot}
 use Rattle.site_solution.specs.declared.told.Mark.{Mark}
-use Rattle.site_solution.specs.Index.{has_channel, locate_from, locate, mark_in, Rise, place_of}
+use Rattle.site_solution.specs.inside.Index.{has_channel, locate_from, locate, mark_in, Rise}
+use Rattle.site_solution.specs.inside.Index.{place_of}
 
 lt-same : (n : ℕ) → nat_lt n n ≡ false
 lt-same n = grind (arith, nat_tests)

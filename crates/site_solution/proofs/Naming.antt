@@ -18,7 +18,8 @@ use Rattle.site_solution.proofs.Marks.{mark-none, mark-push, Rise-push}
 use Rattle.site_solution.proofs.Putting.{told-more}
 use Rattle.site_solution.specs.declared.told.Mark.{Mark}
 use Rattle.site_solution.specs.declared.told.Spots.{Spots}
-use Rattle.site_solution.specs.Index.{same_key, key_of, is_one_of, has_channel, mark_in, Rise, Key, Rows, groups_of, told_of, IsIndex}
+use Rattle.site_solution.specs.inside.Index.{same_key, key_of, is_one_of, has_channel, mark_in}
+use Rattle.site_solution.specs.inside.Index.{Rise, Key, Rows, groups_of, told_of, IsIndex}
 
 pub from_ok : {A E : Type 0} (r : Result A E) (P : Type 0) → IsOk r → OnOk r P → P
 from_ok (Ok a) P ok p = p

@@ -16,10 +16,15 @@ use Rattle.net_laws.specs.Site.{Told, Group, told_in}
 use Rattle.net_laws.specs.Parcels.{groups_but}
 use Rattle.site_solution.specs.declared.covering.Covering.{Covering}
 use Rattle.site_solution.specs.declared.told.Spots.{Spots}
-use Rattle.site_solution.specs.Index.{Rows, groups_of, Rise, place_of, IsIndex}
-use Rattle.site_solution.specs.Forgotten.{serials_but}
-use Rattle.site_solution.specs.New.{gone_in, gone_at}
-use Rattle.site_solution.specs.Covered.{Key, Keys, key_cmp, key_at, has, KeepsAllBut, KeepsOthers, Levels, KeepsLevels, SameLevels, IsNoted, NotedBelow, AreNoted, IsIndexed, AreIndexed, AreIndexedBut, AreIndexedAway, HasSerials, IsCovering, IsCoveringBut, IsCoveringAway}
+use Rattle.site_solution.specs.inside.Index.{Rows, groups_of, Rise, place_of, IsIndex}
+use Rattle.site_solution.specs.inside.Forgotten.{serials_but}
+use Rattle.site_solution.specs.inside.New.{gone_in, gone_at}
+use Rattle.site_solution.specs.inside.Covered.{Key, Keys, key_cmp, key_at, has, KeepsAllBut}
+use Rattle.site_solution.specs.inside.Covered.{KeepsOthers, Levels, KeepsLevels, SameLevels}
+use Rattle.site_solution.specs.inside.Covered.{IsNoted, AreNoted, IsIndexed, AreIndexed}
+use Rattle.site_solution.specs.inside.Covered.{AreIndexedBut, AreIndexedAway, HasSerials}
+use Rattle.site_solution.specs.inside.Covered.{IsCovering, IsCoveringBut, IsCoveringAway}
+use Rattle.site_solution.proofs.CoveredBelow.{NotedBelow}
 use Rattle.site_solution.proofs.Queueing.{group-at, groups-many}
 
 -- ---- keys

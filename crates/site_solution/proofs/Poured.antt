@@ -36,13 +36,13 @@ use Rattle.code_run.specs.RunFacts.{AreBorn, AreNumbered, IsLaid, IsHere, IsOfRu
 use Rattle.site_solution.specs.InCode.{same_pairs, same_counts, is_level_of, is_told_by, is_in_code}
 use Rattle.site_solution.specs.Named.{name_in, names_in, message_in, group_in, ask_in, request_in, all_in, in_tree, in_reach}
 use Rattle.site_solution.specs.Draws.{is_drawn, are_drawn, message_drawn, told_drawn, all_drawn}
-use Rattle.site_solution.specs.Split.{waits_in, asked_in}
+use Rattle.site_solution.specs.inside.Split.{waits_in, asked_in}
 use Rattle.site_solution.specs.Pours.{CanPour, HasPoured, CanEmit, HasEmitted}
 use Rattle.site_solution.specs.InTree.{is_number, has_number, is_in_tree}
 use Rattle.site_solution.specs.Counted.{times}
 use Rattle.site_solution.specs.Held.{taken_at}
-use Rattle.site_solution.specs.New.{gone_at}
-use Rattle.site_solution.specs.Split.{with_more}
+use Rattle.site_solution.specs.inside.New.{gone_at}
+use Rattle.site_solution.specs.inside.Split.{with_more}
 use Rattle.site_solution.proofs.Splitting.{poured-split}
 use Rattle.site_solution.proofs.Leaving.{waits-at, asked-at}
 use Rattle.chem_model.specs.Opening.{root_of}

@@ -7,7 +7,7 @@ use Rattle.wire_packet.specs.declared.packet.Waiting.{Waiting}
 use Rattle.queue_cells.specs.Grouped.{Queued, queue_in, with_queue, with_last, idle_group}
 use Rattle.net_laws.specs.Site.{Told, Group, Site, told_in}
 use Rattle.net_laws.specs.Holding.{in_groups, put_in, put, put_all, empty_queues, new_group}
-use Rattle.site_solution.specs.Index.{Rows, groups_of, told_of, holding}
+use Rattle.site_solution.specs.inside.Index.{Rows, groups_of, told_of, holding}
 
 pub put-queued : (s : Site) (qs new : Rows) (ws : List Waiting) (l : Loc) (m : MessageParts) → in_groups (groups_of qs) m ≡ Some (groups_of new) → put l m (holding s qs ws) ≡ holding s new ws
 put-queued s qs new ws l m is = ap (λ o. put_in o l m (holding s qs ws)) is

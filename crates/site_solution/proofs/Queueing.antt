@@ -27,7 +27,10 @@ use Rattle.site_solution.specs.declared.told.Mark.{Mark}
 use Rattle.site_solution.specs.declared.told.Spots.{Spots}
 use Rattle.site_solution.specs.Held.{queues_of}
 use Rattle.site_solution.proofs.Marks.{located-at, located-none}
-use Rattle.site_solution.specs.Index.{Rows, same_key, key_of, groups_of, told_of, has_channel, locate_from, locate, is_count, on_count, counts_in, with_count, spot_on, spot_of, mark_in, place_of, IsIndex}
+use Rattle.site_solution.specs.inside.Index.{Rows, same_key, key_of, groups_of, told_of}
+use Rattle.site_solution.specs.inside.Index.{has_channel, locate_from, locate, is_count, on_count}
+use Rattle.site_solution.specs.inside.Index.{counts_in, with_count, spot_on, spot_of, mark_in}
+use Rattle.site_solution.specs.inside.Index.{place_of, IsIndex}
 
 -- ---- groups as queue_cells has them
 

@@ -6,7 +6,8 @@ use Rattle.chem_model.specs.declared.event.AtomId.{AtomId}
 use Rattle.chem_model.specs.Apply.{same_atom}
 use Rattle.wire_packet.specs.declared.packet.Request.{Request}
 use Rattle.net_laws.specs.Holding.{precedes, request_with, with_request, without_request}
-use Rattle.site_solution.specs.Rising.{AllAfter, Rising, rank}
+use Rattle.site_solution.specs.Rising.{AllAfter, Rising}
+use Rattle.site_solution.specs.inside.Rising.{rank}
 
 before-trans : (a b c : AtomId) → precedes a b ≡ true → precedes b c ≡ true → precedes a c ≡ true
 before-trans a b c p q = grind (arith, nat_tests)

@@ -38,16 +38,16 @@ use Rattle.net_laws.specs.Meeting.{continuation_made, sent_here}
 use Rattle.site_solution.specs.declared.more.More.{More}
 use Rattle.site_solution.specs.declared.commit.Sorted.{Sorted}
 use Rattle.site_solution.specs.Answers.{AreFlights}
-use Rattle.site_solution.specs.Leave.{IsSorted, IsLeft}
+use Rattle.site_solution.specs.inside.Leave.{IsSorted, IsLeft}
 use Rattle.site_solution.specs.CanLay.{HasNumbers}
 use Rattle.site_solution.specs.Commit.{MayStand, times_posted}
 use Rattle.site_solution.specs.Counted.{over_stuck, is_id, id_of, over_requests, times}
 use Rattle.site_solution.specs.Held.{taken_at}
-use Rattle.site_solution.specs.New.{told_of_new, IsNewGroup}
-use Rattle.site_solution.specs.Split.{waits_in, asked_in, away_from, with_more}
-use Rattle.site_solution.specs.More.{CanAdd, IsAt, added}
+use Rattle.site_solution.specs.inside.New.{told_of_new, IsNewGroup}
+use Rattle.site_solution.specs.inside.Split.{waits_in, asked_in, away_from, with_more}
+use Rattle.site_solution.specs.inside.More.{CanAdd, IsAt, added}
 use Rattle.site_solution.specs.Parcels.{CanTakeIn, CanReceive}
-use Rattle.site_solution.specs.Carried.{IsCarried, IsBeside}
+use Rattle.site_solution.specs.inside.Carried.{IsCarried, IsBeside}
 use Rattle.site_solution.proofs.Fronts.{taken-nothing}
 use Rattle.site_solution.proofs.Packed.{over_stuck-append}
 use Rattle.site_solution.proofs.Splitting.{put_all-locs, lay_all-locs, put_all-ask, poured-split}

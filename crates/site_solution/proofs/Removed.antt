@@ -14,7 +14,7 @@ use Rattle.net_laws.specs.Parcels.{groups_but, stuck_but, requests_but, locs_but
 use Rattle.net_laws.proofs.Parcels.{each_laid_but, removed_kept}
 use Rattle.site_solution.specs.CanLay.{HasNumbers}
 use Rattle.site_solution.specs.Counted.{over_queues, over_groups, over_stuck, over_requests, is_id, id_of, one_each}
-use Rattle.site_solution.specs.Hosted.{locs_of}
+use Rattle.site_solution.specs.inside.Hosted.{locs_of}
 use Rattle.site_solution.specs.Rising.{AllAfter, Rising, AreAsked}
 use Rattle.site_solution.proofs.Adding.{IsWhole}
 

@@ -9,8 +9,8 @@ use Rattle.loc_tree.specs.Tree.{Tree}
 use Rattle.net_laws.specs.Net.{Addressed, among, address}
 use Rattle.net_laws.specs.Posting.{Posted, a_message, a_request}
 use Rattle.site_solution.specs.Answers.{IsFlightOf, AreFlights}
-use Rattle.site_solution.specs.Split.{waits_in, asked_in, away_from}
-use Rattle.site_solution.specs.Leave.{Sorting}
+use Rattle.site_solution.specs.inside.Split.{waits_in, asked_in, away_from}
+use Rattle.site_solution.specs.inside.Leave.{Sorting}
 use Rattle.site_solution.proofs.LaidAll.{append-one}
 
 module _ (t : Tree) (ls : List Loc) (whole : List Posted) where

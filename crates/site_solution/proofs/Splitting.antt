@@ -9,7 +9,7 @@ use Rattle.net_laws.specs.Site.{Told, Group, Site}
 use Rattle.net_laws.specs.Net.{among, address}
 use Rattle.net_laws.specs.Holding.{in_groups, put_in, put, put_all, ask, ask_all, new_group, lay, lay_all, host_all}
 use Rattle.net_laws.specs.Posting.{Posted, a_message, a_request, Outcome, post, post_all, pour_here}
-use Rattle.site_solution.specs.Split.{waits_in, asked_in, away_from, with_more}
+use Rattle.site_solution.specs.inside.Split.{waits_in, asked_in, away_from, with_more}
 
 pub put-locs : (l : Loc) (m : MessageParts) (s : Site) → (put l m s).locs ≡ s.locs
 put-locs l m s = go (in_groups s.groups m)

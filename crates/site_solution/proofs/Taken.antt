@@ -5,8 +5,8 @@ use Rattle.wire_packet.specs.MessageFacts.{MessageParts}
 use Rattle.queue_cells.specs.Grouped.{lists_at, queue_in, with_queue}
 use Rattle.net_laws.specs.Site.{Group}
 use Rattle.site_solution.specs.Held.{queues_in}
-use Rattle.site_solution.specs.Index.{Rows, groups_of}
-use Rattle.site_solution.specs.New.{gone_at}
+use Rattle.site_solution.specs.inside.Index.{Rows, groups_of}
+use Rattle.site_solution.specs.inside.New.{gone_at}
 use Rattle.site_solution.proofs.Queueing.{queues-are}
 use Rattle.site_solution.proofs.Keeping.{front-gone}
 use Rattle.site_solution.proofs.Fronts.{past-front, gone-none, gone-empty, gone-one}

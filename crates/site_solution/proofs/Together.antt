@@ -26,7 +26,10 @@ use Rattle.net_laws.specs.Site.{Told, Group, told_in, Site}
 use Rattle.net_laws.specs.Net.{among}
 use Rattle.net_laws.specs.Kept.{IsKept}
 use Rattle.net_laws.specs.Holding.{in_groups, put_in, put, request_with, without_request, drop_request}
-use Rattle.site_solution.specs.InTree.{name_stands, names_stand, message_stands, queues_stand, group_stands, ask_stands, request_stands, is_number, has_number, is_in_tree}
+use Rattle.site_solution.specs.InTree.{name_stands, message_stands, is_number, has_number}
+use Rattle.site_solution.specs.InTree.{is_in_tree}
+use Rattle.site_solution.specs.inside.InTree.{names_stand, queues_stand, group_stands, ask_stands}
+use Rattle.site_solution.specs.inside.InTree.{request_stands}
 use Rattle.site_solution.specs.InCode.{is_told_by, is_in_code}
 use Rattle.site_solution.specs.Draws.{is_drawn, message_drawn, told_drawn, group_drawn, all_drawn}
 use Rattle.site_solution.proofs.Puts.{put_passes, stuck_passes}

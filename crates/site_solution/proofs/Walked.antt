@@ -7,8 +7,8 @@ use Rattle.wire_packet.specs.MessageFacts.{MessageParts}
 use Rattle.queue_cells.specs.Grouped.{Queued}
 use Rattle.loc_tree.specs.Tree.{Tree}
 use Rattle.net_laws.specs.Site.{Told, Group}
-use Rattle.site_solution.specs.Index.{Rows, groups_of}
-use Rattle.site_solution.specs.InTree.{names_stand, queues_stand, group_stands}
+use Rattle.site_solution.specs.inside.Index.{Rows, groups_of}
+use Rattle.site_solution.specs.inside.InTree.{names_stand, queues_stand, group_stands}
 use Rattle.site_solution.specs.InCode.{same_pairs}
 use Rattle.site_solution.specs.Draws.{told_drawn, queues_drawn, group_drawn}
 use Rattle.site_solution.proofs.Queueing.{group-at}

@@ -5,10 +5,10 @@ ghost use Rattle.wire_packet.specs.declared.packet.Waiting.{Waiting};
 ghost use Rattle.wire_packet.specs.declared.packet.Request.{Request};
 ghost use Rattle.queue_cells.specs.Grouped.{lists_at};
 ghost use Rattle.net_laws.specs.Site.{Group};
-ghost use Rattle.site_solution.specs.Index.{groups_of, told_of};
+ghost use Rattle.site_solution.specs.inside.Index.{groups_of, told_of};
 ghost use Rattle.site_solution.specs.Apart.{share, are_separate, atom_apart};
-ghost use Rattle.site_solution.specs.Parted.{message_apart, told_parted, queues_parted};
-ghost use Rattle.site_solution.specs.Parted.{stuck_parted, request_parted};
+ghost use Rattle.site_solution.specs.inside.Parted.{message_apart, told_parted, queues_parted};
+ghost use Rattle.site_solution.specs.inside.Parted.{stuck_parted, request_parted};
 
 use crate::asked::is_same;
 use crate::site::Site;

@@ -3,7 +3,8 @@ ghost use Rattle.std.specs.Prelude.{◌≡◌, [], length, slice_get, Some, None
 ghost use Rattle.std.specs.Prelude.{◌≤◌, ◌<◌, ◌+◌, ◌^◌, option_copied};
 ghost use Rattle.chem_model.specs.Apply.{same_atom};
 ghost use Rattle.net_laws.specs.Holding.{precedes, request_with, with_request, without_request};
-ghost use Rattle.site_solution.specs.Rising.{rank, with_requests, AreNewIn, AreAsked};
+ghost use Rattle.site_solution.specs.inside.Rising.{rank, with_requests, AreNewIn};
+ghost use Rattle.site_solution.specs.Rising.{AreAsked};
 ghost use Rattle.net_laws.specs.Parcels.{requests_but};
 
 use chem_model::{AtomId, Loc, Memory, same_loc};
@@ -19,7 +20,8 @@ pub(crate) struct Asked {
 
 impl Model for Asked {
     ghost use Rattle.std.specs.Prelude.{◌-◌, vec_len, vec_capacity};
-    ghost use Rattle.site_solution.specs.Rising.{Pending, AreAsked};
+    ghost use Rattle.site_solution.specs.inside.Rising.{Pending};
+    ghost use Rattle.site_solution.specs.Rising.{AreAsked};
 
     ghost Value = { Pending };
 

@@ -2,9 +2,9 @@
 ghost use Rattle.std.specs.Prelude.{◌≡◌, ◌<◌, ◌^◌, ℕ, Some, slice_get, length, IfSome, IfNone};
 ghost use Rattle.env_store.specs.declared.code.Guard.{Guard};
 ghost use Rattle.loc_tree.specs.Tree.{is_alive};
-ghost use Rattle.site_solution.specs.Index.{groups_of, Rise, IsIndex};
-ghost use Rattle.site_solution.specs.Fired.{IsGuardOf, IsFiredBy, NothingFiredBy};
-ghost use Rattle.site_solution.specs.Fired.{NothingFired, IsFirstFired, AreGuardsWide};
+ghost use Rattle.site_solution.specs.inside.Index.{groups_of, Rise, IsIndex};
+ghost use Rattle.site_solution.specs.inside.Fired.{IsGuardOf, IsFiredBy, NothingFiredBy};
+ghost use Rattle.site_solution.specs.inside.Fired.{NothingFired, IsFirstFired, AreGuardsWide};
 
 use crate::covering::Key;
 use crate::finding::place_of;

@@ -9,8 +9,8 @@ ghost use Rattle.code_run.specs.Posts.{posted, all_posted};
 ghost use Rattle.site_solution.specs.Answers.{IsFlightOf, Answers};
 ghost use Rattle.site_solution.specs.Commit.{AreNew, CanLeave};
 ghost use Rattle.site_solution.specs.Held.{taken_at};
-ghost use Rattle.site_solution.specs.New.{told_of_new, IsNewGroup};
-ghost use Rattle.site_solution.specs.Leave.{IsSorted, Sorts, IsLeft};
+ghost use Rattle.site_solution.specs.inside.New.{told_of_new, IsNewGroup};
+ghost use Rattle.site_solution.specs.inside.Leave.{IsSorted, Sorts, IsLeft};
 
 use crate::effects::Effects;
 use crate::more::{More, new_groups};

@@ -5,11 +5,11 @@ ghost use Rattle.queue_cells.specs.Grouped.{lists_at};
 ghost use Rattle.env_store.specs.declared.code.Guard.{Guard};
 ghost use Rattle.chem_model.specs.Solution.{same_loc};
 ghost use Rattle.net_laws.specs.Site.{Group};
-ghost use Rattle.site_solution.specs.Index.{groups_of};
-ghost use Rattle.site_solution.specs.Covered.{IsNoted, AreNoted, KeepsAllBut, KeepsOthers};
-ghost use Rattle.site_solution.specs.Covered.{IsIndexed, IsCovering, IsCoveringBut};
-ghost use Rattle.site_solution.specs.Covered.{IsCoveringAway, KeepsLevels, SameLevels};
-ghost use Rattle.site_solution.specs.Covered.{HasSerials, AreMasksOf, Agrees};
+ghost use Rattle.site_solution.specs.inside.Index.{groups_of};
+ghost use Rattle.site_solution.specs.inside.Covered.{IsNoted, AreNoted, KeepsAllBut, KeepsOthers};
+ghost use Rattle.site_solution.specs.inside.Covered.{IsIndexed, IsCovering, IsCoveringBut};
+ghost use Rattle.site_solution.specs.inside.Covered.{IsCoveringAway, KeepsLevels, SameLevels};
+ghost use Rattle.site_solution.specs.inside.Covered.{HasSerials, AreMasksOf, Agrees};
 
 use crate::told::{NewGroup, Spots, Told};
 use chem_model::{Items, Loc, Memory, RuleId, same_loc};

@@ -9,10 +9,10 @@ ghost use Rattle.chem_model.specs.declared.name.Loc.{Loc};
 ghost use Rattle.net_laws.specs.Site.{Group, Site};
 ghost use Rattle.net_laws.specs.Kept.{AreApart};
 ghost use Rattle.net_laws.specs.Holding.{put_all, new_group};
-ghost use Rattle.site_solution.specs.Covered.{HasSerials, IsCovering};
-ghost use Rattle.site_solution.specs.Index.{key_of, is_one_of, holding};
-ghost use Rattle.site_solution.specs.Index.{groups_of, told_of, same_key, spot_of};
-ghost use Rattle.site_solution.specs.Index.{on_count, Rise, place_of, IsIndex, HasRoom};
+ghost use Rattle.site_solution.specs.inside.Covered.{HasSerials, IsCovering};
+ghost use Rattle.site_solution.specs.inside.Index.{key_of, is_one_of, holding};
+ghost use Rattle.site_solution.specs.inside.Index.{groups_of, told_of, same_key, spot_of};
+ghost use Rattle.site_solution.specs.inside.Index.{on_count, Rise, place_of, IsIndex, HasRoom};
 
 use crate::covering::{Covering, refresh};
 use crate::told::{Mark, Spot, Spots, Told};

@@ -6,10 +6,10 @@ ghost use Rattle.chem_model.specs.Solution.{same_loc};
 ghost use Rattle.chem_model.specs.Each.{Each};
 ghost use Rattle.net_laws.specs.Parcels.{groups_but};
 ghost use Rattle.site_solution.specs.CanLay.{HasNumbers};
-ghost use Rattle.site_solution.specs.Index.{key_of, is_one_of, has_channel, same_key};
-ghost use Rattle.site_solution.specs.Index.{groups_of, told_of, IsIndex};
-ghost use Rattle.site_solution.specs.Covered.{IsCovering};
-ghost use Rattle.site_solution.specs.Forgotten.{has_any, serials_but};
+ghost use Rattle.site_solution.specs.inside.Index.{key_of, is_one_of, has_channel, same_key};
+ghost use Rattle.site_solution.specs.inside.Index.{groups_of, told_of, IsIndex};
+ghost use Rattle.site_solution.specs.inside.Covered.{IsCovering};
+ghost use Rattle.site_solution.specs.inside.Forgotten.{has_any, serials_but};
 
 use crate::covering::{Covering, forget_keys};
 use crate::told::{Spots, Told};

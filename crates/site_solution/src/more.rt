@@ -8,11 +8,11 @@ ghost use Rattle.net_laws.specs.Kept.{AreApart};
 ghost use Rattle.net_laws.specs.ByCode.{told_by};
 ghost use Rattle.net_laws.specs.Parcels.{all_told};
 ghost use Rattle.site_solution.specs.CanLay.{HasNumbers};
-ghost use Rattle.site_solution.specs.Index.{groups_of, told_of, new_groups};
-ghost use Rattle.site_solution.specs.Index.{IsIndex, HasRoom};
-ghost use Rattle.site_solution.specs.Covered.{HasSerials, IsCovering};
-ghost use Rattle.site_solution.specs.New.{told_of_new, widths, IsNewGroup, gone_at};
-ghost use Rattle.site_solution.specs.More.{IsRestacked, lays, HasRoomFor};
+ghost use Rattle.site_solution.specs.inside.Index.{groups_of, told_of, new_groups};
+ghost use Rattle.site_solution.specs.inside.Index.{IsIndex, HasRoom};
+ghost use Rattle.site_solution.specs.inside.Covered.{HasSerials, IsCovering};
+ghost use Rattle.site_solution.specs.inside.New.{told_of_new, widths, IsNewGroup, gone_at};
+ghost use Rattle.site_solution.specs.inside.More.{IsRestacked, lays, HasRoomFor};
 
 use crate::covering::{Covering, refresh};
 use crate::finding::{add_group, reserve_spots};

@@ -6,8 +6,8 @@ ghost use Rattle.queue_cells.specs.Grouped.{lists_at, queue_in};
 ghost use Rattle.net_laws.specs.Site.{told_in};
 ghost use Rattle.net_laws.specs.Parcels.{groups_at, stuck_at, requests_at, insts_in};
 ghost use Rattle.net_laws.specs.Parcels.{in_queue, in_queues, in_all_queues};
-ghost use Rattle.site_solution.specs.Index.{groups_of};
-ghost use Rattle.site_solution.specs.Packed.{HasFewNames};
+ghost use Rattle.site_solution.specs.inside.Index.{groups_of};
+ghost use Rattle.site_solution.specs.inside.Packed.{HasFewNames};
 
 use crate::told::Told;
 use chem_model::{Items, Loc, Memory, same_loc};

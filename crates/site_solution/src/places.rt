@@ -2,7 +2,7 @@
 ghost use Rattle.std.specs.Prelude.{◌≡◌, ◌≤◌, ◌+◌, ◌∷◌, ◌++◌, [], false, length, OnOk, OnErr};
 ghost use Rattle.net_laws.specs.Net.{among};
 ghost use Rattle.net_laws.specs.Parcels.{locs_but};
-ghost use Rattle.site_solution.specs.Hosted.{locs_of};
+ghost use Rattle.site_solution.specs.inside.Hosted.{locs_of};
 ghost use Rattle.site_solution.specs.Commit.{AreNew};
 
 use chem_model::{Loc, Memory};
@@ -18,7 +18,7 @@ pub(crate) struct Places {
 
 impl Model for Places {
     ghost use Rattle.indexmap.specs.IndexSet.{spare};
-    ghost use Rattle.site_solution.specs.Hosted.{Hosted, locs_of};
+    ghost use Rattle.site_solution.specs.inside.Hosted.{Hosted, locs_of};
 
     ghost Value = { Hosted };
 

@@ -27,10 +27,10 @@ ghost use Rattle.site_solution.specs.Held.{taken_at};
 ghost use Rattle.site_solution.specs.Guards.{Tells};
 ghost use Rattle.net_laws.specs.Parcels.{pack, parcel_of, remove, stuck_but};
 ghost use Rattle.site_solution.specs.Apart.{are_separate, is_apart};
-ghost use Rattle.site_solution.specs.Parted.{is_parted};
+ghost use Rattle.site_solution.specs.inside.Parted.{is_parted};
 ghost use Rattle.site_solution.specs.Counted.{times, waiting_in};
 ghost use Rattle.site_solution.specs.Rising.{AreAsked};
-ghost use Rattle.site_solution.specs.More.{CanAdd, added};
+ghost use Rattle.site_solution.specs.inside.More.{CanAdd, added};
 ghost use Rattle.chem_model.specs.Solution.{same_loc};
 ghost use Rattle.env_store.specs.CodeParts.{CodeParts};
 ghost use Rattle.loc_tree.specs.Tree.{Tree};
@@ -85,7 +85,7 @@ impl Model for Site {
 
     ghost Value = { site_of_net };
 
-    ghost use Rattle.site_solution.specs.Stored.{seen, IsStored};
+    ghost use Rattle.site_solution.specs.inside.Stored.{seen, IsStored};
 
     ghost view = { seen };
 

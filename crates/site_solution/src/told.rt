@@ -16,7 +16,7 @@ pub(crate) struct Told {
 
 impl Model for Told {
     ghost use Rattle.net_laws.specs.Site.{Told as told_of_group};
-    ghost use Rattle.site_solution.specs.Told.{told_code};
+    ghost use Rattle.site_solution.specs.inside.Told.{told_code};
 
     ghost Value = { told_of_group };
 

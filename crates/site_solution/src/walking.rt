@@ -6,9 +6,10 @@ ghost use Rattle.wire_packet.specs.declared.packet.Waiting.{Waiting};
 ghost use Rattle.net_laws.specs.Site.{Group};
 ghost use Rattle.queue_cells.specs.Grouped.{lists_at};
 ghost use Rattle.site_solution.specs.Held.{is_id_of, in_queues, in_groups_of};
-ghost use Rattle.site_solution.specs.InTree.{name_stands, names_stand, message_stands};
-ghost use Rattle.site_solution.specs.InTree.{queues_stand, group_stands, request_stands};
-ghost use Rattle.site_solution.specs.Index.{groups_of};
+ghost use Rattle.site_solution.specs.InTree.{name_stands, message_stands};
+ghost use Rattle.site_solution.specs.inside.InTree.{names_stand};
+ghost use Rattle.site_solution.specs.inside.InTree.{queues_stand, group_stands, request_stands};
+ghost use Rattle.site_solution.specs.inside.Index.{groups_of};
 
 use crate::asked::is_same;
 use crate::told::Told;

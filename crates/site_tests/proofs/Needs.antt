@@ -14,7 +14,8 @@ use Rattle.net_laws.specs.Site.{Site}
 use Rattle.net_laws.specs.Net.{among}
 use Rattle.site_solution.specs.Draws.{CanDraw}
 use Rattle.site_solution.specs.InCode.{is_in_code}
-use Rattle.site_solution.specs.InTree.{name_stands, names_stand, is_in_tree}
+use Rattle.site_solution.specs.InTree.{name_stands, is_in_tree}
+use Rattle.site_solution.specs.inside.InTree.{names_stand}
 use Rattle.site_solution.specs.Named.{name_in, names_in, all_in, in_tree, in_reach}
 use Rattle.site_solution.specs.Pours.{CanEmit, CanPour}
 use Rattle.reducer.specs.declared.pick.Pick.{Pick}

@@ -2,7 +2,7 @@ ghost use Rattle.std.specs.Prelude.{◌≡◌, ℕ, ◌++◌, ◌∷◌, [], ◌
 ghost use Rattle.std.specs.Prelude.{length, slice_set, replicate, IfSome, IfNone};
 ghost use Rattle.std.specs.Prelude.{IfOk, OnOk, OnErr, IsTrue};
 ghost use Rattle.status_words.specs.Words.{has_bit, number_of_words, Covers, NoneFrom, IsNext};
-ghost use Rattle.status_words.specs.Stored.{AreWords};
+ghost use Rattle.status_words.specs.inside.Stored.{AreWords};
 
 use chem_model::Memory;
 use std::alloc::Global;
@@ -20,7 +20,7 @@ impl Model for Status {
 
     ghost Value = { List Bool };
 
-    ghost use Rattle.status_words.specs.Stored.{bits_from, AreWords};
+    ghost use Rattle.status_words.specs.inside.Stored.{bits_from, AreWords};
 
     ghost view = { λ s. bits_from s.words.items 0 s.bits };
 

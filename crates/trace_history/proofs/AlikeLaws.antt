@@ -10,8 +10,8 @@ use Rattle.chem_model.specs.Apply.{same_atom, atom_at, without, without_all, rec
 use Rattle.chem_laws.proofs.Bags.{one_self}
 use Rattle.chem_laws.proofs.Taking.{same_atom_is, atom_pair_found, found-without, pairs-without}
 use Rattle.trace_history.proofs.Least.{AtomsDiffer}
-use Rattle.trace_history.specs.Alike.{AreAlike}
-use Rattle.trace_history.specs.Walk.{or_else}
+use Rattle.trace_history.specs.inside.Alike.{AreAlike}
+use Rattle.trace_history.specs.inside.Walk.{or_else}
 
 -- ---- one behind the other
 

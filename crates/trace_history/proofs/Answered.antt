@@ -15,7 +15,9 @@ use Rattle.chem_laws.proofs.Places.{live_parts, root_is}
 use Rattle.chem_laws.proofs.Taking.{atom_found}
 use Rattle.trace_history.specs.declared.book.Found.{Found}
 use Rattle.trace_history.specs.First.{IsFirst}
-use Rattle.trace_history.specs.Search.{IsFirstOf, is_met, is_ready, turn, rule_before, can_act, request_before, IsReaction, IsMeeting, IsFound}
+use Rattle.trace_history.specs.inside.Search.{IsFirstOf, is_met, is_ready, turn, rule_before}
+use Rattle.trace_history.specs.inside.Search.{can_act, request_before, IsReaction, IsMeeting}
+use Rattle.trace_history.specs.inside.Search.{IsFound}
 use Rattle.trace_history.proofs.Least.{member_found}
 use Rattle.chem_model.specs.Apply.{apply}
 use Rattle.trace_history.proofs.Founds.{has_event, atoms_differ, react_first, request_first, rule_possible, request_possible}

@@ -19,7 +19,8 @@ use Rattle.chem_model.specs.Reduction.{continuation}
 use Rattle.chem_model.specs.Pour.{pour, pour_at}
 use Rattle.chem_model.specs.Apply.{rule_at, atom_at, without, without_all, received_all, react_received, react_rule, with_hosts, with_marks, can_go, can_detect, at_location, move_to, move_atom, halt_atom, detect_of, detect_atom, with_atom, apply}
 use Rattle.trace_history.proofs.Least.{AtomsDiffer}
-use Rattle.trace_history.specs.Alike.{AreAlike, IsAlike, AreAlikeIf}
+use Rattle.trace_history.specs.inside.Alike.{AreAlike}
+use Rattle.trace_history.proofs.Alike.{IsAlike, AreAlikeIf}
 use Rattle.trace_history.proofs.AlikeLaws.{alike-append, alike-without, alike-without_all, received_alike}
 
 -- what is poured behind lists that are alike

@@ -17,7 +17,7 @@ use Rattle.chem_model.specs.Solution.{live, root}
 use Rattle.chem_model.specs.Numbered.{standing}
 use Rattle.chem_model.specs.Pour.{pour, pour_at}
 use Rattle.chem_model.specs.Apply.{rule_at, atom_at, received_all, react_received, react_rule, without, without_all, with_hosts, with_marks, can_go, can_detect, move_atom, halt_atom, detect_atom, with_atom, apply}
-use Rattle.trace_history.specs.Waiting.{AreFiled}
+use Rattle.trace_history.specs.inside.Waiting.{AreFiled}
 use Rattle.trace_history.proofs.Filed.{filed_on}
 use Rattle.trace_history.proofs.Replays.{same_some}
 

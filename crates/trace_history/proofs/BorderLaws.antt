@@ -15,9 +15,10 @@ use Rattle.chem_laws.proofs.Bags.{one_is}
 use Rattle.chem_laws.proofs.Lists.{above, zero_or_above, Each-weaker}
 use Rattle.chem_laws.proofs.Taking.{atom_found, atom_pair_found, same_atom_refl}
 use Rattle.trace_history.specs.First.{site_of, site_of_atom, IsFirst}
-use Rattle.trace_history.specs.Search.{IsIn}
+use Rattle.trace_history.specs.inside.Search.{IsIn}
 use Rattle.trace_history.proofs.Least.{AtomsDiffer, member_found}
-use Rattle.trace_history.specs.Alike.{AreAlike, AreAlikeIf}
+use Rattle.trace_history.specs.inside.Alike.{AreAlike}
+use Rattle.trace_history.proofs.Alike.{AreAlikeIf}
 use Rattle.trace_history.proofs.ApplyAlike.{apply_alike}
 
 pub alike-trans : (xs ys zs : List NumberedAtom) → AreAlike xs ys → AreAlike ys zs → AreAlike xs zs

@@ -11,8 +11,8 @@ use Rattle.chem_model.specs.NewNames.{Pair, coded_pair}
 use Rattle.chem_model.specs.Numbered.{atom_pairs}
 use Rattle.chem_laws.proofs.Bags.{one_is}
 use Rattle.chem_laws.proofs.Lists.{zero_or_above, cond_most}
-use Rattle.chem_commit.specs.Differ.{AtomsDiffer}
-use Rattle.trace_history.specs.Table.{AreKeyed}
+use Rattle.chem_commit.specs.inside.Differ.{AtomsDiffer}
+use Rattle.trace_history.specs.inside.Table.{AreKeyed}
 use Rattle.trace_history.proofs.TableLaws.{pair_cmp}
 
 not_itself : (k : ℕ × ℕ) → pair_cmp k k ≡ Less → ⊥

@@ -11,9 +11,9 @@ use Rattle.chem_model.specs.declared.name.Ref.{Ref}
 use Rattle.chem_model.specs.declared.name.Ref.TheVariants.{Binder, Known}
 use Rattle.chem_model.specs.declared.name.Pat.{Pat}
 use Rattle.chem_model.specs.declared.numbered.NumberedRule.{NumberedRule}
-use Rattle.trace_history.specs.Heard.{slot_of}
-use Rattle.trace_history.specs.Search.{IsIn}
-use Rattle.trace_history.specs.Waiting.{IsAt, Reaches, WaitsAt, IsSlotOf, AreFiled, Chains}
+use Rattle.trace_history.specs.inside.Heard.{slot_of}
+use Rattle.trace_history.specs.inside.Search.{IsIn}
+use Rattle.trace_history.specs.inside.Waiting.{IsAt, Reaches, WaitsAt, IsSlotOf, AreFiled, Chains}
 
 -- ---- members
 

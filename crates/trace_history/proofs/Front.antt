@@ -20,8 +20,8 @@ use Rattle.chem_model.specs.Numbered.{standing}
 use Rattle.chem_model.specs.Reduction.{continuation}
 use Rattle.chem_model.specs.Pour.{pour, pour_at}
 use Rattle.chem_model.specs.Apply.{same_atom, rule_at, atom_at, without, without_all, received_at, both_received, received_all, react_received, react_rule, with_hosts, with_marks, can_go, can_detect, at_location, move_to, move_atom, halt_atom, detect_of, detect_atom, with_atom, apply}
-use Rattle.trace_history.specs.Walk.{or_else}
-use Rattle.trace_history.specs.Older.{whole, takes}
+use Rattle.trace_history.specs.inside.Walk.{or_else}
+use Rattle.trace_history.specs.inside.Older.{whole, takes}
 use Rattle.trace_history.proofs.AlikeLaws.{atom_at-append}
 
 abbrev pub front : List NumberedAtom → Option Numbered → Option Numbered

@@ -17,11 +17,12 @@ use Rattle.chem_model.specs.Pour.{known}
 use Rattle.chem_model.specs.Apply.{same_ref, received}
 use Rattle.chem_laws.proofs.Lists.{either_true, true_both}
 use Rattle.chem_laws.proofs.Taking.{same_ref_is}
-use Rattle.trace_history.specs.Search.{receives, is_met, is_ready}
+use Rattle.trace_history.specs.inside.Search.{receives, is_met, is_ready}
 use Rattle.chem_model.specs.declared.name.Name.TheVariants as name
 use Rattle.chem_model.specs.declared.name.Ref.TheVariants.{Binder, Known}
-use Rattle.trace_history.specs.Older.{Key, channel_of, AreQueued, AreHeard}
-use Rattle.trace_history.specs.Heard.{slot_of, is_heard, Grows, is_told, are_told, may_be_met}
+use Rattle.trace_history.specs.inside.Older.{Key, channel_of, AreQueued, AreHeard}
+use Rattle.trace_history.specs.inside.Heard.{slot_of, is_heard, Grows, is_told, are_told}
+use Rattle.trace_history.specs.inside.Heard.{may_be_met}
 
 -- ---- one channel more is noted
 

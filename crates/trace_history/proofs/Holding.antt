@@ -11,9 +11,9 @@ use Rattle.chem_model.specs.Apply.{apply, apply_if, atom_at}
 use Rattle.chem_laws.proofs.Lists.{Each-weaker}
 use Rattle.trace_history.specs.declared.book.Found.{Found}
 use Rattle.trace_history.specs.First.{IsFirst}
-use Rattle.trace_history.specs.Search.{IsFound}
-use Rattle.trace_history.specs.Alike.{AreAlikeIf}
-use Rattle.trace_history.specs.Older.{whole, Keeps, Holds, takes}
+use Rattle.trace_history.specs.inside.Search.{IsFound}
+use Rattle.trace_history.proofs.Alike.{AreAlikeIf}
+use Rattle.trace_history.specs.inside.Older.{whole, Keeps, Holds, takes}
 use Rattle.trace_history.specs.Kept.{Kept, solution, is_enabled}
 use Rattle.trace_history.specs.declared.book.Commit.TheVariants.{Place, NotEnabled}
 use Rattle.trace_history.specs.Book.{Finds, Commits}

@@ -25,3 +25,4 @@ pub mod Front
 pub mod Joined
 pub mod Holding
 pub mod Sending
+pub mod Alike

@@ -19,10 +19,13 @@ use Rattle.chem_model.specs.Pour.{known}
 use Rattle.chem_model.specs.Apply.{same_ref, received}
 use Rattle.chem_laws.proofs.Lists.{either_true}
 use Rattle.chem_laws.proofs.Taking.{same_ref_is}
-use Rattle.trace_history.specs.Heard.{slot_of}
-use Rattle.trace_history.specs.Search.{IsIn, IsFirstOf, beats, receives, is_met, is_ready, rule_before}
-use Rattle.trace_history.specs.Waiting.{IsAt, Reaches, WaitsAt, AreFiled, Beaten, IsOne, Betters, IsLookedAt, IsSlotLookedAt, LooksAtNewest, slot_of_term}
-use Rattle.trace_history.specs.Older.{Key, channel_of, AreQueued}
+use Rattle.trace_history.specs.inside.Heard.{slot_of}
+use Rattle.trace_history.specs.inside.Search.{IsIn, IsFirstOf, beats, receives, is_met, is_ready}
+use Rattle.trace_history.specs.inside.Search.{rule_before}
+use Rattle.trace_history.specs.inside.Waiting.{IsAt, Reaches, WaitsAt, AreFiled, Beaten, IsOne}
+use Rattle.trace_history.specs.inside.Waiting.{Betters, IsLookedAt, IsSlotLookedAt, LooksAtNewest}
+use Rattle.trace_history.specs.inside.Waiting.{slot_of_term}
+use Rattle.trace_history.specs.inside.Older.{Key, channel_of, AreQueued}
 use Rattle.chem_model.specs.declared.name.Name.TheVariants as name
 use Rattle.chem_model.specs.declared.name.Ref.TheVariants.{Binder, Known}
 use Rattle.trace_history.proofs.FirstOf.{IsOrder}

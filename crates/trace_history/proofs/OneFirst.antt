@@ -17,7 +17,7 @@ use Rattle.chem_model.specs.Sound.{IsSound, IsAtom}
 use Rattle.chem_laws.proofs.Places.{live_parts, root_is}
 use Rattle.chem_laws.proofs.Taking.{atom_found}
 use Rattle.trace_history.specs.First.{turns, atom_less, rule_less, atoms_less, request_of, event_less, site_of, IsFirst}
-use Rattle.trace_history.specs.Search.{event_of}
+use Rattle.trace_history.specs.inside.Search.{event_of}
 use Rattle.trace_history.proofs.Replays.{same_some}
 use Rattle.trace_history.proofs.Order.{less_same}
 use Rattle.trace_history.proofs.Founds.{reacting, requesting, less_by_request, Kind, reaction, request, kind, rule_ids, rule_site, request_site}

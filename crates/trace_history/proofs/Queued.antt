@@ -20,9 +20,10 @@ use Rattle.chem_model.specs.Pour.{known}
 use Rattle.chem_model.specs.Apply.{same_atom, same_ref, received, atom_at}
 use Rattle.chem_laws.proofs.Taking.{same_ref_is}
 use Rattle.trace_history.specs.First.{less}
-use Rattle.trace_history.specs.Search.{IsIn, IsFirstOf, receives, atom_before}
-use Rattle.trace_history.specs.Walk.{walk}
-use Rattle.trace_history.specs.Older.{Key, number_of, channel_of, AreQueued, passing, find_at}
+use Rattle.trace_history.specs.inside.Search.{IsIn, IsFirstOf, receives, atom_before}
+use Rattle.trace_history.specs.inside.Walk.{walk}
+use Rattle.trace_history.specs.inside.Older.{Key, number_of, channel_of, AreQueued, passing}
+use Rattle.trace_history.specs.inside.Older.{find_at}
 use Rattle.trace_history.proofs.Order.{less_asym, not_less}
 use Rattle.trace_history.proofs.Least.{AtomsDiffer, atom_has, member_found}
 use Rattle.trace_history.proofs.Hearing.{some_here, when_some}

@@ -11,7 +11,7 @@ use Rattle.chem_model.specs.Laws.{EventIsAReduction, IsReduction, StuckIsQuiet}
 use Rattle.trace_history.specs.declared.book.Found.{Found}
 use Rattle.trace_history.specs.Kept.{Kept, solution, is_enabled}
 use Rattle.trace_history.specs.Book.{IsStuck, IsQuiet}
-use Rattle.trace_history.specs.Search.{IsFound}
+use Rattle.trace_history.specs.inside.Search.{IsFound}
 use Rattle.trace_history.proofs.Replays.{same_some, replay_sites}
 
 none_of : (o : Option Numbered) → is_some o ≡ false → o ≡ None

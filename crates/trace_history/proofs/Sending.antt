@@ -6,7 +6,9 @@ use Rattle.chem_model.specs.contracts.items.Items as items
 use Rattle.chem_model.specs.contracts.program.Program as program
 use Rattle.trace_history.specs.contracts.book.Book as book
 use Rattle.trace_history.specs.declared.book.Book as declared
-use Rattle.trace_history.specs.Crosses.{ProgramCrosses, JournalCrosses, NumberedCrosses, OlderCrosses, GuessesCross, WaitingCrosses, BookCrosses}
+use Rattle.trace_history.specs.inside.Crosses.{ProgramCrosses, JournalCrosses, NumberedCrosses}
+use Rattle.trace_history.specs.inside.Crosses.{OlderCrosses, GuessesCross, WaitingCrosses}
+use Rattle.trace_history.specs.Crosses.{BookCrosses}
 
 pub book_send : ProgramCrosses → JournalCrosses → NumberedCrosses → OlderCrosses → GuessesCross → WaitingCrosses → BookCrosses
 book_send p j n o g w =

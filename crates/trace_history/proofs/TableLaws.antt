@@ -13,7 +13,7 @@ use Rattle.chem_model.specs.NewNames.{coded_pair}
 use Rattle.chem_model.specs.Numbered.{atom_pairs}
 use Rattle.chem_model.specs.Apply.{same_atom, atom_at, without}
 use Rattle.chem_laws.proofs.Taking.{same_atom_is}
-use Rattle.trace_history.specs.Table.{IsKeyed, AreKeyed}
+use Rattle.trace_history.specs.inside.Table.{IsKeyed, AreKeyed}
 
 abbrev pub pair_cmp : ℕ × ℕ → ℕ × ℕ → Ordering
 pair_cmp x y = ordering_then (nat_cmp x.0 y.0) (nat_cmp x.1 y.1)

@@ -1,8 +1,8 @@
 -- A walk along keys in order finds the first of the members that pass, whatever else stands among the keys.
 use Rattle.std.proofs.Common.{◌≡◌, List, [], ◌∷◌, Option, Some, None, Bool, true, false, refl, ap, sym, ◌∙◌, subst, ◌⊎◌, inl, inr}
 use Rattle.chem_model.specs.Each.{Each}
-use Rattle.trace_history.specs.Search.{IsIn, IsFirstOf}
-use Rattle.trace_history.specs.Walk.{or_else, walk}
+use Rattle.trace_history.specs.inside.Search.{IsIn, IsFirstOf}
+use Rattle.trace_history.specs.inside.Walk.{or_else, walk}
 
 -- no later key comes before an earlier one
 abbrev pub InOrder : {K : Type 0} → (K → K → Bool) → List K → Type 0

@@ -1,35 +1,6 @@
--- What of a book may go to another thread.
+-- That a book may go to another thread.
 use denote.Param.Send.{IsSend}
-use Rattle.chem_commit.specs.contracts.guesses.Guesses as guesses
-use Rattle.chem_model.specs.contracts.event.Event as event
-use Rattle.chem_model.specs.contracts.items.Items as items
-use Rattle.chem_model.specs.contracts.numbered.Numbered as numbered
-use Rattle.chem_model.specs.contracts.program.Program as program
 use Rattle.trace_history.specs.contracts.book.Book as book
-use Rattle.trace_history.specs.contracts.older.Older as older
-use Rattle.trace_history.specs.contracts.table.AtomTable as table
-use Rattle.trace_history.specs.contracts.waiting.Waiting as waiting
-
-abbrev pub TableCrosses : Type 0
-TableCrosses = IsSend table.the_row
-
-abbrev pub OlderCrosses : Type 0
-OlderCrosses = IsSend older.the_row
-
-abbrev pub GuessesCross : Type 0
-GuessesCross = IsSend guesses.the_row
-
-abbrev pub WaitingCrosses : Type 0
-WaitingCrosses = IsSend waiting.the_row
-
-abbrev pub ProgramCrosses : Type 0
-ProgramCrosses = IsSend program.the_row
-
-abbrev pub JournalCrosses : Type 0
-JournalCrosses = IsSend (items.the_row event.the_row)
-
-abbrev pub NumberedCrosses : Type 0
-NumberedCrosses = IsSend numbered.the_row
 
 abbrev pub BookCrosses : Type 0
 BookCrosses = IsSend book.the_row

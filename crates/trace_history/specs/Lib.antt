@@ -1,11 +1,5 @@
 pub mod Kept
 pub mod First
 pub mod Book
-pub mod Search
-pub mod Heard
-pub mod Waiting
-pub mod Table
-pub mod Walk
-pub mod Alike
-pub mod Older
 pub mod Crosses
+pub mod inside

@@ -81,8 +81,8 @@ impl Model for Book {
 
     ghost view = { λ b. record { program = b.program; journal = b.journal } };
 
-    ghost use Rattle.trace_history.specs.Waiting.{AreFiled};
-    ghost use Rattle.trace_history.specs.Older.{Holds, AreQueued};
+    ghost use Rattle.trace_history.specs.inside.Waiting.{AreFiled};
+    ghost use Rattle.trace_history.specs.inside.Older.{Holds, AreQueued};
 
     ghost invariant = { λ b. Holds (replay b.program b.journal) b.older.table b.solution
         × AreFiled b.waiting.heads.items b.waiting.links.items b.solution.rules

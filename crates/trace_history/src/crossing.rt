@@ -1,8 +1,10 @@
 // A book may go to another thread. Nothing here does anything.
 ghost use denote.Param.Send.{IsSend};
-ghost use Rattle.trace_history.specs.Crosses.{TableCrosses, OlderCrosses, GuessesCross};
-ghost use Rattle.trace_history.specs.Crosses.{WaitingCrosses, BookCrosses};
-ghost use Rattle.trace_history.specs.Crosses.{ProgramCrosses, JournalCrosses, NumberedCrosses};
+ghost use Rattle.trace_history.specs.inside.Crosses.{TableCrosses, OlderCrosses, GuessesCross};
+ghost use Rattle.trace_history.specs.inside.Crosses.{WaitingCrosses};
+ghost use Rattle.trace_history.specs.Crosses.{BookCrosses};
+ghost use Rattle.trace_history.specs.inside.Crosses.{ProgramCrosses, JournalCrosses};
+ghost use Rattle.trace_history.specs.inside.Crosses.{NumberedCrosses};
 
 use crate::older::Older;
 use crate::table::AtomTable;

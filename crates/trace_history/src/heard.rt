@@ -1,9 +1,9 @@
 // A table of the channels that may have a message. By it most rules are known not to be ready
 // without a walk over the messages.
 ghost use Rattle.std.specs.Prelude.{◌≡◌, ℕ, ◌<◌, ◌%◌, get_or, true};
-ghost use Rattle.trace_history.specs.Heard.{slot_of, is_heard, Grows, is_told, are_told};
-ghost use Rattle.trace_history.specs.Heard.{may_be_met};
-ghost use Rattle.trace_history.specs.Older.{AreHeard};
+ghost use Rattle.trace_history.specs.inside.Heard.{slot_of, is_heard, Grows, is_told, are_told};
+ghost use Rattle.trace_history.specs.inside.Heard.{may_be_met};
+ghost use Rattle.trace_history.specs.inside.Older.{AreHeard};
 
 use chem_model::{Name, NumberedAtoms, Pats, Proc, ProcNode, Ref};
 use std::collections::BTreeSet;

@@ -1,7 +1,7 @@
 // Keys of messages, in order.
 ghost use Rattle.std.specs.Prelude.{◌≡◌, ◌⊎◌, OnOk, OnErr};
-ghost use Rattle.trace_history.specs.Search.{IsIn};
-ghost use Rattle.trace_history.specs.Older.{Key, KeepsKeys};
+ghost use Rattle.trace_history.specs.inside.Search.{IsIn};
+ghost use Rattle.trace_history.specs.inside.Older.{Key, KeepsKeys};
 
 use chem_model::Memory;
 use std::collections::BTreeSet;

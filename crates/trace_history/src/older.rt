@@ -5,11 +5,11 @@ ghost use Rattle.std.specs.Option.{option_copied};
 ghost use Rattle.chem_model.specs.declared.event.AtomId.{AtomId as Id};
 ghost use Rattle.chem_model.specs.Apply.{atom_at};
 ghost use Rattle.chem_model.specs.Each.{Each};
-ghost use Rattle.chem_commit.specs.Differ.{AtomsDiffer};
-ghost use Rattle.trace_history.specs.Search.{IsFirstOf, receives, atom_before};
-ghost use Rattle.trace_history.specs.Walk.{walk};
-ghost use Rattle.trace_history.specs.Older.{number_of, channel_of, AreQueued, Keeps};
-ghost use Rattle.trace_history.specs.Older.{find_at, takes};
+ghost use Rattle.chem_commit.specs.inside.Differ.{AtomsDiffer};
+ghost use Rattle.trace_history.specs.inside.Search.{IsFirstOf, receives, atom_before};
+ghost use Rattle.trace_history.specs.inside.Walk.{walk};
+ghost use Rattle.trace_history.specs.inside.Older.{number_of, channel_of, AreQueued, Keeps};
+ghost use Rattle.trace_history.specs.inside.Older.{find_at, takes};
 
 use crate::keys::{add_key, drop_key};
 use crate::table::AtomTable;

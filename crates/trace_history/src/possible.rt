@@ -2,7 +2,7 @@
 ghost use Rattle.std.specs.Prelude.{◌≡◌, ◌++◌, is_some};
 ghost use Rattle.std.specs.Option.{option_copied};
 ghost use Rattle.chem_model.specs.Apply.{atom_at, received_all, apply};
-ghost use Rattle.trace_history.specs.Older.{whole};
+ghost use Rattle.trace_history.specs.inside.Older.{whole};
 
 use crate::older::Older;
 use chem_model::{AtomId, Atoms, Event, Loc, Numbered, NumberedAtom, Pats};

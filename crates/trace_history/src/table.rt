@@ -3,8 +3,8 @@
 ghost use Rattle.std.specs.Prelude.{◌≡◌, [], None, OnOk, OnErr};
 ghost use Rattle.std.specs.Option.{option_copied};
 ghost use Rattle.chem_model.specs.Apply.{atom_at, without};
-ghost use Rattle.chem_commit.specs.Differ.{AtomsDiffer};
-ghost use Rattle.trace_history.specs.Table.{Adds};
+ghost use Rattle.chem_commit.specs.inside.Differ.{AtomsDiffer};
+ghost use Rattle.trace_history.specs.inside.Table.{Adds};
 
 use chem_model::{AtomId, Memory, NumberedAtom};
 use std::alloc::Global;
@@ -23,7 +23,7 @@ impl Model for AtomTable {
     ghost use Rattle.chem_model.specs.declared.numbered.NumberedAtom.{NumberedAtom};
     ghost use Rattle.chem_model.specs.contracts.numbered.NumberedAtom as atom;
     ghost use Rattle.std.specs.BTreeMap.{values};
-    ghost use Rattle.trace_history.specs.Table.{AreKeyed};
+    ghost use Rattle.trace_history.specs.inside.Table.{AreKeyed};
 
     ghost Value = { List NumberedAtom };
 

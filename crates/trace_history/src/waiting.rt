@@ -1,7 +1,7 @@
 // Which rules wait for a message, by the channel of one of their patterns.
 ghost use Rattle.std.specs.Prelude.{◌≡◌, ◌<◌, ◌%◌, ◌⊎◌, length, true, Some, IfSome, IfOk};
-ghost use Rattle.trace_history.specs.Heard.{slot_of};
-ghost use Rattle.trace_history.specs.Waiting.{AreFiled, Chains, IsSlotOf, slot_of_term};
+ghost use Rattle.trace_history.specs.inside.Heard.{slot_of};
+ghost use Rattle.trace_history.specs.inside.Waiting.{AreFiled, Chains, IsSlotOf, slot_of_term};
 
 use crate::heard::slot_of;
 use chem_model::{Memory, Name, Numbered, Pat, Pats, Proc, ProcNode, Ref};

@@ -8,7 +8,8 @@ use Rattle.std.proofs.lemmas.Fmt.{digits_decimal, digits_value-decimal, decimal-
 use Rattle.std.proofs.lemmas.List.{take_at, drop_at, take-append-drop, length-append, length-take}
 use Rattle.std.proofs.lemmas.Str.Parse.{IsNumeralModel, IsDigitsTest, numerals_by_fold}
 use Rattle.trace_text.specs.Fields.{Field, word, number, counted, ValueOf, is_digit, NoDigit, IsWord, IsNumber, IsField, IsNoField}
-use Rattle.trace_text.specs.Reading.{behind, first_word, word_at, value_of, is_numeral, front}
+use Rattle.trace_text.specs.inside.Reading.{behind, first_word, word_at, value_of, is_numeral}
+use Rattle.trace_text.specs.inside.Reading.{front}
 
 -- ---- words
 

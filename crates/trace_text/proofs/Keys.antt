@@ -16,7 +16,7 @@ use Rattle.chem_model.specs.Solution.{same_loc}
 use Rattle.chem_model.specs.Numbered.{same_name, binder_in}
 use Rattle.chem_laws.proofs.Taking.{same_name_is, same_name_refl}
 use Rattle.trace_text.specs.TraceText.{is_in, place_in}
-use Rattle.trace_text.specs.Tables.{Key, key_of, AreKeyed}
+use Rattle.trace_text.specs.inside.Tables.{Key, key_of, AreKeyed}
 
 -- ---- keys
 

@@ -6,7 +6,7 @@ use Rattle.chem_model.specs.declared.event.Out.{Out}
 use Rattle.chem_model.specs.ProgramFacts.{ProgramTerms}
 use Rattle.chem_model.specs.Fill.{Naming}
 use Rattle.trace_text.specs.TraceText.{is_ranked, is_in, ranked_after, arguments, name_text, names_text}
-use Rattle.trace_text.specs.Later.{later_text}
+use Rattle.trace_text.specs.inside.Later.{later_text}
 
 names_first : (p : ProgramTerms) (named : Naming) (ranks : List Name) (x : Name) (xs : List Name) → names_text p named ranks (x ∷ xs) ≡ name_text p named ranks x ++ later_text p named ranks xs
 names_first p named ranks x [] = sym (append-nil (name_text p named ranks x))

@@ -2,7 +2,7 @@
 use Rattle.std.proofs.Common.{◌≡◌, ℕ, ◌+◌, ◌-◌, ◌≤◌, List, [], ◌∷◌, length, Result, Ok, Err, refl, sym, subst, ◌∙◌, arith, inl, inr}
 use Rattle.std.specs.Prelude.{◌⊎◌}
 use Rattle.trace_text.specs.Fields.{Field, ValueOf, IsField, Format, whole, field, SpellsBy, WrongBy}
-use Rattle.trace_text.specs.Reading.{read}
+use Rattle.trace_text.specs.inside.Reading.{read}
 use Rattle.trace_text.proofs.Fronts.{stands, stands_or_not, stands_not, fails, shorter}
 
 -- what the answer says of the bytes

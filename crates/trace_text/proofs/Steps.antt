@@ -7,7 +7,7 @@ use Rattle.trace_text.specs.declared.fault.Fault.{Fault}
 use Rattle.trace_text.specs.declared.fault.Fault.TheVariants as fault
 use Rattle.trace_text.specs.Fields.{Format, word}
 use Rattle.trace_text.specs.LogFields.{literal, pair, further, taken, by_mark, event_line, lines}
-use Rattle.trace_text.specs.Reading.{◌>>=◌, behind, first_word, front, read, FailsAs}
+use Rattle.trace_text.specs.inside.Reading.{◌>>=◌, behind, first_word, front, read, FailsAs}
 
 abbrev later_word : ℕ × List ℕ → Result (ℕ × List ℕ) ℕ
 later_word x = Ok (suc x.0, x.1)

@@ -18,7 +18,7 @@ use Rattle.chem_model.specs.Opening.{opening}
 use Rattle.chem_model.specs.Apply.{same_rule, rule_at, received_all, react_received, react_rule, apply, replay_from, replay}
 use Rattle.chem_model.specs.Sound.{IsRule, IsSound}
 use Rattle.chem_model.specs.Laws.{OpeningIsAStart, EventIsAReduction}
-use Rattle.trace_text.specs.Bounds.{TakesSome}
+use Rattle.trace_text.specs.inside.Bounds.{TakesSome}
 
 -- each pattern receives from an atom
 received_some : (atoms : List NumberedAtom) (l : Loc) (pats : List Pat) (took : List AtomId) (m : Naming) → 0 < length pats → received_all atoms l pats took ≡ Some m → 0 < length took

@@ -8,7 +8,7 @@ use Rattle.chem_model.specs.Fill.{Naming}
 use Rattle.chem_model.specs.Numbered.{binder_in}
 use Rattle.trace_text.specs.declared.text.Ending.{Ending}
 use Rattle.trace_text.specs.TraceText.{binder_spelling, seen_spelling, is_inner, is_ranked, is_in, place_in, ranked_after, ranked, arguments, made_text, name_text, names_text, out_text, outs_text, ending_text, trace_text}
-use Rattle.trace_text.specs.Tables.{TellTheSame}
+use Rattle.trace_text.specs.inside.Tables.{TellTheSame}
 
 module _ (p : ProgramTerms) (a b : Naming) (h : TellTheSame a b) where
   ranked_alike : (x : Name) → is_ranked p a x ≡ is_ranked p b x

@@ -8,7 +8,7 @@ use Rattle.trace_text.specs.LogText.{LogParts, Spells}
 use Rattle.trace_text.specs.Fields.{SpellsBy}
 use Rattle.trace_text.specs.LogFields.{log_fields, WrongAt, HasOneOutcome}
 use Rattle.trace_text.specs.ReadLog.{parts, IsOrMemory}
-use Rattle.trace_text.specs.Reading.{read}
+use Rattle.trace_text.specs.inside.Reading.{read}
 use Rattle.trace_text.proofs.Outcome.{means, outcome, is_spelt, is_wrong, never_both, one_value, one_place}
 use Rattle.trace_text.proofs.FromFields.{log_spelt}
 use Rattle.trace_text.proofs.ToFields.{log_spells}

@@ -1,5 +1,4 @@
--- What private contracts of this crate say of the events of a log.
-use Rattle.std.specs.Prelude.{◌<◌, length}
+-- What holds of the events of a log.
 use Rattle.chem_model.specs.declared.event.Event.{Event}
 use Rattle.chem_model.specs.declared.event.Event.TheVariants.{React, Move, Halt, Detect}
 use Rattle.chem_model.specs.Each.{Each}
@@ -11,10 +10,3 @@ IsBounded (React r took) = IsPair r.site r.k × Each IsAtom took
 IsBounded (Move a) = IsAtom a
 IsBounded (Halt a) = IsAtom a
 IsBounded (Detect a) = IsAtom a
-
--- a reaction takes an atom
-abbrev pub TakesSome : Event → Type 0
-TakesSome (React r took) = 0 < length took
-TakesSome (Move a) = Unit {0}
-TakesSome (Halt a) = Unit {0}
-TakesSome (Detect a) = Unit {0}

@@ -2,9 +2,7 @@ pub mod TraceText
 pub mod LogText
 pub mod Fields
 pub mod LogFields
-pub mod Later
-pub mod Tables
 pub mod Bounds
 pub mod Printed
-pub mod Reading
 pub mod ReadLog
+pub mod inside

@@ -3,8 +3,6 @@ use Rattle.std.specs.Prelude.{◌≡◌, ℕ, List, Result, Err, ◌⊎◌}
 use Rattle.trace_text.specs.declared.fault.LogEnd.{LogEnd}
 use Rattle.trace_text.specs.declared.fault.LogEnd.TheVariants as end
 use Rattle.trace_text.specs.declared.read.Log.{Log}
-use Rattle.trace_text.specs.declared.read.Word.{Word}
-use Rattle.trace_text.specs.declared.read.Word.TheVariants as word
 use Rattle.trace_text.specs.LogText.{LogParts}
 use Rattle.trace_text.specs.LogFields.{WrongAt}
 
@@ -21,10 +19,3 @@ NamesWrong end.Memory bytes = Unit {0}
 -- the result is this answer, or want of memory
 abbrev pub IsOrMemory : Result Log LogEnd → Result Log LogEnd → Type 0
 IsOrMemory answer result = (result ≡ answer) ⊎ (result ≡ Err end.Memory)
-
--- which of the words of events it is
-abbrev pub index : Word → ℕ
-index word.React = 0
-index word.Move = 1
-index word.Halt = 2
-index word.Detect = 3

@@ -3,7 +3,7 @@ ghost use Rattle.std.specs.Prelude.{◌≡◌, ◌≤◌, ◌<◌, ◌∷◌, []
 ghost use Rattle.std.specs.Prelude.{length, take, option_map, true, false, min};
 ghost use Rattle.std.specs.List.{prefix_len};
 ghost use Rattle.trace_text.specs.Fields.{word, number, counted, is_digit};
-ghost use Rattle.trace_text.specs.Reading.{Gives, behind, front, value_of, is_numeral};
+ghost use Rattle.trace_text.specs.inside.Reading.{Gives, behind, front, value_of, is_numeral};
 
 use crate::fault::Fault;
 

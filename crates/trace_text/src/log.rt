@@ -2,7 +2,8 @@ ghost use Rattle.std.specs.Prelude.{◌≡◌, ◌≤◌, ◌++◌, length, code
 ghost use Rattle.chem_model.specs.Each.{Each};
 ghost use Rattle.trace_text.specs.LogText.{LogParts, HasOneSpelling, IsPair, IsAtom, pair_text};
 ghost use Rattle.trace_text.specs.LogText.{atoms_text, event_text, events_text, log_text};
-ghost use Rattle.trace_text.specs.Bounds.{IsBounded, TakesSome};
+ghost use Rattle.trace_text.specs.Bounds.{IsBounded};
+ghost use Rattle.trace_text.specs.inside.Bounds.{TakesSome};
 ghost use Rattle.trace_text.specs.Printed.{IsLogOf};
 
 use crate::text::{Ending, push_all, push_number};

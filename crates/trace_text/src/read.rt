@@ -6,8 +6,9 @@ ghost use Rattle.trace_text.specs.LogText.{LogParts, Spells};
 ghost use Rattle.trace_text.specs.Fields.{SpellsBy, word};
 ghost use Rattle.trace_text.specs.LogFields.{WrongAt, HasOneOutcome, log_fields, event_words, pair};
 ghost use Rattle.trace_text.specs.LogFields.{one_pair, taken, event_line, lines, counted_text};
-ghost use Rattle.trace_text.specs.ReadLog.{parts, index, NamesWrong, IsOrMemory};
-ghost use Rattle.trace_text.specs.Reading.{Gives, Reads, front, read, ended};
+ghost use Rattle.trace_text.specs.ReadLog.{parts, NamesWrong, IsOrMemory};
+ghost use Rattle.trace_text.specs.inside.ReadLog.{index};
+ghost use Rattle.trace_text.specs.inside.Reading.{Gives, Reads, front, read, ended};
 
 use crate::fault::{Fault, LogEnd};
 use crate::fields::{behind, counted_at, literal_at, number_at};

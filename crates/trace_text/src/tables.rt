@@ -3,7 +3,7 @@ ghost use Rattle.std.specs.Prelude.{◌≡◌, ◌++◌, ◌<◌, ◌^◌, [], �
 ghost use Rattle.chem_model.specs.declared.name.Name.{Name as AnyName};
 ghost use Rattle.chem_model.specs.Numbered.{same_name, binder_in};
 ghost use Rattle.trace_text.specs.TraceText.{is_in, place_in};
-ghost use Rattle.trace_text.specs.Tables.{key_of, TellTheSame};
+ghost use Rattle.trace_text.specs.inside.Tables.{key_of, TellTheSame};
 
 use chem_model::{Memory, Name, Named, Naming};
 use indexmap::IndexMap;
@@ -34,7 +34,7 @@ impl Model for Binders {
     ghost use Rattle.std.specs.Prelude.{List};
     ghost use Rattle.std.specs.Map.{values_of};
     ghost use Rattle.chem_model.specs.declared.numbered.Named.{Named};
-    ghost use Rattle.trace_text.specs.Tables.{AreKeyed};
+    ghost use Rattle.trace_text.specs.inside.Tables.{AreKeyed};
 
     ghost Value = { List Named };
 
@@ -91,7 +91,7 @@ impl Model for Ranks {
     ghost use Rattle.std.specs.Prelude.{List};
     ghost use Rattle.std.specs.Map.{values_of};
     ghost use Rattle.chem_model.specs.declared.name.Name.{Name};
-    ghost use Rattle.trace_text.specs.Tables.{AreKeyed};
+    ghost use Rattle.trace_text.specs.inside.Tables.{AreKeyed};
 
     ghost Value = { List Name };
 

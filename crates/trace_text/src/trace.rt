@@ -1,7 +1,7 @@
 ghost use Rattle.std.specs.Prelude.{◌≡◌, ◌+◌, ◌++◌, codes, decimal, IfOk, OnOk, OnErr};
 ghost use Rattle.trace_text.specs.TraceText.{place_in, name_text, made_text, names_text};
 ghost use Rattle.trace_text.specs.TraceText.{out_text, outs_text, ending_text, trace_text};
-ghost use Rattle.trace_text.specs.Later.{later_text};
+ghost use Rattle.trace_text.specs.inside.Later.{later_text};
 ghost use Rattle.trace_text.specs.Printed.{IsTraceOf};
 
 use crate::names::{binder_spelling, is_ranked, ranked, seen_spelling};

@@ -9,7 +9,7 @@ use Rattle.wire_packet.specs.declared.packet.Waiting.{Waiting}
 use Rattle.wire_packet.specs.declared.ids.Ids.{Ids}
 use Rattle.wire_packet.specs.ParcelFacts.{waiting_ids}
 use Rattle.wire_packet.specs.Packets.{has, last_id}
-use Rattle.wire_packet.specs.Ids.{pair_cmp, holds}
+use Rattle.wire_packet.specs.inside.Ids.{pair_cmp, holds}
 
 as_or : (x y : Bool) → cond x true y ≡ (x || y)
 as_or true y = refl

@@ -6,4 +6,4 @@ pub mod Allowed
 pub mod Packets
 pub mod Codec
 pub mod Reading
-pub mod Ids
+pub mod inside

@@ -1,6 +1,6 @@
 // The ids that were read.
 ghost use Rattle.std.specs.Prelude.{◌≡◌, ℕ, false, not, ◌||◌, ◌&&◌, ◌==◌, IfOk, OnOk};
-ghost use Rattle.wire_packet.specs.Ids.{holds};
+ghost use Rattle.wire_packet.specs.inside.Ids.{holds};
 
 use chem_model::Memory;
 use std::alloc::Global;

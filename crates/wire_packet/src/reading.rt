@@ -13,9 +13,10 @@ ghost use Rattle.wire_packet.specs.Packets.{request_list, parcel_body, group_mem
 ghost use Rattle.wire_packet.specs.Packets.{one_waiting, waiting_list, has};
 ghost use Rattle.wire_packet.specs.Packets.{may_site as site_may_be, may_k as k_may_be};
 ghost use Rattle.wire_packet.specs.Codec.{IsSpelledBy, NamesWrong, IsOrMemory};
-ghost use Rattle.wire_packet.specs.Reading.{Gives, Reads, number_at, read, drafted};
+ghost use Rattle.wire_packet.specs.inside.Reading.{Gives, Reads, drafted};
+ghost use Rattle.wire_packet.specs.Reading.{number_at, read};
 ghost use Rattle.wire_packet.specs.Reading.{ended as no_more};
-ghost use Rattle.wire_packet.specs.Ids.{holds};
+ghost use Rattle.wire_packet.specs.inside.Ids.{holds};
 
 use crate::fault::{DecodeEnd, Fault};
 use crate::ids::Ids;

@@ -1,5 +1,5 @@
 use Rattle.std.proofs.Common.{◌≡◌, drop}
-use Rattle.chem_commit.specs.Parts.{place_from}
+use Rattle.chem_commit.specs.inside.Parts.{place_from}
 use Rattle.chem_commit.proofs.near.oldest_place.Given as goal
 
 abbrev pub invariant-loop-index : goal.invariant-loop-index

@@ -1,7 +1,7 @@
 -- One more is picked, or isn't there.
 use Rattle.std.proofs.Common.{[], ◌∷◌, ◌++◌, ◌+◌, take, ap, sym, ◌∙◌, subst}
 use Rattle.chem_model.specs.declared.numbered.NumberedAtom.{NumberedAtom}
-use Rattle.chem_commit.specs.Differ.{ArePicked}
+use Rattle.chem_commit.specs.inside.Differ.{ArePicked}
 use Rattle.std.proofs.lemmas.List.{get_or_default}
 use Rattle.chem_commit.proofs.Picking.{picked_next, none_next}
 use Rattle.chem_commit.proofs.near.picked.Goals as goal

@@ -1,5 +1,5 @@
 use Rattle.std.proofs.Common.{take}
-use Rattle.chem_commit.specs.Differ.{ArePicked}
+use Rattle.chem_commit.specs.inside.Differ.{ArePicked}
 use Rattle.chem_commit.proofs.near.picked.Given as goal
 
 abbrev pub invariant-loop-id : goal.invariant-loop-id

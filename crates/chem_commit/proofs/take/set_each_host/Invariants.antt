@@ -1,5 +1,5 @@
 use Rattle.std.proofs.Common.{◌≡◌, ◌++◌, take, drop, map}
-use Rattle.chem_commit.specs.Parts.{hosted}
+use Rattle.chem_commit.specs.inside.Parts.{hosted}
 use Rattle.chem_commit.proofs.take.set_each_host.Given as goal
 
 abbrev pub invariant-loop-index : goal.invariant-loop-index

@@ -1,6 +1,6 @@
 -- One place more is changed.
 use Rattle.std.proofs.Common.{◌∙◌}
-use Rattle.chem_commit.specs.Parts.{marked}
+use Rattle.chem_commit.specs.inside.Parts.{marked}
 use Rattle.chem_commit.proofs.Firsts.{changed_next, past_next}
 use Rattle.chem_commit.proofs.take.set_each_mark.Goals as goal
 use Rattle.chem_commit.proofs.take.set_each_mark.Goals.{in-Some, in_default}

@@ -1,6 +1,6 @@
 use Rattle.std.proofs.Common.{◌≡◌, ◌≤◌, length, take, drop}
 use Rattle.chem_model.specs.Apply.{without_all}
-use Rattle.chem_commit.specs.Differ.{AtomsDiffer}
+use Rattle.chem_commit.specs.inside.Differ.{AtomsDiffer}
 use Rattle.chem_commit.proofs.take.take_out_all.Given as goal
 
 -- the first ones are those that are left of the first ones, and the others stay

@@ -6,7 +6,7 @@ use Rattle.env_store.specs.declared.code.Instr.TheVariants.{Enter}
 use Rattle.env_store.specs.CodeFacts.{AreBelow, Falls}
 use Rattle.env_store.specs.Running.{code_made, loc_at, numbered_levels}
 use Rattle.code_run.specs.declared.made.Run.{Run}
-use Rattle.code_run.specs.Steps.{IsThere, FitsFirst}
+use Rattle.code_run.specs.inside.Steps.{IsThere, FitsFirst}
 use Rattle.code_run.proofs.Runs.{drop_at, drop_number, drop_past}
 use Rattle.code_run.proofs.Blocks.{block_there, block_below, wide_levels, enter_made, enter_env, places_at, places_there, places_below}
 use Rattle.code_run.proofs.Loops.{few_names, run_begins, run_steps, fits_first, falls_now, run_made, run_leaves, laying_begins, laying_steps, laying_made, place_body, body_some, body_none}

@@ -1,7 +1,7 @@
 use Rattle.std.proofs.Common.{◌≡◌, ◌++◌, drop}
 use Rattle.chem_model.specs.Each.{Each}
 use Rattle.env_store.specs.Running.{place_births, numbered_levels}
-use Rattle.code_run.specs.Steps.{IsThere}
+use Rattle.code_run.specs.inside.Steps.{IsThere}
 use Rattle.code_run.proofs.naming.bear_places.Given as goal
 
 abbrev pub invariant-loop-place : goal.invariant-loop-place

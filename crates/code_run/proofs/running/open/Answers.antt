@@ -4,7 +4,7 @@ use Rattle.chem_model.specs.Each.{Each}
 use Rattle.env_store.specs.CodeParts.{CodeParts}
 use Rattle.env_store.specs.CodeFacts.{IsLevelAt, IsBodyAt, AreBelow}
 use Rattle.env_store.specs.Running.{loc_at, numbered_levels, code_made}
-use Rattle.code_run.specs.Steps.{Adds, levels_laid}
+use Rattle.code_run.specs.inside.Steps.{Adds, levels_laid}
 use Rattle.code_run.specs.RunFacts.{IsRun}
 use Rattle.code_run.proofs.Facts.{opening_facts}
 use Rattle.code_run.proofs.Opened.{bodies_below, site_levels, opened}

@@ -2,7 +2,7 @@ use Rattle.std.proofs.Common.{◌≡◌, Bool, true, false, cond, Some, None, sy
 use Rattle.std.specs.Prelude.{is_some}
 use Rattle.chem_model.specs.declared.event.Event.TheVariants as event
 use Rattle.site_solution.specs.Possible.{Foretells}
-use Rattle.site_solution.specs.InTree.{request_stands}
+use Rattle.site_solution.specs.inside.InTree.{request_stands}
 use Rattle.site_solution.proofs.Together.{in_tree_parts, asked_there, request_passes}
 use Rattle.failure.specs.Deaths.{sees_death, dead_for}
 use Rattle.failure.proofs.Requests.{detection_foretold}

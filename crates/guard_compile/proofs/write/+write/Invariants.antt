@@ -2,7 +2,7 @@ use Rattle.std.proofs.Common.{◌≡◌, ◌+◌, ◌*◌, max, ◌++◌, drop}
 use Rattle.chem_model.specs.Process.{processes, definitions}
 use Rattle.chem_model.specs.ProcessSize.{process_depth, definition_depth, procs_depth, defs_depth}
 use Rattle.env_store.specs.Layout.{places_order}
-use Rattle.guard_compile.specs.Written.{write_all, write_defs}
+use Rattle.guard_compile.specs.inside.Written.{write_all, write_defs}
 use Rattle.guard_compile.proofs.write.+write.Given as goal
 
 abbrev pub invariant-write_all-loop-member : goal.invariant-write_all-loop-member

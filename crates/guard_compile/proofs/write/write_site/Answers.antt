@@ -2,7 +2,7 @@ use Rattle.std.proofs.Common.{ℕ, rules, ap, ◌∙◌}
 use Rattle.chem_model.specs.Process.{definitions}
 use Rattle.env_store.specs.declared.code.SiteCode.{SiteCode}
 use Rattle.guard_compile.specs.declared.write.At.{At}
-use Rattle.guard_compile.specs.Written.{behind}
+use Rattle.guard_compile.specs.inside.Written.{behind}
 use Rattle.guard_compile.proofs.Sites.{site_written, site_number}
 use Rattle.guard_compile.proofs.write.write_site.Goals as goal
 

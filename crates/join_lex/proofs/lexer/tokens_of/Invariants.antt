@@ -1,6 +1,6 @@
 use Rattle.std.proofs.Common.{length, ◌-◌}
 use Rattle.join_lex.specs.Spelling.{first_version}
-use Rattle.join_lex.specs.Steps.{Passed}
+use Rattle.join_lex.proofs.Passed.{Passed}
 use Rattle.join_lex.proofs.lexer.tokens_of.Given as goal
 
 abbrev pub invariant-loop-place : goal.invariant-loop-place

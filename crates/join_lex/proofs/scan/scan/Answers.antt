@@ -1,6 +1,6 @@
 use Rattle.std.proofs.Common.{rules, ◌≡◌, take, None}
 use Rattle.join_lex.specs.Spelling.{first_version}
-use Rattle.join_lex.specs.Scan.{key_at}
+use Rattle.join_lex.specs.inside.Scan.{key_at}
 use Rattle.join_lex.proofs.Keys.{key_at-none}
 use Rattle.join_lex.proofs.scan.scan.Goals as goal
 

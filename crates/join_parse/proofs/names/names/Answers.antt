@@ -1,7 +1,7 @@
 use Rattle.std.proofs.Common.{◌≡◌, ◌≤◌, ◌<◌, ◌⊎◌, false, drop, inl, inr, ◌+◌, ◌∷◌, [], ◌∙◌, sym, arith, length}
 use Rattle.join_lex.specs.declared.token.Sign.TheVariants as sign
 use Rattle.join_parse.specs.Begins.{AName, ASign, Names, MoreNames}
-use Rattle.join_parse.specs.Parsed.{AtMost, next_is_sign}
+use Rattle.join_parse.specs.inside.Parsed.{AtMost, next_is_sign}
 use Rattle.join_parse.proofs.Moves.{sign-reads, exit-before}
 use Rattle.join_parse.proofs.Expansions.{names-none, names-some, more_names-comma, more_names-close}
 use Rattle.join_parse.proofs.Lists.{names-first, names-more, names-all, length-push}

@@ -1,6 +1,7 @@
 use Rattle.std.proofs.Common.{◌≤◌, ◌-◌, ◌∷◌, [], length}
 use Rattle.join_parse.specs.Begins.{Names, MoreNames}
-use Rattle.join_parse.specs.Parsed.{AtMost, Reads, ListedNames}
+use Rattle.join_parse.specs.inside.Parsed.{AtMost, Reads}
+use Rattle.join_parse.proofs.Listed.{ListedNames}
 use Rattle.join_parse.proofs.names.names.Given as goal
 
 abbrev pub invariant-commas : goal.invariant-commas

@@ -1,7 +1,7 @@
 use Rattle.std.proofs.Common.{◌+◌, ◌∷◌, [], ◌∙◌, sym, arith}
 use Rattle.join_lex.specs.declared.token.Sign.TheVariants as sign
 use Rattle.join_parse.specs.Begins.{AName, ASign, Names, MorePatterns}
-use Rattle.join_parse.specs.Parsed.{AtMost}
+use Rattle.join_parse.specs.inside.Parsed.{AtMost}
 use Rattle.join_parse.proofs.Moves.{sign-reads, exit-before}
 use Rattle.join_parse.proofs.Expansions.{more_patterns-bar, more_patterns-arrow}
 use Rattle.join_parse.proofs.Lists.{patterns-more, patterns-all}

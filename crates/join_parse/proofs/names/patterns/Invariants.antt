@@ -1,7 +1,8 @@
 use Rattle.std.proofs.Common.{◌-◌, ◌∷◌, [], length}
 use Rattle.join_lex.specs.declared.token.Sign.TheVariants as sign
 use Rattle.join_parse.specs.Begins.{AName, ASign, Names, MorePatterns}
-use Rattle.join_parse.specs.Parsed.{AtMost, Reads, ListedPatterns}
+use Rattle.join_parse.specs.inside.Parsed.{AtMost, Reads}
+use Rattle.join_parse.proofs.Listed.{ListedPatterns}
 use Rattle.join_parse.proofs.names.patterns.Given as goal
 
 abbrev pub invariant-bars : goal.invariant-bars

@@ -1,6 +1,6 @@
 use Rattle.std.proofs.Common.{◌∷◌, [], ◌∙◌, false, refl}
 use Rattle.join_parse.specs.Begins.{AName, ASite, Body, Sites, Program}
-use Rattle.join_parse.specs.Parsed.{Exactly}
+use Rattle.join_parse.specs.inside.Parsed.{Exactly}
 use Rattle.join_parse.proofs.Moves.{halts-before}
 use Rattle.join_parse.proofs.Whole.{exit-stop, program-runs, behind-stop, end-whole}
 use Rattle.join_parse.proofs.parser.read.Goals as goal

@@ -2,7 +2,8 @@ use Rattle.std.proofs.Common.{◌≡◌, List, drop}
 use Rattle.join_parse.specs.Terminals.{Terminal}
 use Rattle.join_parse.specs.Source.{processes, definitions}
 use Rattle.join_parse.specs.Grammar.{of_processes, of_definitions}
-use Rattle.join_parse.specs.Printed.{spaced, left_processes, left_definitions}
+use Rattle.join_parse.specs.inside.Printed.{spaced}
+use Rattle.join_parse.proofs.LeftToPrint.{left_processes, left_definitions}
 use Rattle.join_parse.specs.SourceSize.{process_depth, definition_depth, procs_depth, defs_depth}
 use Rattle.join_parse.specs.Members.{place_depth}
 use Rattle.join_parse.proofs.print.+print.Given as goal

@@ -2,7 +2,7 @@ use Rattle.std.proofs.Common.{◌∷◌}
 use Rattle.join_lex.specs.declared.token.Sign.TheVariants as sign
 use Rattle.join_parse.specs.Terminals.{a_sign, named}
 use Rattle.join_parse.specs.Grammar.{names}
-use Rattle.join_parse.specs.Printed.{left_names}
+use Rattle.join_parse.proofs.LeftToPrint.{left_names}
 use Rattle.join_parse.proofs.Prints.{member-prints, names-law}
 use Rattle.join_parse.proofs.print.put_names.Goals as goal
 

@@ -1,7 +1,8 @@
 use Rattle.std.proofs.Common.{◌≡◌, List, drop}
 use Rattle.join_parse.specs.Terminals.{Terminal}
 use Rattle.join_parse.specs.Grammar.{names}
-use Rattle.join_parse.specs.Printed.{spaced, left_names}
+use Rattle.join_parse.specs.inside.Printed.{spaced}
+use Rattle.join_parse.proofs.LeftToPrint.{left_names}
 use Rattle.join_parse.proofs.print.put_names.Given as goal
 
 abbrev pub invariant-loop-word : goal.invariant-loop-word

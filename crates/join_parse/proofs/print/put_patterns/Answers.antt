@@ -1,7 +1,7 @@
 use Rattle.join_lex.specs.declared.token.Sign.TheVariants as sign
 use Rattle.join_parse.specs.Terminals.{a_sign}
 use Rattle.join_parse.specs.Grammar.{patterns}
-use Rattle.join_parse.specs.Printed.{left_patterns}
+use Rattle.join_parse.proofs.LeftToPrint.{left_patterns}
 use Rattle.join_parse.specs.Grammar.{applied}
 use Rattle.join_parse.proofs.Prints.{member-prints, patterns-law}
 use Rattle.join_parse.proofs.print.put_patterns.Goals as goal

@@ -1,6 +1,6 @@
 use Rattle.std.proofs.Common.{◌∙◌}
 use Rattle.std.proofs.lemmas.Result.{on_ok_weaker}
-use Rattle.join_parse.specs.Printed.{of_place}
+use Rattle.join_parse.specs.inside.Printed.{of_place}
 use Rattle.join_parse.proofs.print.put_site.Goals as goal
 
 pub returns : goal.returns

@@ -1,7 +1,7 @@
 use Rattle.std.proofs.Common.{◌≡◌, List, drop}
 use Rattle.join_parse.specs.Terminals.{Terminal}
 use Rattle.join_parse.specs.Grammar.{of_sites}
-use Rattle.join_parse.specs.Printed.{spaced}
+use Rattle.join_parse.specs.inside.Printed.{spaced}
 use Rattle.join_parse.proofs.print.put_sites.Given as goal
 
 abbrev pub invariant-loop-site : goal.invariant-loop-site

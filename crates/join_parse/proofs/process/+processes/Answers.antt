@@ -3,7 +3,7 @@ use Rattle.std.proofs.lemmas.Result.{IfOk-weaker}
 use Rattle.join_lex.specs.declared.token.Key.TheVariants as key
 use Rattle.join_lex.specs.declared.token.Sign.TheVariants as sign
 use Rattle.join_parse.specs.Begins.{AName, AKey, ASign, CloseGroup, CloseSquare, EndDef, Body, Defs, MoreDefs, DefRest, MorePatterns, Names, AProc, MoreProcs}
-use Rattle.join_parse.specs.Parsed.{AtMost, Exactly, Reads}
+use Rattle.join_parse.specs.inside.Parsed.{AtMost, Exactly, Reads}
 use Rattle.join_parse.proofs.Moves.{key-reads, exit-before, fails-before}
 use Rattle.join_parse.proofs.Expansions.{close-group, close-square, end-def, defs-void, defs-some, more_defs-and, more_defs-end, def-place-at, def-rule-at, body-opens-at, body-deep, body-stops, proc-zero-at, proc-message, proc-group-at, proc-group-deep, proc-halt, proc-go, proc-fail, proc-def-at, proc-def-deep, proc-stops, procs-bar-at, procs-end}
 use Rattle.join_parse.proofs.Lists.{processes-more, processes-last, definitions-first, definitions-more, definitions-all}

@@ -1,6 +1,7 @@
 use Rattle.std.proofs.Common.{◌≤◌, ◌+◌, ◌*◌, ◌-◌, ◌∷◌, [], length}
 use Rattle.join_parse.specs.Begins.{AProc, Defs, MoreDefs}
-use Rattle.join_parse.specs.Parsed.{Exactly, Runs, Reads, ListedProcesses, ListedDefinitions}
+use Rattle.join_parse.specs.inside.Parsed.{Exactly, Runs, Reads}
+use Rattle.join_parse.proofs.Listed.{ListedProcesses, ListedDefinitions}
 use Rattle.join_parse.proofs.process.+processes.Given as goal
 
 abbrev pub decreases-processes : goal.decreases-processes

@@ -2,7 +2,7 @@ use Rattle.std.proofs.Common.{◌∷◌, [], ◌∙◌, sym}
 use Rattle.join_lex.specs.declared.token.Key.TheVariants as key
 use Rattle.join_lex.specs.declared.token.Sign.TheVariants as sign
 use Rattle.join_parse.specs.Begins.{AName, AKey, ASign, ACount, Program}
-use Rattle.join_parse.specs.Parsed.{AtMost}
+use Rattle.join_parse.specs.inside.Parsed.{AtMost}
 use Rattle.join_parse.proofs.Moves.{exit-before}
 use Rattle.join_parse.proofs.Expansions.{program-observe}
 use Rattle.join_parse.proofs.Lists.{declarations-more, declarations-all}

@@ -1,6 +1,7 @@
 use Rattle.std.proofs.Common.{◌≤◌, ◌-◌, ◌∷◌, [], length}
 use Rattle.join_parse.specs.Begins.{Program}
-use Rattle.join_parse.specs.Parsed.{AtMost, Runs, ListedDeclarations}
+use Rattle.join_parse.specs.inside.Parsed.{AtMost, Runs}
+use Rattle.join_parse.proofs.Listed.{ListedDeclarations}
 use Rattle.join_parse.proofs.program.declarations.Given as goal
 
 abbrev pub invariant-observed : goal.invariant-observed

@@ -1,6 +1,6 @@
 use Rattle.std.proofs.Common.{◌∷◌, [], ◌∙◌, false, sym, arith}
 use Rattle.join_parse.specs.Begins.{AName, ASite, Body, Sites}
-use Rattle.join_parse.specs.Parsed.{Exactly}
+use Rattle.join_parse.specs.inside.Parsed.{Exactly}
 use Rattle.join_parse.proofs.Moves.{exit-before}
 use Rattle.join_parse.proofs.Expansions.{sites-more as more_sites, sites-end}
 use Rattle.join_parse.proofs.Lists.{sites-more, sites-all, some-push}

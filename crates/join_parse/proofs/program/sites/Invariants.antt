@@ -1,7 +1,8 @@
 use Rattle.std.proofs.Common.{◌-◌, ◌∷◌, [], length, false}
 use Rattle.join_parse.specs.Grammar.{IsSome}
 use Rattle.join_parse.specs.Begins.{AName, ASite, Body, Sites}
-use Rattle.join_parse.specs.Parsed.{Exactly, Reads, ListedSites}
+use Rattle.join_parse.specs.inside.Parsed.{Exactly, Reads}
+use Rattle.join_parse.proofs.Listed.{ListedSites}
 use Rattle.join_parse.proofs.program.sites.Given as goal
 
 abbrev pub invariant-sites : goal.invariant-sites

@@ -3,7 +3,7 @@ use Rattle.std.proofs.Common.{List, sym, subst}
 use Rattle.chem_model.specs.declared.event.Event.{Event}
 use Rattle.chem_model.specs.ProgramFacts.{ProgramTerms}
 use Rattle.trace_history.specs.Kept.{Kept}
-use Rattle.join_top.specs.Ran.{IsEnded}
+use Rattle.join_top.specs.inside.Ran.{IsEnded}
 use Rattle.join_top.proofs.Leaving.{ended}
 use Rattle.join_top.proofs.run.run.Goals as goal
 

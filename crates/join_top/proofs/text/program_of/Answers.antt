@@ -2,7 +2,7 @@
 use Rattle.std.proofs.Common.{rules}
 use Rattle.std.proofs.lemmas.Result.{IfErr-weaker}
 use Rattle.scope_check.specs.Checked as scope
-use Rattle.join_top.specs.Text.{NamesRefusal}
+use Rattle.join_top.specs.inside.Text.{NamesRefusal}
 use Rattle.join_top.proofs.Refusals.{by_tokens, by_tree}
 use Rattle.join_top.proofs.text.program_of.Goals as goal
 

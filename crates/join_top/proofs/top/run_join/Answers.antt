@@ -5,7 +5,7 @@ use Rattle.join_top.specs.declared.top.Ended.{Ended}
 use Rattle.join_top.specs.Task.{task, ring_asked}
 use Rattle.join_top.specs.Text.{IsProgramOfText}
 use Rattle.join_top.specs.RunJoin.{Gains, GoesWith, IsMadeBy}
-use Rattle.join_top.specs.Ran.{IsEnded}
+use Rattle.join_top.specs.inside.Ran.{IsEnded}
 use Rattle.join_top.proofs.Long.{refused_long}
 use Rattle.join_top.proofs.Reading.{unread, read_all}
 use Rattle.join_top.proofs.Leaving.{run_asked, no_usage, keeps, made_as_asked}

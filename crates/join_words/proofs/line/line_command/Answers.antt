@@ -2,7 +2,7 @@ use Rattle.std.proofs.Common.{rules, ap, ap₂, ◌≡◌, ◌∙◌, true, code
 use Rattle.std.proofs.lemmas.Result.{IfOk-weaker}
 use Rattle.clap.specs.Words.{app_of, new_app, rule_of, with_rule}
 use Rattle.clap.specs.Simple.{app_of_fields, on_top}
-use Rattle.join_words.specs.Command.{bare, flagged, optional, positional}
+use Rattle.join_words.specs.inside.Command.{bare, flagged, optional, positional}
 use Rattle.join_words.proofs.line.line_command.Goals as goal
 
 pub returns : goal.returns

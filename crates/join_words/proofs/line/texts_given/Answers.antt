@@ -6,7 +6,7 @@ use Rattle.clap.specs.declared.parser.matches.Found.{Found}
 use Rattle.clap.specs.Walk.{Row, first_of, one_of}
 use Rattle.clap.specs.Kinds.{Kinds}
 use Rattle.join_words.specs.Line.{Plain, Text, budget, by, none, one, two, workers}
-use Rattle.join_words.specs.Command.{Gives, line_app, plain_given}
+use Rattle.join_words.specs.inside.Command.{Gives, line_app, plain_given}
 use Rattle.join_words.specs.Asks.{asked}
 use Rattle.join_words.specs.declared.answer.WordEnd.{WordEnd}
 use Rattle.join_words.specs.declared.answer.WordEnd.TheVariants.{Form, Memory}

@@ -1,7 +1,7 @@
 use Rattle.std.proofs.Common.{◌≡◌, Bool, sym, ap, subst, ◌∙◌}
 use Rattle.chem_model.specs.declared.event.Event.TheVariants as event
 use Rattle.site_solution.specs.Possible.{Foretells}
-use Rattle.site_solution.specs.InTree.{request_stands}
+use Rattle.site_solution.specs.inside.InTree.{request_stands}
 use Rattle.site_solution.proofs.Together.{in_tree_parts, asked_there, request_passes}
 use Rattle.migration.specs.Moves.{is_ready, can_go}
 use Rattle.migration.proofs.Goes.{move_foretold}

@@ -3,7 +3,7 @@ use Rattle.env_store.specs.CodeParts.{CodeParts}
 use Rattle.net_core.specs.Whole.{IsWhole}
 use Rattle.chem_model.specs.declared.name.Loc.{Loc}
 use Rattle.net_laws.specs.Site.{Site}
-use Rattle.net_core.specs.AtSites.{HasGoal, MayGoAt, MayCrossAt}
+use Rattle.net_core.specs.inside.AtSites.{HasGoal, MayGoAt, MayCrossAt}
 use Rattle.net_core.specs.Bare.{bare}
 use Rattle.net_core.specs.Parts.{net_of}
 use Rattle.net_core.proofs.Doing.{has_goal, goes_here, goes_over, on_ok}

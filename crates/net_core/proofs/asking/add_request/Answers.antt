@@ -1,5 +1,5 @@
 use Rattle.std.proofs.Common.{◌≡◌, ◌∙◌, ap, insert}
-use Rattle.net_core.specs.Searched.{place_for}
+use Rattle.net_core.specs.inside.Searched.{place_for}
 use Rattle.net_core.proofs.Requests.{put_in_place}
 use Rattle.net_core.proofs.asking.add_request.Goals as goal
 

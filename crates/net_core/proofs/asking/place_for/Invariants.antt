@@ -1,5 +1,5 @@
 use Rattle.std.proofs.Common.{◌≡◌, ◌+◌, drop}
-use Rattle.net_core.specs.Searched.{place_for}
+use Rattle.net_core.specs.inside.Searched.{place_for}
 use Rattle.net_core.proofs.asking.place_for.Given as goal
 
 abbrev pub invariant-loop-place : goal.invariant-loop-place

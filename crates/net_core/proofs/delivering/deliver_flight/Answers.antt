@@ -1,13 +1,13 @@
 use Rattle.std.proofs.Common.{◌≡◌, ◌<◌, ◌-◌, ◌+◌, ◌++◌, ◌∙◌, ℕ, List, Some, length, slice_get, sym, ap, subst, refl, true}
 use Rattle.std.specs.Vec.{with_items}
 use Rattle.std.proofs.lemmas.List.{with_items_is}
-use Rattle.net_core.specs.Delivering.{IsBrought}
+use Rattle.net_core.specs.inside.Delivering.{IsBrought}
 use Rattle.wire_packet.specs.MessageFacts.{MessageParts}
 use Rattle.net_laws.specs.Site.{Site}
 use Rattle.router.specs.Delivering.{can_deliver}
 use Rattle.net_core.specs.declared.parts.Parts.{Parts}
 use Rattle.net_core.specs.Parts.{joined, message_in, net_of}
-use Rattle.net_core.specs.Handing.{AreAsBefore}
+use Rattle.net_core.specs.inside.Handing.{AreAsBefore}
 use Rattle.net_core.specs.Whole.{AllFit}
 use Rattle.net_core.proofs.Deliveries.{flight_spelled, target_below, flight_may, delivers, delivered_whole, as_before_net, as_before_whole, brought_same, flight_found, flights_left, brought_in}
 use Rattle.net_core.proofs.Fitting.{fit_full, on_err}

@@ -13,7 +13,7 @@ use Rattle.net_laws.specs.Meeting.{continuation_made, sent_here}
 use Rattle.failure.specs.Deaths.{dead_for}
 use Rattle.net_core.specs.declared.parts.Parts.{Parts}
 use Rattle.net_core.specs.Acting.{Detects}
-use Rattle.net_core.specs.AtSites.{AllStayFit, DetectsAt}
+use Rattle.net_core.specs.inside.AtSites.{AllStayFit, DetectsAt}
 use Rattle.net_core.specs.Parts.{joined, net_of, IsMessageFlight}
 use Rattle.net_core.specs.Playing.{detect}
 use Rattle.net_core.specs.Whole.{AllFit, IsWhole}

@@ -7,7 +7,7 @@ use Rattle.net_laws.specs.Site.{Site}
 use Rattle.net_core.specs.declared.parts.Parts.{Parts}
 use Rattle.net_core.specs.Bare.{bare}
 use Rattle.net_core.specs.Acting.{Halts}
-use Rattle.net_core.specs.AtSites.{HaltsAt}
+use Rattle.net_core.specs.inside.AtSites.{HaltsAt}
 use Rattle.net_core.specs.Parts.{joined, net_of}
 use Rattle.net_core.specs.Playing.{halt}
 use Rattle.net_core.specs.Whole.{AllFit}

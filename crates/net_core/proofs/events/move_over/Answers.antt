@@ -13,7 +13,7 @@ use Rattle.net_laws.specs.Meeting.{continuation_made, sent_here}
 use Rattle.migration.specs.Moves.{can_go}
 use Rattle.net_core.specs.declared.parts.Parts.{Parts}
 use Rattle.net_core.specs.Acting.{Moves}
-use Rattle.net_core.specs.AtSites.{AllStayFit, MovesAt, CrossesAt}
+use Rattle.net_core.specs.inside.AtSites.{AllStayFit, MovesAt, CrossesAt}
 use Rattle.net_core.specs.Parts.{joined, net_of}
 use Rattle.net_core.specs.Playing.{move}
 use Rattle.net_core.specs.Whole.{AllFit}

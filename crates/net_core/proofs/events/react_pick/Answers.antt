@@ -13,7 +13,7 @@ use Rattle.reducer.specs.Reacting.{ran_by, outcome_of}
 use Rattle.net_core.specs.declared.parts.Parts.{Parts}
 use Rattle.net_core.specs.Bare.{bare}
 use Rattle.net_core.specs.Acting.{Reacts}
-use Rattle.net_core.specs.AtSites.{AllStayFit, ReactsAt}
+use Rattle.net_core.specs.inside.AtSites.{AllStayFit, ReactsAt}
 use Rattle.net_core.specs.Parts.{joined, net_of}
 use Rattle.net_core.specs.Playing.{react}
 use Rattle.net_core.specs.Whole.{AllFit}

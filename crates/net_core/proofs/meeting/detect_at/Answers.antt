@@ -2,7 +2,7 @@ use Rattle.std.proofs.Common.{◌≡◌, true}
 use Rattle.std.specs.Prelude.{slice_set, slice_index_or}
 use Rattle.site_solution.specs.InCode.{is_in_code}
 use Rattle.site_solution.specs.Pours.{HasEmitted}
-use Rattle.net_core.specs.AtSites.{AllStayFit}
+use Rattle.net_core.specs.inside.AtSites.{AllStayFit}
 use Rattle.net_core.specs.Whole.{AllFit}
 use Rattle.env_store.specs.CodeParts.{CodeParts}
 use Rattle.net_core.proofs.Fitting.{ok_both, fit_stays, stay_set}

@@ -5,7 +5,7 @@ use Rattle.net_laws.specs.Site.{Site}
 use Rattle.site_solution.specs.InCode.{is_in_code}
 use Rattle.site_solution.specs.Pours.{HasEmitted}
 use Rattle.site_solution.specs.Staying.{StillFits}
-use Rattle.net_core.specs.AtSites.{AllStayFit}
+use Rattle.net_core.specs.inside.AtSites.{AllStayFit}
 use Rattle.net_core.specs.Whole.{AllFit}
 use Rattle.net_core.proofs.Fitting.{all_still, fit_stays, stay_set}
 use Rattle.net_core.proofs.ReactAt.{fits_or}

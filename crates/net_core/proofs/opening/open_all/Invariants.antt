@@ -1,4 +1,4 @@
-use Rattle.net_core.specs.Starting.{IsUpTo}
+use Rattle.net_core.specs.inside.Starting.{IsUpTo}
 use Rattle.net_core.proofs.opening.open_all.Given as goal
 
 abbrev pub invariant-loop-number : goal.invariant-loop-number

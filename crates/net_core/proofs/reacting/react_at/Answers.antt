@@ -3,7 +3,7 @@ use Rattle.std.specs.Prelude.{slice_index_or, slice_set}
 use Rattle.std.proofs.lemmas.Option.{get_or_from_slice_get}
 use Rattle.net_laws.specs.Site.{Site}
 use Rattle.reducer.specs.Picks.{Picks, Fires}
-use Rattle.net_core.specs.AtSites.{ReactsAt}
+use Rattle.net_core.specs.inside.AtSites.{ReactsAt}
 use Rattle.net_core.proofs.ReactAt.{told_at, fits_or}
 use Rattle.net_core.proofs.reacting.react_at.Goals as goal
 

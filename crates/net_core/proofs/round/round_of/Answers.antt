@@ -6,7 +6,8 @@ use Rattle.net_core.specs.declared.parts.Parts.{Parts}
 use Rattle.net_core.specs.declared.slots.Slot.{Slot}
 use Rattle.net_core.specs.Bare.{bare}
 use Rattle.net_core.specs.Parts.{joined}
-use Rattle.net_core.specs.Slots.{CanWork, IsServed, Pairwise, slot_of, sites_of, events_of, flights_of, AreBack}
+use Rattle.net_core.specs.inside.Slots.{CanWork, IsServed, Pairwise, slot_of, sites_of, events_of}
+use Rattle.net_core.specs.inside.Slots.{flights_of, AreBack}
 use Rattle.net_core.proofs.RoundDone.{can_all, has_round}
 use Rattle.net_core.proofs.round.round_of.Goals as goal
 

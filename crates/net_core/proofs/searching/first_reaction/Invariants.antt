@@ -1,4 +1,4 @@
-use Rattle.net_core.specs.Searched.{NoneReady}
+use Rattle.net_core.proofs.NoneFound.{NoneReady}
 use Rattle.net_core.proofs.searching.first_reaction.Given as goal
 
 abbrev pub invariant-loop-number : goal.invariant-loop-number

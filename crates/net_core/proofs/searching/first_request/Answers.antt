@@ -1,5 +1,5 @@
 use Rattle.std.proofs.Common.{sym, subst}
-use Rattle.net_core.specs.Searched.{IsFirstMeeting}
+use Rattle.net_core.specs.inside.Searched.{IsFirstMeeting}
 use Rattle.net_core.proofs.FirstRequests.{none_least_none, least_first}
 use Rattle.net_core.proofs.searching.first_request.Goals as goal
 

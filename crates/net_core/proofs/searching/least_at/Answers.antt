@@ -1,7 +1,7 @@
 use Rattle.std.proofs.Common.{◌≡◌, ◌∙◌, ◌<◌, true, sym, ap, arith, length}
 use Rattle.std.proofs.lemmas.Option.{slice_get_within}
 use Rattle.net_core.specs.declared.choice.Choice.{Choice}
-use Rattle.net_core.specs.Searched.{meets, choice_for}
+use Rattle.net_core.specs.inside.Searched.{meets, choice_for}
 use Rattle.net_core.proofs.FirstRequests.{none_at_all, least_here}
 use Rattle.net_core.proofs.searching.least_at.Goals as goal
 

@@ -1,5 +1,5 @@
 use Rattle.std.proofs.Common.{◌-◌, length}
-use Rattle.net_core.specs.Searched.{NoneMeetable}
+use Rattle.net_core.proofs.NoneFound.{NoneMeetable}
 use Rattle.net_core.proofs.searching.least_at.Given as goal
 
 abbrev pub invariant-loop-request : goal.invariant-loop-request

@@ -1,5 +1,5 @@
 use Rattle.std.proofs.Common.{◌+◌, sym, subst}
-use Rattle.net_core.specs.Searched.{IsLeast}
+use Rattle.net_core.specs.inside.Searched.{IsLeast}
 use Rattle.net_core.proofs.SiteReactions.{member_at}
 use Rattle.net_core.proofs.FirstRequests.{answer_is, least_step}
 use Rattle.net_core.proofs.searching.least_request.Goals as goal

@@ -1,4 +1,4 @@
-use Rattle.net_core.specs.Searched.{IsLeast}
+use Rattle.net_core.specs.inside.Searched.{IsLeast}
 use Rattle.net_core.proofs.searching.least_request.Given as goal
 
 abbrev pub invariant-loop-number : goal.invariant-loop-number

@@ -1,4 +1,4 @@
-use Rattle.net_core.specs.Searched.{NoneMeets}
+use Rattle.net_core.specs.inside.Searched.{NoneMeets}
 use Rattle.net_core.proofs.searching.meeting_site.Given as goal
 
 abbrev pub invariant-loop-number : goal.invariant-loop-number

@@ -1,5 +1,5 @@
 use Rattle.std.proofs.Common.{rules}
-use Rattle.net_core.specs.Slots.{IsServed}
+use Rattle.net_core.specs.inside.Slots.{IsServed}
 use Rattle.net_core.proofs.SlotLists.{pairwise}
 use Rattle.net_core.proofs.slots.lend.Goals as goal
 

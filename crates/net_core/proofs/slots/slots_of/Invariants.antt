@@ -1,5 +1,5 @@
 use Rattle.std.proofs.Common.{◌≡◌, map}
-use Rattle.net_core.specs.Slots.{slot_of}
+use Rattle.net_core.specs.inside.Slots.{slot_of}
 use Rattle.net_core.proofs.slots.slots_of.Given as goal
 
 abbrev pub invariant-loop-site : goal.invariant-loop-site

@@ -1,4 +1,4 @@
-use Rattle.net_core.specs.Slots.{AreBack}
+use Rattle.net_core.specs.inside.Slots.{AreBack}
 use Rattle.net_core.proofs.slots.take_all_back.Given as goal
 
 abbrev pub invariant-loop-slot : goal.invariant-loop-slot

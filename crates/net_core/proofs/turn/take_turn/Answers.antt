@@ -1,5 +1,5 @@
 use Rattle.std.proofs.Common.{◌≡◌, ℕ, [], subst}
-use Rattle.net_core.specs.Alone.{HasReacted}
+use Rattle.net_core.specs.inside.Alone.{HasReacted}
 use Rattle.net_core.proofs.Alone.{alone_number}
 use Rattle.net_core.proofs.turn.take_turn.Goals as goal
 

@@ -1,4 +1,4 @@
-use Rattle.reducer.specs.Searching.{NoneCovered}
+use Rattle.reducer.specs.inside.Searching.{NoneCovered}
 use Rattle.reducer.proofs.choosing.first_covered.Given as goal
 
 abbrev pub invariant-loop-guard : goal.invariant-loop-guard

@@ -2,7 +2,7 @@ use Rattle.std.proofs.Common.{◌≡◌, ◌∙◌, length, subst, sym, ap}
 use Rattle.std.specs.Prelude.{◌↔◌, IsTrue}
 use Rattle.queue_cells.specs.Grouped.{AllHeld}
 use Rattle.env_store.specs.declared.code.Guard.{Guard}
-use Rattle.reducer.specs.Searching.{pick_of}
+use Rattle.reducer.specs.inside.Searching.{pick_of}
 use Rattle.site_solution.specs.Held.{queues_of}
 use Rattle.reducer.proofs.Levels.{told_as, guard_same}
 use Rattle.reducer.proofs.Guards.{mask_words, queues_are}

@@ -2,7 +2,7 @@ use Rattle.std.proofs.Common.{◌∙◌, sym, ap, rules}
 use Rattle.std.specs.Prelude.{slice_get}
 use Rattle.wire_packet.specs.declared.packet.GroupInst.{GroupInst}
 use Rattle.loc_tree.specs.Tree.{spot, number_in}
-use Rattle.reducer.specs.Searching.{pick_of, NoOffer}
+use Rattle.reducer.specs.inside.Searching.{pick_of, NoOffer}
 use Rattle.reducer.proofs.Levels.{level_at, told_as, some_spot, group_number}
 use Rattle.reducer.proofs.Guards.{group_there, none_offered}
 use Rattle.reducer.proofs.choosing.offer.Goals as goal

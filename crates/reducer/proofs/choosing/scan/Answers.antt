@@ -1,5 +1,5 @@
 use Rattle.std.proofs.Common.{◌≡◌, ℕ, ◌+◌, subst, sym, arith, length}
-use Rattle.reducer.specs.Searching.{IsBest}
+use Rattle.reducer.proofs.BestOf.{IsBest}
 use Rattle.reducer.proofs.Best.{best_step, best_none, none_fires, is_ready}
 use Rattle.reducer.proofs.choosing.scan.Goals as goal
 

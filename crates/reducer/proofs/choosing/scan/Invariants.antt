@@ -1,4 +1,4 @@
-use Rattle.reducer.specs.Searching.{IsBest}
+use Rattle.reducer.proofs.BestOf.{IsBest}
 use Rattle.reducer.proofs.choosing.scan.Given as goal
 
 abbrev pub invariant-loop-group : goal.invariant-loop-group

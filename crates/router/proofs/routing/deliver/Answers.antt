@@ -8,7 +8,8 @@ use Rattle.net_laws.specs.Holding.{put}
 use Rattle.loc_tree.specs.Tree.{Tree, spot}
 use Rattle.std.specs.Prelude.{is_some}
 use Rattle.std.proofs.lemmas.Bool.{and_parts}
-use Rattle.site_solution.specs.InTree.{name_stands, names_stand}
+use Rattle.site_solution.specs.InTree.{name_stands}
+use Rattle.site_solution.specs.inside.InTree.{names_stand}
 use Rattle.router.specs.Delivering.{home_at, IsDelivery}
 use Rattle.router.specs.declared.routing.Delivery.TheVariants.{Delivered}
 use Rattle.router.proofs.Deliveries.{may_deliver, home_there, no_event, delivery_in_tree, delivery_in_code, delivery_draws}

@@ -1,6 +1,6 @@
 use Rattle.std.proofs.Common.{◌≡◌, drop}
-use Rattle.scope_check.specs.Order.{first_of}
-use Rattle.scope_check.specs.FaultList.{many}
+use Rattle.scope_check.specs.inside.Order.{first_of}
+use Rattle.scope_check.specs.inside.FaultList.{many}
 use Rattle.scope_check.proofs.checks.above.Given as goal
 
 abbrev pub invariant-loop-number : goal.invariant-loop-number

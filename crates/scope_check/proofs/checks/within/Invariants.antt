@@ -1,7 +1,7 @@
 use Rattle.std.proofs.Common.{◌≡◌, drop}
-use Rattle.scope_check.specs.Order.{first_of}
+use Rattle.scope_check.specs.inside.Order.{first_of}
 use Rattle.scope_check.specs.Blocks.{sites_of}
-use Rattle.scope_check.specs.FaultList.{level_faults}
+use Rattle.scope_check.specs.inside.FaultList.{level_faults}
 use Rattle.scope_check.proofs.checks.within.Given as goal
 
 abbrev pub invariant-loop-tree : goal.invariant-loop-tree

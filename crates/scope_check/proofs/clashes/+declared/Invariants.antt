@@ -2,8 +2,8 @@ use Rattle.std.proofs.Common.{◌≡◌, drop}
 use Rattle.join_parse.specs.Source.{processes, definitions}
 use Rattle.join_parse.specs.SourceSize.{process_depth, definition_depth, procs_depth, defs_depth}
 use Rattle.join_parse.specs.Members.{place_depth}
-use Rattle.scope_check.specs.Order.{first_of}
-use Rattle.scope_check.specs.FaultList.{processes_faults, level_faults}
+use Rattle.scope_check.specs.inside.Order.{first_of}
+use Rattle.scope_check.specs.inside.FaultList.{processes_faults, level_faults}
 use Rattle.scope_check.proofs.clashes.+declared.Given as goal
 
 abbrev pub invariant-body-loop-p : goal.invariant-body-loop-p

@@ -1,6 +1,6 @@
 use Rattle.std.proofs.Common.{◌≡◌, [], drop}
-use Rattle.scope_check.specs.Order.{first_of}
-use Rattle.scope_check.specs.Clashes.{clashes_in}
+use Rattle.scope_check.specs.inside.Order.{first_of}
+use Rattle.scope_check.specs.inside.Clashes.{clashes_in}
 use Rattle.scope_check.proofs.clashes.clashes.Given as goal
 
 abbrev pub invariant-loop-d : goal.invariant-loop-d

@@ -1,5 +1,5 @@
 use Rattle.std.proofs.Common.{[]}
-use Rattle.scope_check.specs.Clashes.{channel_repeats, parameter_repeats}
+use Rattle.scope_check.specs.inside.Clashes.{channel_repeats, parameter_repeats}
 use Rattle.scope_check.proofs.Folds.{chained}
 use Rattle.scope_check.proofs.Declares.{join-is}
 use Rattle.scope_check.proofs.clashes.join.Goals as goal

@@ -1,6 +1,6 @@
 use Rattle.std.proofs.Common.{◌≡◌, [], drop}
-use Rattle.scope_check.specs.Order.{first_of}
-use Rattle.scope_check.specs.Clashes.{channel_repeats}
+use Rattle.scope_check.specs.inside.Order.{first_of}
+use Rattle.scope_check.specs.inside.Clashes.{channel_repeats}
 use Rattle.scope_check.proofs.clashes.repeated_channels.Given as goal
 
 abbrev pub invariant-loop-pat : goal.invariant-loop-pat

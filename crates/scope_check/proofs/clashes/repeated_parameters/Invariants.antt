@@ -1,6 +1,6 @@
 use Rattle.std.proofs.Common.{◌≡◌, [], drop}
-use Rattle.scope_check.specs.Order.{first_of}
-use Rattle.scope_check.specs.Clashes.{parameter_repeats}
+use Rattle.scope_check.specs.inside.Order.{first_of}
+use Rattle.scope_check.specs.inside.Clashes.{parameter_repeats}
 use Rattle.scope_check.proofs.clashes.repeated_parameters.Given as goal
 
 abbrev pub invariant-loop-pat : goal.invariant-loop-pat

@@ -1,7 +1,7 @@
 use Rattle.std.proofs.Common.{◌≡◌, drop}
 use Rattle.join_base.specs.declared.fault.Kind.TheVariants.{Scope4}
-use Rattle.scope_check.specs.Order.{first_of}
-use Rattle.scope_check.specs.Clashes.{remember_all, repeats_in}
+use Rattle.scope_check.specs.inside.Order.{first_of}
+use Rattle.scope_check.specs.inside.Clashes.{remember_all, repeats_in}
 use Rattle.scope_check.proofs.clashes.repeats.Given as goal
 
 abbrev pub invariant-loop-word : goal.invariant-loop-word

@@ -3,7 +3,7 @@ use Rattle.join_parse.specs.Source.{processes, definitions}
 use Rattle.join_parse.specs.Members.{place_depth}
 use Rattle.join_parse.specs.SourceSize.{process_depth, definition_depth, procs_depth, defs_depth}
 use Rattle.scope_check.specs.Blocks.{places}
-use Rattle.scope_check.specs.Naming.{walk_all, walk_level}
+use Rattle.scope_check.specs.inside.Naming.{walk_all, walk_level}
 use Rattle.scope_check.proofs.naming.+naming.Given as goal
 
 abbrev pub invariant-walk_all-loop-p : goal.invariant-walk_all-loop-p

@@ -1,5 +1,5 @@
 use Rattle.std.proofs.Common.{◌≡◌, drop}
-use Rattle.scope_check.specs.Naming.{name_all}
+use Rattle.scope_check.specs.inside.Naming.{name_all}
 use Rattle.scope_check.proofs.naming.name_all.Given as goal
 
 abbrev pub invariant-loop-d : goal.invariant-loop-d

@@ -1,5 +1,5 @@
 use Rattle.std.proofs.Common.{◌≡◌, drop}
-use Rattle.scope_check.specs.Naming.{name_patterns}
+use Rattle.scope_check.specs.inside.Naming.{name_patterns}
 use Rattle.scope_check.proofs.naming.name_patterns.Given as goal
 
 abbrev pub invariant-loop-pat : goal.invariant-loop-pat

@@ -1,5 +1,5 @@
 use Rattle.std.proofs.Common.{◌≡◌, drop}
-use Rattle.scope_check.specs.Naming.{name_words}
+use Rattle.scope_check.specs.inside.Naming.{name_words}
 use Rattle.scope_check.proofs.naming.name_words.Given as goal
 
 abbrev pub invariant-loop-word : goal.invariant-loop-word

@@ -1,6 +1,6 @@
 use Rattle.std.proofs.Common.{◌≡◌, ◌++◌, drop}
 use Rattle.scope_check.specs.Blocks.{sites_of}
-use Rattle.scope_check.specs.Naming.{walk_level}
+use Rattle.scope_check.specs.inside.Naming.{walk_level}
 use Rattle.scope_check.proofs.naming.walk_sites.Given as goal
 
 abbrev pub invariant-loop-site : goal.invariant-loop-site

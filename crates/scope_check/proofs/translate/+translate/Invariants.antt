@@ -2,9 +2,9 @@ use Rattle.std.proofs.Common.{◌≡◌, ◌+◌, ◌++◌, drop}
 use Rattle.join_parse.specs.Source.{processes, definitions}
 use Rattle.join_parse.specs.Members.{place_depth}
 use Rattle.join_parse.specs.SourceSize.{process_depth, definition_depth, procs_depth, defs_depth}
-use Rattle.scope_check.specs.Order.{first_of}
+use Rattle.scope_check.specs.inside.Order.{first_of}
 use Rattle.scope_check.specs.Blocks.{scopes_in_all, scopes_in_defs}
-use Rattle.scope_check.specs.Twin.{members_in, level_in, all_uses_in, level_uses_in}
+use Rattle.scope_check.specs.inside.Twin.{members_in, level_in, all_uses_in, level_uses_in}
 use Rattle.scope_check.proofs.translate.+translate.Given as goal
 
 abbrev pub invariant-body-loop-p : goal.invariant-body-loop-p

@@ -1,7 +1,7 @@
 use Rattle.std.proofs.Common.{◌≡◌, ◌+◌, ◌++◌, drop}
-use Rattle.scope_check.specs.Order.{first_of}
+use Rattle.scope_check.specs.inside.Order.{first_of}
 use Rattle.scope_check.specs.Blocks.{sites_of, scopes_in_defs}
-use Rattle.scope_check.specs.Twin.{site_terms_in, level_uses_in}
+use Rattle.scope_check.specs.inside.Twin.{site_terms_in, level_uses_in}
 use Rattle.scope_check.proofs.translate.sites.Given as goal
 
 abbrev pub invariant-loop-tree : goal.invariant-loop-tree

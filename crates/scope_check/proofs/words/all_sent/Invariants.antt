@@ -1,6 +1,6 @@
 use Rattle.std.proofs.Common.{◌≡◌, ◌++◌, drop}
-use Rattle.scope_check.specs.Order.{first_of}
-use Rattle.scope_check.specs.Twin.{refs_in, sent_in}
+use Rattle.scope_check.specs.inside.Order.{first_of}
+use Rattle.scope_check.specs.inside.Twin.{refs_in, sent_in}
 use Rattle.scope_check.proofs.words.all_sent.Given as goal
 
 abbrev pub invariant-loop-word : goal.invariant-loop-word

@@ -1,5 +1,5 @@
 use Rattle.std.proofs.Common.{◌≡◌, ◌++◌, drop}
-use Rattle.scope_check.specs.Twin.{binders_in}
+use Rattle.scope_check.specs.inside.Twin.{binders_in}
 use Rattle.scope_check.proofs.words.binders_of.Given as goal
 
 abbrev pub invariant-loop-word : goal.invariant-loop-word

@@ -1,5 +1,5 @@
 use Rattle.std.proofs.Common.{◌≡◌, ◌++◌, drop}
-use Rattle.scope_check.specs.Twin.{pats_in}
+use Rattle.scope_check.specs.inside.Twin.{pats_in}
 use Rattle.scope_check.proofs.words.patterns_of.Given as goal
 
 abbrev pub invariant-loop-pat : goal.invariant-loop-pat

@@ -1,6 +1,6 @@
 -- Each field may be shared.
 use denote.Param.Send.{sendable}
-use Rattle.shared_net.specs.Crosses.{PartsAreShared}
+use Rattle.shared_net.specs.inside.Crosses.{PartsAreShared}
 use Rattle.shared_net.proofs.Sharing.{all_shared}
 use Rattle.shared_net.proofs.crossing.parts_are_shared.Goals as goal
 

@@ -1,6 +1,6 @@
 use Rattle.std.proofs.Common.{Some}
 use Rattle.shared_net.specs.declared.receipt.Receipt.{Receipt}
-use Rattle.shared_net.specs.Walk.{IsStale, Looks}
+use Rattle.shared_net.specs.inside.Walk.{IsStale, Looks}
 use Rattle.shared_net.proofs.Members.{OneOf-at}
 use Rattle.shared_net.proofs.inside.look_all.Goals as goal
 

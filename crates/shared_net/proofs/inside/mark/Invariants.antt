@@ -1,6 +1,6 @@
 use Rattle.std.proofs.Common.{◌≡◌, ℕ, ◌<◌, cond, drop, length, Some}
 use Rattle.chem_model.specs.Each.{Each}
-use Rattle.shared_net.specs.Walk.{slot_at, has_place}
+use Rattle.shared_net.specs.inside.Walk.{slot_at, has_place}
 use Rattle.shared_net.proofs.inside.mark.Given as goal
 
 abbrev pub invariant-loop-receipt : goal.invariant-loop-receipt

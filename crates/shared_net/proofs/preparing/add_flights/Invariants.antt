@@ -1,5 +1,5 @@
 use Rattle.std.proofs.Common.{◌≡◌, drop}
-use Rattle.shared_net.specs.Beginning.{with_flights}
+use Rattle.shared_net.specs.inside.Beginning.{with_flights}
 use Rattle.shared_net.proofs.preparing.add_flights.Given as goal
 
 abbrev pub invariant-loop-flight : goal.invariant-loop-flight

@@ -3,7 +3,7 @@ use Rattle.chem_model.specs.declared.name.Loc.{Loc}
 use Rattle.env_store.specs.CodeParts.{CodeParts}
 use Rattle.code_run.proofs.Runs.{drop_past}
 use Rattle.net_laws.specs.Opened.{with_tops}
-use Rattle.shared_net.specs.Beginning.{bare}
+use Rattle.shared_net.specs.inside.Beginning.{bare}
 use Rattle.shared_net.proofs.preparing.first_tree.Goals as goal
 
 pub returns : goal.returns

@@ -3,7 +3,7 @@ use Rattle.chem_model.specs.Each.{Each}
 use Rattle.chem_model.specs.declared.name.Loc.{Loc}
 use Rattle.loc_tree.specs.Tree.{unmarked_roots}
 use Rattle.net_laws.specs.Opened.{with_tops}
-use Rattle.shared_net.specs.Beginning.{bare}
+use Rattle.shared_net.specs.inside.Beginning.{bare}
 use Rattle.shared_net.proofs.preparing.first_tree.Given as goal
 
 abbrev pub invariant-loop-loc : goal.invariant-loop-loc

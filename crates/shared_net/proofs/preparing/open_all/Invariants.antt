@@ -1,4 +1,4 @@
-use Rattle.shared_net.specs.Beginning.{IsUpTo}
+use Rattle.shared_net.specs.inside.Beginning.{IsUpTo}
 use Rattle.shared_net.proofs.preparing.open_all.Given as goal
 
 abbrev pub invariant-loop-number : goal.invariant-loop-number

@@ -6,7 +6,7 @@ use Rattle.wire_packet.specs.declared.packet.Flight.{Flight}
 use Rattle.loc_tree.specs.Tree.{Tree, with_room}
 use Rattle.net_laws.specs.Net.{with_births}
 use Rattle.net_laws.specs.Opened.{AreNew}
-use Rattle.shared_net.specs.Beginning.{with_flights}
+use Rattle.shared_net.specs.inside.Beginning.{with_flights}
 use Rattle.shared_net.proofs.Opening.{get_some, births_first, opened_next}
 use Rattle.shared_net.proofs.preparing.open_site.Goals as goal
 

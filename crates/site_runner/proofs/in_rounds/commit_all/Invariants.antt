@@ -1,5 +1,5 @@
 use Rattle.std.proofs.Common.{◌≡◌, drop, take}
-use Rattle.site_runner.specs.RoundParts.{CanFollow, and_then}
+use Rattle.site_runner.specs.inside.RoundParts.{CanFollow, and_then}
 use Rattle.site_runner.proofs.in_rounds.commit_all.Given as goal
 
 abbrev pub invariant-loop-event : goal.invariant-loop-event

@@ -4,7 +4,7 @@ use Rattle.chem_model.specs.Each.{Each}
 use Rattle.net_core.specs.declared.choice.Choice.{Choice}
 use Rattle.net_core.specs.Asking.{asks, requests_of}
 use Rattle.net_core.specs.Scheduling.{Meets, Forbids}
-use Rattle.site_runner.specs.RoundParts.{MeetsRequest}
+use Rattle.site_runner.specs.inside.RoundParts.{MeetsRequest}
 use Rattle.site_runner.proofs.Rounding.{turn_at, turn_at_within, turns_spent, turns_over, each_at, none_after, are_requests}
 use Rattle.site_runner.proofs.in_rounds.meet_all.Goals as goal
 

@@ -1,7 +1,7 @@
 -- What the sites did can be committed, and then book and network stand for one solution again.
 use Rattle.std.proofs.Common.{◌≡◌, ◌∙◌, ◌-◌, ◌/◌, ◌<◌, ap, sym, subst, length, ℕ}
 use Rattle.std.specs.Prelude.{min}
-use Rattle.site_runner.specs.RoundParts.{CanFollow, and_then}
+use Rattle.site_runner.specs.inside.RoundParts.{CanFollow, and_then}
 use Rattle.site_runner.proofs.Rounding.{some_sites, round_joins, work_follows, work_one}
 use Rattle.site_runner.proofs.in_rounds.one_round.Goals as goal
 

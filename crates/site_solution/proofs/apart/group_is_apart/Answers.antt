@@ -4,7 +4,7 @@ use Rattle.std.specs.List.{list_all}
 use Rattle.chem_model.specs.Solution.{same_loc}
 use Rattle.queue_cells.specs.Grouped.{lists_at}
 use Rattle.net_laws.specs.Site.{Told}
-use Rattle.site_solution.specs.Parted.{message_apart}
+use Rattle.site_solution.specs.inside.Parted.{message_apart}
 use Rattle.site_solution.proofs.Parting.{group-parted}
 use Rattle.site_solution.proofs.apart.group_is_apart.Goals as goal
 

@@ -1,11 +1,11 @@
 use Rattle.std.proofs.Common.{◌≡◌, ◌≤◌, ◌+◌, ◌∙◌, true, false, length, drop, sym, ap, arith}
 use Rattle.std.specs.Prelude.{◌&&◌}
 use Rattle.std.specs.List.{list_all}
-use Rattle.site_solution.specs.Index.{told_of}
+use Rattle.site_solution.specs.inside.Index.{told_of}
 use Rattle.site_solution.proofs.Queueing.{told-at}
 use Rattle.site_solution.proofs.Putting.{told-many}
 use Rattle.site_solution.proofs.Walked.{all-more, drop-past}
-use Rattle.site_solution.specs.Parted.{told_parted}
+use Rattle.site_solution.specs.inside.Parted.{told_parted}
 use Rattle.site_solution.proofs.apart.groups_are_apart.Goals as goal
 
 pub returns-then-not-told_is_apart : goal.returns-then-not-told_is_apart

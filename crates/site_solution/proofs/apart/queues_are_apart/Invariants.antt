@@ -1,6 +1,6 @@
 use Rattle.std.proofs.Common.{◌≡◌, drop}
 use Rattle.std.specs.List.{list_all}
-use Rattle.site_solution.specs.Parted.{message_apart}
+use Rattle.site_solution.specs.inside.Parted.{message_apart}
 use Rattle.queue_cells.specs.Grouped.{lists_at}
 use Rattle.site_solution.proofs.apart.queues_are_apart.Given as goal
 

@@ -1,6 +1,6 @@
 use Rattle.std.proofs.Common.{◌≡◌, drop}
 use Rattle.std.specs.List.{list_all}
-use Rattle.site_solution.specs.Parted.{request_parted}
+use Rattle.site_solution.specs.inside.Parted.{request_parted}
 use Rattle.site_solution.proofs.apart.requests_are_apart.Given as goal
 
 abbrev pub invariant-loop-request : goal.invariant-loop-request

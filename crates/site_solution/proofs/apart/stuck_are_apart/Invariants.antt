@@ -1,6 +1,6 @@
 use Rattle.std.proofs.Common.{◌≡◌, drop}
 use Rattle.std.specs.List.{list_all}
-use Rattle.site_solution.specs.Parted.{stuck_parted}
+use Rattle.site_solution.specs.inside.Parted.{stuck_parted}
 use Rattle.site_solution.proofs.apart.stuck_are_apart.Given as goal
 
 abbrev pub invariant-loop-waiting : goal.invariant-loop-waiting

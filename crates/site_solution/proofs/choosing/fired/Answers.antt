@@ -6,9 +6,9 @@ use Rattle.env_store.specs.declared.code.Guard.{Guard}
 use Rattle.loc_tree.specs.Tree.{is_alive}
 use Rattle.queue_cells.specs.Grouped.{lists_at, AllHeld}
 use Rattle.net_laws.specs.Site.{Group}
-use Rattle.site_solution.specs.Covered.{Key}
-use Rattle.site_solution.specs.Fired.{IsGuardOf, NothingFiredBy}
-use Rattle.site_solution.specs.Index.{groups_of, Rise}
+use Rattle.site_solution.specs.inside.Covered.{Key}
+use Rattle.site_solution.specs.inside.Fired.{IsGuardOf, NothingFiredBy}
+use Rattle.site_solution.specs.inside.Index.{groups_of, Rise}
 use Rattle.site_solution.proofs.Queueing.{group-at, groups-many}
 use Rattle.site_solution.proofs.Noting.{not-both}
 use Rattle.site_solution.proofs.Firing.{some-get, no-guard, picked-by, fired-by, not-fired}

@@ -1,6 +1,6 @@
 use Rattle.std.proofs.Common.{List, subst}
-use Rattle.site_solution.specs.Index.{groups_of}
-use Rattle.site_solution.specs.Covered.{Key}
+use Rattle.site_solution.specs.inside.Index.{groups_of}
+use Rattle.site_solution.specs.inside.Covered.{Key}
 use Rattle.site_solution.proofs.Firing.{AreLeft, one-passed, none-left, first-found}
 use Rattle.site_solution.proofs.choosing.first_fired.Goals as goal
 

@@ -1,4 +1,4 @@
-use Rattle.site_solution.specs.Index.{groups_of}
+use Rattle.site_solution.specs.inside.Index.{groups_of}
 use Rattle.site_solution.proofs.Firing.{AreLeft}
 use Rattle.site_solution.proofs.choosing.first_fired.Given as goal
 

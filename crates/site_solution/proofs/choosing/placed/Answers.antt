@@ -1,7 +1,7 @@
 use Rattle.std.proofs.Common.{◌≡◌, Some, length, refl, sym, ap, ◌∙◌, arith}
 use Rattle.std.specs.Prelude.{slice_get}
 use Rattle.std.proofs.lemmas.Option.{slice_get_read, slice_get_within}
-use Rattle.site_solution.specs.Index.{place_of}
+use Rattle.site_solution.specs.inside.Index.{place_of}
 use Rattle.site_solution.proofs.Noting.{some-is, placed-at}
 use Rattle.site_solution.proofs.choosing.placed.Goals as goal
 

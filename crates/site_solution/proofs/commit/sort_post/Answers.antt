@@ -8,7 +8,7 @@ use Rattle.net_laws.proofs.Posting.{among_append}
 use Rattle.code_run.specs.declared.made.Post.{Post}
 use Rattle.code_run.specs.Posts.{posted}
 use Rattle.site_solution.specs.Answers.{IsFlightOf}
-use Rattle.site_solution.specs.Leave.{Sorting}
+use Rattle.site_solution.specs.inside.Leave.{Sorting}
 use Rattle.site_solution.proofs.Sorting.{sort-waits, sort-away}
 use Rattle.site_solution.proofs.commit.sort_post.Goals.{then-has, else-has}
 use Rattle.site_solution.proofs.commit.sort_post.Goals as goal

@@ -1,7 +1,7 @@
 use Rattle.std.proofs.Common.{◌≡◌, ◌+◌, List, [], ◌++◌, get_or, drop, subst, ap, arith}
 use Rattle.code_run.specs.declared.made.Post.{Post}
 use Rattle.code_run.specs.Posts.{all_posted}
-use Rattle.site_solution.specs.Leave.{Sorting}
+use Rattle.site_solution.specs.inside.Leave.{Sorting}
 use Rattle.site_solution.proofs.Ranks.{slice_get-read}
 use Rattle.site_solution.proofs.Asking.{drop-get}
 use Rattle.site_solution.proofs.Walked.{drop-past}

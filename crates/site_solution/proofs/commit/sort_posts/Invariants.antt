@@ -1,6 +1,6 @@
 use Rattle.std.proofs.Common.{◌++◌, drop}
 use Rattle.code_run.specs.Posts.{all_posted}
-use Rattle.site_solution.specs.Leave.{Sorting}
+use Rattle.site_solution.specs.inside.Leave.{Sorting}
 use Rattle.site_solution.proofs.commit.sort_posts.Given as goal
 
 abbrev pub invariant-loop-post : goal.invariant-loop-post

@@ -1,5 +1,5 @@
 use Rattle.std.proofs.Common.{sym, subst}
-use Rattle.site_solution.specs.Covered.{Levels, KeepsLevels}
+use Rattle.site_solution.specs.inside.Covered.{Levels, KeepsLevels}
 use Rattle.site_solution.proofs.Noting.{level-set}
 use Rattle.site_solution.proofs.covering.add_level.Goals as goal
 

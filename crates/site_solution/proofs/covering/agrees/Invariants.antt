@@ -1,4 +1,4 @@
-use Rattle.site_solution.specs.Covered.{AgreesBelow}
+use Rattle.site_solution.proofs.CoveredBelow.{AgreesBelow}
 use Rattle.site_solution.proofs.covering.agrees.Given as goal
 
 abbrev pub invariant-loop-number : goal.invariant-loop-number

@@ -1,4 +1,4 @@
-use Rattle.site_solution.specs.Covered.{AreMasksBelow}
+use Rattle.site_solution.specs.inside.Covered.{AreMasksBelow}
 use Rattle.site_solution.proofs.covering.are_masks_of.Given as goal
 
 abbrev pub invariant-loop-place : goal.invariant-loop-place

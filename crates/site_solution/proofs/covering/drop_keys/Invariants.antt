@@ -1,4 +1,4 @@
-use Rattle.site_solution.specs.Covered.{KeepsOthers}
+use Rattle.site_solution.specs.inside.Covered.{KeepsOthers}
 use Rattle.site_solution.proofs.covering.drop_keys.Given as goal
 
 abbrev pub invariant-loop-place : goal.invariant-loop-place

@@ -1,5 +1,5 @@
-use Rattle.site_solution.specs.Index.{groups_of}
-use Rattle.site_solution.specs.Covered.{IsCoveringAway}
+use Rattle.site_solution.specs.inside.Index.{groups_of}
+use Rattle.site_solution.specs.inside.Covered.{IsCoveringAway}
 use Rattle.site_solution.proofs.covering.forget_keys.Given as goal
 
 abbrev pub invariant-loop-group : goal.invariant-loop-group

@@ -1,5 +1,5 @@
 use Rattle.std.proofs.Common.{sym, subst}
-use Rattle.site_solution.specs.Covered.{Levels, SameLevels}
+use Rattle.site_solution.specs.inside.Covered.{Levels, SameLevels}
 use Rattle.site_solution.proofs.Noting.{levels-more}
 use Rattle.site_solution.proofs.covering.grow.Goals as goal
 

@@ -1,4 +1,4 @@
-use Rattle.site_solution.specs.Covered.{SameLevels}
+use Rattle.site_solution.specs.inside.Covered.{SameLevels}
 use Rattle.site_solution.proofs.covering.grow.Given as goal
 
 abbrev pub invariant-loop-at : goal.invariant-loop-at

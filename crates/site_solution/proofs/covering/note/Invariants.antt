@@ -1,5 +1,6 @@
 use Rattle.queue_cells.specs.Grouped.{lists_at}
-use Rattle.site_solution.specs.Covered.{NotedBelow, KeepsOthers}
+use Rattle.site_solution.proofs.CoveredBelow.{NotedBelow}
+use Rattle.site_solution.specs.inside.Covered.{KeepsOthers}
 use Rattle.site_solution.proofs.covering.note.Given as goal
 
 abbrev pub invariant-loop-place : goal.invariant-loop-place

@@ -2,8 +2,8 @@ use Rattle.std.proofs.Common.{◌≡◌, true, false, Some, sym, ap, subst, ◌�
 use Rattle.std.specs.Prelude.{slice_get}
 use Rattle.std.proofs.lemmas.Option.{slice_get_read}
 use Rattle.net_laws.specs.Site.{Group}
-use Rattle.site_solution.specs.Index.{groups_of}
-use Rattle.site_solution.specs.Covered.{Levels, AreIndexed, IsIndexed}
+use Rattle.site_solution.specs.inside.Index.{groups_of}
+use Rattle.site_solution.specs.inside.Covered.{Levels, AreIndexed, IsIndexed}
 use Rattle.site_solution.proofs.Queueing.{groups-many}
 use Rattle.site_solution.proofs.Noting.{all-but, refreshed, not-both}
 use Rattle.site_solution.proofs.covering.refresh.Goals as goal

@@ -3,7 +3,7 @@ use Rattle.std.specs.Prelude.{slice_get}
 use Rattle.std.proofs.lemmas.Option.{slice_get_read}
 use Rattle.queue_cells.specs.Grouped.{lists_at}
 use Rattle.net_laws.specs.Site.{Told}
-use Rattle.site_solution.specs.Covered.{AreNoted}
+use Rattle.site_solution.specs.inside.Covered.{AreNoted}
 use Rattle.site_solution.proofs.Noting.{indexed-at}
 use Rattle.site_solution.proofs.covering.renote.Goals as goal
 

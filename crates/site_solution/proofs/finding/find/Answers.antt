@@ -1,7 +1,7 @@
 use Rattle.std.proofs.Common.{◌≡◌, ◌<◌, ℕ, List, Some, None, rules, sym, ◌∙◌, ap, subst, length}
 use Rattle.std.specs.Prelude.{slice_get}
 use Rattle.queue_cells.specs.Grouped.{lists_at}
-use Rattle.site_solution.specs.Index.{on_count, Rise, place_of}
+use Rattle.site_solution.specs.inside.Index.{on_count, Rise, place_of}
 use Rattle.site_solution.proofs.Queueing.{found-group, spot-is, spot-none}
 use Rattle.site_solution.proofs.finding.find.Goals as goal
 

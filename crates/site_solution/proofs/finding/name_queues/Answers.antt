@@ -1,7 +1,7 @@
 use Rattle.std.proofs.Common.{◌<◌, arith}
 use Rattle.std.specs.HashMap as hash
 use Rattle.std.specs.HashMap.{spare}
-use Rattle.site_solution.specs.Index.{same_key, key_of}
+use Rattle.site_solution.specs.inside.Index.{same_key, key_of}
 use Rattle.site_solution.proofs.Naming.{named-more, from_ok}
 use Rattle.site_solution.proofs.finding.name_queues.Goals as goal
 

@@ -2,7 +2,7 @@ use Rattle.std.proofs.Common.{◌≡◌, ℕ, ◌+◌, ◌-◌, ◌≤◌, cond,
 use Rattle.std.specs.HashMap as hash
 use Rattle.std.specs.HashMap.{spare}
 use Rattle.chem_model.specs.declared.name.Loc.{Loc}
-use Rattle.site_solution.specs.Index.{same_key, key_of, is_one_of}
+use Rattle.site_solution.specs.inside.Index.{same_key, key_of, is_one_of}
 use Rattle.site_solution.proofs.finding.name_queues.Given as goal
 
 abbrev pub invariant-loop-chan : goal.invariant-loop-chan

@@ -1,5 +1,5 @@
 use Rattle.std.proofs.Common.{◌≤◌, ◌-◌, length}
-use Rattle.site_solution.specs.Index.{place_of}
+use Rattle.site_solution.specs.inside.Index.{place_of}
 use Rattle.site_solution.proofs.finding.place_of.Given as goal
 
 abbrev pub invariant-loop-low : goal.invariant-loop-low

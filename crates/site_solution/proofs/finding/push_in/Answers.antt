@@ -1,6 +1,6 @@
 use Rattle.std.proofs.Common.{ℕ, ◌∷◌, ◌++◌, [], length, subst, sym, ap, ◌∙◌}
 use Rattle.queue_cells.specs.Grouped.{queue_in}
-use Rattle.site_solution.specs.Covered.{HasSerials}
+use Rattle.site_solution.specs.inside.Covered.{HasSerials}
 use Rattle.site_solution.proofs.Noting.{with-queue-many, queue-covering}
 use Rattle.site_solution.proofs.finding.push_in.Goals as goal
 

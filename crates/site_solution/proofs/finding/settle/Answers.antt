@@ -1,7 +1,7 @@
 use Rattle.std.proofs.Common.{◌≡◌, sym, ◌∙◌, ap, subst, length, Some, None, ◌∷◌, arith, rules}
 use Rattle.std.specs.Vec.Iter.{into_iter_items}
 use Rattle.net_laws.specs.Holding.{put_all}
-use Rattle.site_solution.specs.Index.{Rows, spot_of, told_of, groups_of, holding, IsIndex}
+use Rattle.site_solution.specs.inside.Index.{Rows, spot_of, told_of, groups_of, holding, IsIndex}
 use Rattle.site_solution.proofs.Queueing.{taken, not_taken}
 use Rattle.site_solution.proofs.Putting.{with-last-many}
 use Rattle.site_solution.proofs.Putting.{put-queued, put-stuck, first-put}

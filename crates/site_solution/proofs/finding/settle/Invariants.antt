@@ -3,8 +3,8 @@ use Rattle.std.specs.Prelude.{vec_capacity}
 use Rattle.std.specs.Vec.Iter.{into_iter_items}
 use Rattle.net_laws.specs.Site.{Site}
 use Rattle.net_laws.specs.Holding.{put_all}
-use Rattle.site_solution.specs.Index.{holding, groups_of, IsIndex}
-use Rattle.site_solution.specs.Covered.{IsCovering}
+use Rattle.site_solution.specs.inside.Index.{holding, groups_of, IsIndex}
+use Rattle.site_solution.specs.inside.Covered.{IsCovering}
 use Rattle.site_solution.proofs.finding.settle.Given as goal
 
 abbrev pub invariant-loop-one : goal.invariant-loop-one

@@ -1,6 +1,6 @@
 use Rattle.std.proofs.Common.{◌≡◌, ◌≤◌, length}
-use Rattle.site_solution.specs.Index.{told_of}
-use Rattle.site_solution.specs.Forgotten.{serials_but}
+use Rattle.site_solution.specs.inside.Index.{told_of}
+use Rattle.site_solution.specs.inside.Forgotten.{serials_but}
 use Rattle.site_solution.proofs.Left.{closing}
 use Rattle.site_solution.proofs.forgetting.close_up.Given as goal
 

@@ -1,8 +1,8 @@
 use Rattle.std.proofs.Common.{◌∙◌, ℕ, length, sym, ap, subst}
 use Rattle.std.specs.Prelude.{Vec}
 use Rattle.std.specs.declared.alloc.Global.{Global}
-use Rattle.site_solution.specs.Index.{groups_of, told_of, IsIndex}
-use Rattle.site_solution.specs.Forgotten.{serials_but}
+use Rattle.site_solution.specs.inside.Index.{groups_of, told_of, IsIndex}
+use Rattle.site_solution.specs.inside.Forgotten.{serials_but}
 use Rattle.site_solution.proofs.Queueing.{groups-many}
 use Rattle.site_solution.proofs.Left.{groups-left, index-left}
 use Rattle.site_solution.proofs.Noting.{serials-known, left-covering}

@@ -2,7 +2,7 @@ use Rattle.std.proofs.Common.{◌∙◌, arith}
 use Rattle.std.specs.HashMap as hash
 use Rattle.net_laws.proofs.Holds.{each_get}
 use Rattle.site_solution.specs.CanLay.{HasNumbers}
-use Rattle.site_solution.specs.Index.{same_key, key_of, told_of}
+use Rattle.site_solution.specs.inside.Index.{same_key, key_of, told_of}
 use Rattle.site_solution.proofs.Queueing.{told-at}
 use Rattle.site_solution.proofs.Left.{forgotten-next, forgotten-all}
 use Rattle.site_solution.proofs.forgetting.forget_groups.Goals as goal

@@ -3,8 +3,8 @@ use Rattle.std.specs.Prelude.{◌&&◌}
 use Rattle.std.specs.HashMap as hash
 use Rattle.chem_model.specs.declared.name.Loc.{Loc}
 use Rattle.chem_model.specs.Solution.{same_loc}
-use Rattle.site_solution.specs.Index.{same_key, key_of, told_of}
-use Rattle.site_solution.specs.Forgotten.{has_any}
+use Rattle.site_solution.specs.inside.Index.{same_key, key_of, told_of}
+use Rattle.site_solution.specs.inside.Forgotten.{has_any}
 use Rattle.site_solution.proofs.forgetting.forget_groups.Given as goal
 
 abbrev pub invariant-loop-group : goal.invariant-loop-group

@@ -1,6 +1,6 @@
 use Rattle.std.proofs.Common.{refl}
 use Rattle.std.specs.HashMap as hash
-use Rattle.site_solution.specs.Index.{same_key, key_of}
+use Rattle.site_solution.specs.inside.Index.{same_key, key_of}
 use Rattle.site_solution.proofs.Left.{none-forgotten, one-forgotten}
 use Rattle.site_solution.proofs.forgetting.forget_queues.Goals as goal
 

@@ -4,8 +4,8 @@ use Rattle.chem_model.specs.Each.{Each}
 use Rattle.net_laws.specs.Kept.{AreApart}
 use Rattle.site_solution.specs.declared.told.NewGroup.{NewGroup}
 use Rattle.site_solution.specs.CanLay.{HasNumbers}
-use Rattle.site_solution.specs.Index.{told_of, groups_of, new_groups, HasRoom}
-use Rattle.site_solution.specs.New.{told_of_new, widths, IsNewGroup}
+use Rattle.site_solution.specs.inside.Index.{told_of, groups_of, new_groups, HasRoom}
+use Rattle.site_solution.specs.inside.New.{told_of_new, widths, IsNewGroup}
 use Rattle.site_solution.proofs.LaidAll.{apart-first}
 use Rattle.site_solution.proofs.Laying.{groups-next, apart-of-next, room-next}
 use Rattle.site_solution.proofs.more.add_groups.Goals as goal

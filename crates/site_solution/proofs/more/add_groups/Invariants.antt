@@ -3,9 +3,9 @@ use Rattle.std.specs.Vec.Iter.{into_iter_items}
 use Rattle.chem_model.specs.Each.{Each}
 use Rattle.net_laws.specs.Kept.{AreApart}
 use Rattle.site_solution.specs.CanLay.{HasNumbers}
-use Rattle.site_solution.specs.Index.{groups_of, told_of, new_groups, IsIndex, HasRoom}
-use Rattle.site_solution.specs.New.{told_of_new, widths, IsNewGroup}
-use Rattle.site_solution.specs.Covered.{IsCovering}
+use Rattle.site_solution.specs.inside.Index.{groups_of, told_of, new_groups, IsIndex, HasRoom}
+use Rattle.site_solution.specs.inside.New.{told_of_new, widths, IsNewGroup}
+use Rattle.site_solution.specs.inside.Covered.{IsCovering}
 use Rattle.site_solution.proofs.more.add_groups.Given as goal
 
 abbrev pub invariant-loop-group : goal.invariant-loop-group

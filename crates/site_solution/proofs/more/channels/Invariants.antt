@@ -1,5 +1,5 @@
 use Rattle.std.proofs.Common.{◌≡◌, ◌+◌, drop}
-use Rattle.site_solution.specs.New.{widths}
+use Rattle.site_solution.specs.inside.New.{widths}
 use Rattle.site_solution.proofs.more.channels.Given as goal
 
 abbrev pub invariant-loop-group : goal.invariant-loop-group

@@ -5,7 +5,7 @@ use Rattle.chem_laws.proofs.Lists.{Each-append}
 use Rattle.net_laws.specs.ByCode.{told_by}
 use Rattle.net_laws.specs.Parcels.{all_told}
 use Rattle.net_laws.specs.Site.{Told}
-use Rattle.site_solution.specs.New.{told_of_new, IsNewGroup}
+use Rattle.site_solution.specs.inside.New.{told_of_new, IsNewGroup}
 use Rattle.site_solution.proofs.Asking.{drop-get}
 use Rattle.site_solution.proofs.LaidAll.{append-one}
 use Rattle.site_solution.proofs.Laying.{told-new-more}

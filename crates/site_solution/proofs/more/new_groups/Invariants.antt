@@ -2,7 +2,7 @@ use Rattle.std.proofs.Common.{◌≡◌, ◌++◌, drop}
 use Rattle.chem_model.specs.Each.{Each}
 use Rattle.net_laws.specs.ByCode.{told_by}
 use Rattle.net_laws.specs.Parcels.{all_told}
-use Rattle.site_solution.specs.New.{told_of_new, IsNewGroup}
+use Rattle.site_solution.specs.inside.New.{told_of_new, IsNewGroup}
 use Rattle.site_solution.proofs.more.new_groups.Given as goal
 
 abbrev pub invariant-loop-inst : goal.invariant-loop-inst

@@ -1,10 +1,10 @@
 use Rattle.std.proofs.Common.{ℕ, subst, length, eqb-true, ◌≡◌, ◌+◌, [], drop, sym, ap, ◌∙◌, arith}
-use Rattle.site_solution.specs.Index.{groups_of}
-use Rattle.site_solution.specs.New.{gone_at}
+use Rattle.site_solution.specs.inside.Index.{groups_of}
+use Rattle.site_solution.specs.inside.New.{gone_at}
 use Rattle.site_solution.proofs.Asking.{drop-here}
 use Rattle.site_solution.proofs.Walked.{drop-past}
 use Rattle.site_solution.proofs.Fronts.{gone-more, gone-nothing}
-use Rattle.site_solution.specs.Covered.{HasSerials}
+use Rattle.site_solution.specs.inside.Covered.{HasSerials}
 use Rattle.site_solution.proofs.Noting.{fronts-covering}
 use Rattle.site_solution.proofs.more.take_fronts.Goals as goal
 

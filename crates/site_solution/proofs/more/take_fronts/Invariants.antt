@@ -1,6 +1,6 @@
 use Rattle.std.proofs.Common.{◌≡◌, ◌≤◌, length, drop}
-use Rattle.site_solution.specs.Index.{groups_of}
-use Rattle.site_solution.specs.New.{gone_at}
+use Rattle.site_solution.specs.inside.Index.{groups_of}
+use Rattle.site_solution.specs.inside.New.{gone_at}
 use Rattle.site_solution.proofs.more.take_fronts.Given as goal
 
 abbrev pub invariant-loop-chan : goal.invariant-loop-chan

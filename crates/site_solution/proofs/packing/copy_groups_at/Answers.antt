@@ -3,7 +3,7 @@ use Rattle.chem_model.specs.Solution.{same_loc}
 use Rattle.wire_packet.specs.declared.packet.GroupInst.{GroupInst}
 use Rattle.net_laws.specs.Site.{Told, told_in}
 use Rattle.net_laws.specs.Parcels.{groups_at, insts_in}
-use Rattle.site_solution.specs.Index.{groups_of}
+use Rattle.site_solution.specs.inside.Index.{groups_of}
 use Rattle.site_solution.proofs.Queueing.{group-at, groups-many}
 use Rattle.site_solution.proofs.Walked.{drop-past}
 use Rattle.site_solution.proofs.Copied.{stepped, ended, insts-next}

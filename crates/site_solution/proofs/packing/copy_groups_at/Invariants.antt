@@ -2,8 +2,8 @@ use Rattle.std.proofs.Common.{◌≡◌, ◌++◌, drop}
 use Rattle.chem_model.specs.Each.{Each}
 use Rattle.net_laws.specs.Site.{told_in}
 use Rattle.net_laws.specs.Parcels.{groups_at, insts_in}
-use Rattle.site_solution.specs.Index.{groups_of}
-use Rattle.site_solution.specs.Packed.{HasFewNames}
+use Rattle.site_solution.specs.inside.Index.{groups_of}
+use Rattle.site_solution.specs.inside.Packed.{HasFewNames}
 use Rattle.site_solution.proofs.packing.copy_groups_at.Given as goal
 
 abbrev pub invariant-loop-group : goal.invariant-loop-group

@@ -2,7 +2,7 @@ use Rattle.std.proofs.Common.{◌≡◌, ◌≤◌, ◌+◌, ◌∙◌, ◌++◌
 use Rattle.chem_model.specs.Solution.{same_loc}
 use Rattle.net_laws.specs.Site.{Told}
 use Rattle.net_laws.specs.Parcels.{groups_at, in_all_queues}
-use Rattle.site_solution.specs.Index.{groups_of}
+use Rattle.site_solution.specs.inside.Index.{groups_of}
 use Rattle.site_solution.proofs.Queueing.{group-at, groups-many}
 use Rattle.site_solution.proofs.Walked.{drop-past}
 use Rattle.site_solution.proofs.Copied.{ended, queued-in, queued-out}

@@ -1,6 +1,6 @@
 use Rattle.std.proofs.Common.{◌≡◌, ◌++◌, drop}
 use Rattle.net_laws.specs.Parcels.{groups_at, in_all_queues}
-use Rattle.site_solution.specs.Index.{groups_of}
+use Rattle.site_solution.specs.inside.Index.{groups_of}
 use Rattle.site_solution.proofs.packing.copy_queued.Given as goal
 
 abbrev pub invariant-loop-group : goal.invariant-loop-group

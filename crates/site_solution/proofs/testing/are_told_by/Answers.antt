@@ -1,7 +1,7 @@
 use Rattle.std.proofs.Common.{◌≡◌, ◌≤◌, ◌+◌, ◌∙◌, true, false, length, drop, sym, ap, arith}
 use Rattle.std.specs.Prelude.{◌&&◌}
 use Rattle.std.specs.List.{list_all}
-use Rattle.site_solution.specs.Index.{told_of}
+use Rattle.site_solution.specs.inside.Index.{told_of}
 use Rattle.site_solution.proofs.Queueing.{told-at}
 use Rattle.site_solution.proofs.Putting.{told-many}
 use Rattle.site_solution.proofs.Walked.{all-more, drop-past}

@@ -1,7 +1,7 @@
 use Rattle.std.proofs.Common.{◌≡◌, drop}
 use Rattle.std.specs.List.{list_all}
 use Rattle.site_solution.specs.Draws.{group_drawn}
-use Rattle.site_solution.specs.Index.{groups_of}
+use Rattle.site_solution.specs.inside.Index.{groups_of}
 use Rattle.site_solution.proofs.testing.groups_are_drawn.Given as goal
 
 abbrev pub invariant-loop-group : goal.invariant-loop-group

@@ -1,7 +1,7 @@
 use Rattle.std.proofs.Common.{◌≡◌, drop}
 use Rattle.std.specs.List.{list_all}
 use Rattle.site_solution.specs.Draws.{is_drawn}
-use Rattle.site_solution.specs.Hosted.{locs_of}
+use Rattle.site_solution.specs.inside.Hosted.{locs_of}
 use Rattle.chem_model.specs.declared.name.Loc.{Loc}
 use Rattle.site_solution.proofs.testing.locs_are_drawn.Given as goal
 

@@ -2,7 +2,7 @@ use Rattle.std.proofs.Common.{◌∙◌, sym, ap}
 use Rattle.std.specs.Prelude.{◌&&◌}
 use Rattle.net_laws.specs.Site.{Told}
 use Rattle.queue_cells.specs.Grouped.{lists_at}
-use Rattle.site_solution.specs.InTree.{queues_stand}
+use Rattle.site_solution.specs.inside.InTree.{queues_stand}
 use Rattle.site_solution.proofs.Walked.{group-read}
 use Rattle.site_solution.proofs.walking.group_is_there.Goals as goal
 

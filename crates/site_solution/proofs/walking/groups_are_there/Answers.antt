@@ -1,10 +1,10 @@
 use Rattle.std.proofs.Common.{◌≡◌, ◌<◌, ◌≤◌, ◌+◌, ◌∙◌, true, false, length, drop, sym, ap, arith}
 use Rattle.std.specs.Prelude.{◌&&◌}
 use Rattle.std.specs.List.{list_all}
-use Rattle.site_solution.specs.Index.{groups_of}
+use Rattle.site_solution.specs.inside.Index.{groups_of}
 use Rattle.site_solution.proofs.Queueing.{groups-many}
 use Rattle.site_solution.proofs.Walked.{there, all-more, drop-past}
-use Rattle.site_solution.specs.InTree.{group_stands}
+use Rattle.site_solution.specs.inside.InTree.{group_stands}
 use Rattle.site_solution.proofs.walking.groups_are_there.Goals as goal
 
 pub returns-then-not-group_is_there : goal.returns-then-not-group_is_there

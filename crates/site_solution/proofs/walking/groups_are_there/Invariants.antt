@@ -1,7 +1,7 @@
 use Rattle.std.proofs.Common.{◌≡◌, drop}
 use Rattle.std.specs.List.{list_all}
-use Rattle.site_solution.specs.InTree.{group_stands}
-use Rattle.site_solution.specs.Index.{groups_of}
+use Rattle.site_solution.specs.inside.InTree.{group_stands}
+use Rattle.site_solution.specs.inside.Index.{groups_of}
 use Rattle.site_solution.proofs.walking.groups_are_there.Given as goal
 
 abbrev pub invariant-loop-group : goal.invariant-loop-group

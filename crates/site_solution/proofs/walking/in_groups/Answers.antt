@@ -1,7 +1,7 @@
 use Rattle.std.proofs.Common.{◌≡◌, ◌<◌, ◌≤◌, ◌+◌, ◌∙◌, true, false, length, drop, sym, ap, arith}
 use Rattle.std.specs.Prelude.{◌||◌}
 use Rattle.net_laws.specs.Site.{Group}
-use Rattle.site_solution.specs.Index.{groups_of}
+use Rattle.site_solution.specs.inside.Index.{groups_of}
 use Rattle.site_solution.proofs.Queueing.{groups-many, queues-are}
 use Rattle.site_solution.proofs.Walked.{there, any-more, drop-past}
 use Rattle.site_solution.specs.Held.{in_queues, in_groups_of, queues_in}

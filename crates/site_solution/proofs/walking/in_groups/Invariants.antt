@@ -1,6 +1,6 @@
 use Rattle.std.proofs.Common.{◌≡◌, drop}
 use Rattle.site_solution.specs.Held.{in_groups_of}
-use Rattle.site_solution.specs.Index.{groups_of}
+use Rattle.site_solution.specs.inside.Index.{groups_of}
 use Rattle.site_solution.proofs.walking.in_groups.Given as goal
 
 abbrev pub invariant-loop-group : goal.invariant-loop-group

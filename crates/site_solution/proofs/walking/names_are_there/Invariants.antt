@@ -1,5 +1,5 @@
 use Rattle.std.proofs.Common.{◌≡◌, drop}
-use Rattle.site_solution.specs.InTree.{names_stand}
+use Rattle.site_solution.specs.inside.InTree.{names_stand}
 use Rattle.site_solution.proofs.walking.names_are_there.Given as goal
 
 abbrev pub invariant-loop-name : goal.invariant-loop-name

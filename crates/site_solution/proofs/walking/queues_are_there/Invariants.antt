@@ -1,5 +1,5 @@
 use Rattle.std.proofs.Common.{◌≡◌, drop}
-use Rattle.site_solution.specs.InTree.{queues_stand}
+use Rattle.site_solution.specs.inside.InTree.{queues_stand}
 use Rattle.queue_cells.specs.Grouped.{lists_at}
 use Rattle.site_solution.proofs.walking.queues_are_there.Given as goal
 

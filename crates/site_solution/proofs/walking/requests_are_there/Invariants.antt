@@ -1,6 +1,6 @@
 use Rattle.std.proofs.Common.{◌≡◌, drop}
 use Rattle.std.specs.List.{list_all}
-use Rattle.site_solution.specs.InTree.{request_stands}
+use Rattle.site_solution.specs.inside.InTree.{request_stands}
 use Rattle.site_solution.proofs.walking.requests_are_there.Given as goal
 
 abbrev pub invariant-loop-request : goal.invariant-loop-request

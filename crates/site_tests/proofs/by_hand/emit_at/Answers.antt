@@ -1,6 +1,7 @@
 use Rattle.std.proofs.Common.{◌≡◌, ◌≤◌, true, length, rules}
 use Rattle.std.specs.Prelude.{◌&&◌}
-use Rattle.site_solution.specs.InTree.{name_stands, names_stand, is_in_tree}
+use Rattle.site_solution.specs.InTree.{name_stands, is_in_tree}
+use Rattle.site_solution.specs.inside.InTree.{names_stand}
 use Rattle.site_tests.proofs.Needs.{can_emit}
 use Rattle.site_tests.proofs.by_hand.emit_at.Goals as goal
 

@@ -1,5 +1,5 @@
 use Rattle.std.proofs.Common.{◌≡◌, take, true}
-use Rattle.trace_history.specs.Heard.{are_told}
+use Rattle.trace_history.specs.inside.Heard.{are_told}
 use Rattle.trace_history.proofs.heard.hear_all.Given as goal
 
 abbrev pub invariant-loop-atom : goal.invariant-loop-atom

@@ -1,7 +1,7 @@
 use Rattle.std.proofs.Common.{◌≡◌, ◌%◌, ◌⊎◌, get_or, true}
-use Rattle.trace_history.specs.Heard.{Grows}
-use Rattle.trace_history.specs.Search.{IsIn}
-use Rattle.trace_history.specs.Older.{Key}
+use Rattle.trace_history.specs.inside.Heard.{Grows}
+use Rattle.trace_history.specs.inside.Search.{IsIn}
+use Rattle.trace_history.specs.inside.Older.{Key}
 use Rattle.trace_history.proofs.heard.hear_older.Given as goal
 
 abbrev pub invariant-loop-key : goal.invariant-loop-key

@@ -1,5 +1,5 @@
 use Rattle.std.proofs.Common.{◌≡◌, drop}
-use Rattle.trace_history.specs.Heard.{may_be_met}
+use Rattle.trace_history.specs.inside.Heard.{may_be_met}
 use Rattle.trace_history.proofs.heard.may_be_met.Given as goal
 
 abbrev pub invariant-loop-pat : goal.invariant-loop-pat

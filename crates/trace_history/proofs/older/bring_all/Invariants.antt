@@ -1,7 +1,7 @@
 use Rattle.std.proofs.Common.{◌≡◌, None, take}
 use Rattle.chem_model.specs.Apply.{atom_at}
 use Rattle.chem_model.specs.Each.{Each}
-use Rattle.trace_history.specs.Older.{AreQueued, Keeps}
+use Rattle.trace_history.specs.inside.Older.{AreQueued, Keeps}
 use Rattle.trace_history.proofs.older.bring_all.Given as goal
 
 abbrev pub invariant-loop-id : goal.invariant-loop-id

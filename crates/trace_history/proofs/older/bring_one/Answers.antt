@@ -2,7 +2,7 @@
 use Rattle.std.proofs.Common.{List, [], ◌∷◌, ◌++◌, ap, sym, ◌∙◌, subst}
 use Rattle.chem_model.specs.declared.numbered.NumberedAtom.{NumberedAtom}
 use Rattle.chem_model.specs.Apply.{atom_at, without}
-use Rattle.trace_history.specs.Older.{AreQueued, Keeps}
+use Rattle.trace_history.specs.inside.Older.{AreQueued, Keeps}
 use Rattle.trace_history.proofs.AlikeLaws.{gone}
 use Rattle.trace_history.proofs.Apart.{brought, fewer, queued_taken, differ_front}
 use Rattle.trace_history.proofs.older.bring_one.Goals as goal

@@ -2,8 +2,8 @@
 use Rattle.std.proofs.Common.{◌≡◌, ◌+◌, ap, sym, ◌∙◌}
 use Rattle.std.specs.Option.{option_copied}
 use Rattle.std.specs.List.{filter}
-use Rattle.trace_history.specs.Walk.{walk}
-use Rattle.trace_history.specs.Older.{find_at}
+use Rattle.trace_history.specs.inside.Walk.{walk}
+use Rattle.trace_history.specs.inside.Older.{find_at}
 use Rattle.trace_history.proofs.Queued.{is_high, first_queued, none_queued, none_there}
 use Rattle.trace_history.proofs.older.first_older.Goals as goal
 

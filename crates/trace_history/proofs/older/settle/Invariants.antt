@@ -1,4 +1,4 @@
-use Rattle.trace_history.specs.Older.{AreQueued, Keeps}
+use Rattle.trace_history.specs.inside.Older.{AreQueued, Keeps}
 use Rattle.trace_history.proofs.older.settle.Given as goal
 
 abbrev pub decreases-loop-left : goal.decreases-loop-left

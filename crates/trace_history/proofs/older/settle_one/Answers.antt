@@ -2,9 +2,9 @@
 use Rattle.std.proofs.Common.{◌≡◌, List, [], ap, sym, ◌∙◌, subst}
 use Rattle.chem_model.specs.declared.numbered.NumberedAtom.{NumberedAtom}
 use Rattle.chem_model.specs.Apply.{atom_at}
-use Rattle.trace_history.specs.Search.{IsIn}
-use Rattle.trace_history.specs.Table.{Adds}
-use Rattle.trace_history.specs.Older.{Key, channel_of, AreQueued, Keeps}
+use Rattle.trace_history.specs.inside.Search.{IsIn}
+use Rattle.trace_history.specs.inside.Table.{Adds}
+use Rattle.trace_history.specs.inside.Older.{Key, channel_of, AreQueued, Keeps}
 use Rattle.trace_history.proofs.Apart.{new_there, settled, queued_more, queued_added}
 use Rattle.trace_history.proofs.older.settle_one.Goals as goal
 

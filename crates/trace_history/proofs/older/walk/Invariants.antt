@@ -1,6 +1,6 @@
 use Rattle.std.proofs.Common.{◌≡◌}
-use Rattle.trace_history.specs.Walk.{walk}
-use Rattle.trace_history.specs.Older.{find_at}
+use Rattle.trace_history.specs.inside.Walk.{walk}
+use Rattle.trace_history.specs.inside.Older.{find_at}
 use Rattle.trace_history.proofs.older.walk.Given as goal
 
 abbrev pub invariant-loop-key : goal.invariant-loop-key

@@ -1,7 +1,7 @@
 -- One rule more of the chain was looked at; a number that is no place ends it.
 use Rattle.std.proofs.Common.{◌≡◌, suc, ◌-◌, arith}
 use Rattle.std.specs.Option.{option_copied}
-use Rattle.trace_history.specs.Older.{whole}
+use Rattle.trace_history.specs.inside.Older.{whole}
 use Rattle.trace_history.proofs.Looked.{betters_along, walked_next, walked_past}
 use Rattle.trace_history.proofs.search.best_of_chain.Goals as goal
 

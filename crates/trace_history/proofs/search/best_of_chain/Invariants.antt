@@ -1,6 +1,6 @@
 use Rattle.std.specs.Option.{option_copied}
-use Rattle.trace_history.specs.Older.{whole}
-use Rattle.trace_history.specs.Waiting.{Betters}
+use Rattle.trace_history.specs.inside.Older.{whole}
+use Rattle.trace_history.specs.inside.Waiting.{Betters}
 use Rattle.trace_history.proofs.Looked.{IsWalked}
 use Rattle.trace_history.proofs.search.best_of_chain.Given as goal
 

@@ -1,8 +1,8 @@
 -- The rules that wait for one message more were looked at.
 use Rattle.std.proofs.Common.{◌≡◌, ℕ, length, ap, ◌∙◌, rules}
 use Rattle.std.specs.Option.{option_copied}
-use Rattle.trace_history.specs.Older.{whole}
-use Rattle.trace_history.specs.Waiting.{slot_of_term}
+use Rattle.trace_history.specs.inside.Older.{whole}
+use Rattle.trace_history.specs.inside.Waiting.{slot_of_term}
 use Rattle.trace_history.proofs.Looked.{next_so_far, newest_at_end}
 use Rattle.trace_history.proofs.search.best_of_newest.Goals as goal
 

@@ -1,8 +1,8 @@
 -- The rules that wait for one of the older messages were looked at.
 use Rattle.std.proofs.Common.{◌≡◌, ℕ, ◌%◌, length, Some, ap, ◌∙◌, subst, rules}
 use Rattle.std.specs.Option.{option_copied}
-use Rattle.trace_history.specs.Waiting.{IsSlotLookedAt}
-use Rattle.trace_history.specs.Older.{Key, whole}
+use Rattle.trace_history.specs.inside.Waiting.{IsSlotLookedAt}
+use Rattle.trace_history.specs.inside.Older.{Key, whole}
 use Rattle.trace_history.proofs.Looked.{betters_along, slot_kept}
 use Rattle.trace_history.proofs.Along.{one_along, all_along}
 use Rattle.trace_history.proofs.search.best_of_older.Goals as goal

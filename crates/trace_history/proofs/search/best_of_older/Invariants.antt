@@ -1,8 +1,8 @@
 use Rattle.std.proofs.Common.{◌%◌, ◌⊎◌, length, Some}
 use Rattle.std.specs.Option.{option_copied}
-use Rattle.trace_history.specs.Search.{IsIn}
-use Rattle.trace_history.specs.Waiting.{Betters, IsSlotLookedAt}
-use Rattle.trace_history.specs.Older.{Key, whole}
+use Rattle.trace_history.specs.inside.Search.{IsIn}
+use Rattle.trace_history.specs.inside.Waiting.{Betters, IsSlotLookedAt}
+use Rattle.trace_history.specs.inside.Older.{Key, whole}
 use Rattle.trace_history.proofs.search.best_of_older.Given as goal
 
 abbrev pub invariant-loop-key : goal.invariant-loop-key

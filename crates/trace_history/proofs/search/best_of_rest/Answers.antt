@@ -1,7 +1,7 @@
 -- One rule more was looked at.
 use Rattle.std.specs.Prelude.{None}
 use Rattle.std.specs.Option.{option_copied}
-use Rattle.trace_history.specs.Older.{whole}
+use Rattle.trace_history.specs.inside.Older.{whole}
 use Rattle.trace_history.proofs.Looked.{betters_along, rest_next}
 use Rattle.trace_history.proofs.search.best_of_rest.Goals as goal
 

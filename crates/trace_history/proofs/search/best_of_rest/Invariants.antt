@@ -1,8 +1,8 @@
 use Rattle.std.proofs.Common.{◌-◌}
 use Rattle.std.specs.Prelude.{None}
 use Rattle.std.specs.Option.{option_copied}
-use Rattle.trace_history.specs.Older.{whole}
-use Rattle.trace_history.specs.Waiting.{Betters}
+use Rattle.trace_history.specs.inside.Older.{whole}
+use Rattle.trace_history.specs.inside.Waiting.{Betters}
 use Rattle.trace_history.proofs.Looked.{IsRest}
 use Rattle.trace_history.proofs.search.best_of_rest.Given as goal
 

@@ -2,8 +2,8 @@
 use Rattle.std.proofs.Common.{List, sym, ◌∙◌, subst}
 use Rattle.std.specs.Option.{option_copied}
 use Rattle.chem_model.specs.declared.numbered.NumberedRule.{NumberedRule}
-use Rattle.trace_history.specs.Waiting.{IsAt}
-use Rattle.trace_history.specs.Older.{whole}
+use Rattle.trace_history.specs.inside.Waiting.{IsAt}
+use Rattle.trace_history.specs.inside.Older.{whole}
 use Rattle.trace_history.proofs.Looked.{taken_better}
 use Rattle.trace_history.proofs.search.better_at.Goals as goal
 

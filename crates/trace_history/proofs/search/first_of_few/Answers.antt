@@ -1,7 +1,7 @@
 -- All members were looked at.
 use Rattle.std.specs.Option.{option_copied}
-use Rattle.trace_history.specs.Search.{is_ready, rule_before}
-use Rattle.trace_history.specs.Older.{whole}
+use Rattle.trace_history.specs.inside.Search.{is_ready, rule_before}
+use Rattle.trace_history.specs.inside.Older.{whole}
 use Rattle.trace_history.proofs.FirstOf.{finds_at_end}
 use Rattle.trace_history.proofs.Founds.{rules_order}
 use Rattle.trace_history.proofs.search.first_of_few.Goals as goal

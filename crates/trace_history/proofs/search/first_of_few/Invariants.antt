@@ -1,8 +1,8 @@
 use Rattle.std.proofs.Common.{◌≡◌, drop}
 use Rattle.std.specs.Prelude.{None}
 use Rattle.std.specs.Option.{option_copied}
-use Rattle.trace_history.specs.Search.{first_of, is_ready, rule_before}
-use Rattle.trace_history.specs.Older.{whole}
+use Rattle.trace_history.specs.inside.Search.{first_of, is_ready, rule_before}
+use Rattle.trace_history.specs.inside.Older.{whole}
 use Rattle.trace_history.proofs.search.first_of_few.Given as goal
 
 abbrev pub invariant-loop-rule : goal.invariant-loop-rule

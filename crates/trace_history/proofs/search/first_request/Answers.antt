@@ -2,8 +2,8 @@
 use Rattle.std.proofs.Common.{List, ◌++◌, subst}
 use Rattle.std.specs.Option.{option_copied}
 use Rattle.chem_model.specs.declared.numbered.NumberedAtom.{NumberedAtom}
-use Rattle.trace_history.specs.Search.{IsFirstOf, can_act, request_before}
-use Rattle.trace_history.specs.Older.{whole}
+use Rattle.trace_history.specs.inside.Search.{IsFirstOf, can_act, request_before}
+use Rattle.trace_history.specs.inside.Older.{whole}
 use Rattle.trace_history.proofs.Joined.{request_joined}
 use Rattle.trace_history.proofs.search.first_request.Goals as goal
 

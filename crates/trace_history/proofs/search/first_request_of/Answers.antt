@@ -1,7 +1,7 @@
 -- All members were looked at.
 use Rattle.std.proofs.Common.{refl}
 use Rattle.std.specs.Option.{option_copied}
-use Rattle.trace_history.specs.Search.{can_act, request_before}
+use Rattle.trace_history.specs.inside.Search.{can_act, request_before}
 use Rattle.trace_history.proofs.FirstOf.{finds_at_end}
 use Rattle.trace_history.proofs.Founds.{requests_order}
 use Rattle.trace_history.proofs.search.first_request_of.Goals as goal

@@ -1,7 +1,7 @@
 -- The rules that wait for a message were looked at, and those that were not noted: these are all that may be ready.
 use Rattle.std.proofs.Common.{refl}
 use Rattle.std.specs.Option.{option_copied}
-use Rattle.trace_history.specs.Older.{whole}
+use Rattle.trace_history.specs.inside.Older.{whole}
 use Rattle.trace_history.proofs.Looked.{first_of_both}
 use Rattle.trace_history.proofs.search.first_waiting.Goals as goal
 

@@ -1,9 +1,9 @@
 -- A rule of which some channel has no message isn't ready.
 use Rattle.std.proofs.Common.{◌≡◌, false, rules}
 use Rattle.std.specs.Option.{option_copied}
-use Rattle.trace_history.specs.Heard.{may_be_met}
-use Rattle.trace_history.specs.Search.{beats, rule_before}
-use Rattle.trace_history.specs.Older.{whole}
+use Rattle.trace_history.specs.inside.Heard.{may_be_met}
+use Rattle.trace_history.specs.inside.Search.{beats, rule_before}
+use Rattle.trace_history.specs.inside.Older.{whole}
 use Rattle.trace_history.proofs.Hearing.{unheard}
 use Rattle.trace_history.proofs.search.is_better.Goals as goal
 

@@ -1,7 +1,7 @@
 -- A message that is received is among the newest ones or the older ones.
 use Rattle.std.proofs.Common.{◌≡◌, List, false, ap, sym, ◌∙◌}
 use Rattle.chem_model.specs.declared.numbered.NumberedAtom.{NumberedAtom}
-use Rattle.trace_history.specs.Search.{is_met, atom_before}
+use Rattle.trace_history.specs.inside.Search.{is_met, atom_before}
 use Rattle.trace_history.proofs.Joined.{met_older, met_none}
 use Rattle.trace_history.proofs.search.is_met.Goals as goal
 

@@ -1,5 +1,5 @@
 use Rattle.std.proofs.Common.{◌≡◌, ◌≤◌, length, drop, false}
-use Rattle.trace_history.specs.Search.{is_met}
+use Rattle.trace_history.specs.inside.Search.{is_met}
 use Rattle.trace_history.proofs.search.is_met_by.Given as goal
 
 abbrev pub decreases-loop-left : goal.decreases-loop-left

@@ -1,6 +1,6 @@
 use Rattle.std.proofs.Common.{◌≡◌, ◌++◌, drop}
 use Rattle.std.specs.List.{list_all}
-use Rattle.trace_history.specs.Search.{is_met}
+use Rattle.trace_history.specs.inside.Search.{is_met}
 use Rattle.trace_history.proofs.search.is_ready.Given as goal
 
 abbrev pub invariant-loop-pat : goal.invariant-loop-pat

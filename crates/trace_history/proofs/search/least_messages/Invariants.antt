@@ -1,5 +1,5 @@
 use Rattle.std.proofs.Common.{take, ◌++◌}
-use Rattle.trace_history.specs.Search.{AreLeast}
+use Rattle.trace_history.specs.inside.Search.{AreLeast}
 use Rattle.trace_history.proofs.search.least_messages.Given as goal
 
 abbrev pub invariant-loop-pat : goal.invariant-loop-pat

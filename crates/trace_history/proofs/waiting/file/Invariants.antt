@@ -1,4 +1,4 @@
-use Rattle.trace_history.specs.Waiting.{AreFiled}
+use Rattle.trace_history.specs.inside.Waiting.{AreFiled}
 use Rattle.trace_history.proofs.waiting.file.Given as goal
 
 abbrev pub invariant-loop-place : goal.invariant-loop-place

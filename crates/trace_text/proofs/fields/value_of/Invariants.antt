@@ -1,5 +1,5 @@
 use Rattle.std.proofs.Common.{◌≡◌, min, take}
-use Rattle.trace_text.specs.Reading.{value_of}
+use Rattle.trace_text.specs.inside.Reading.{value_of}
 use Rattle.trace_text.proofs.fields.value_of.Given as goal
 
 abbrev pub invariant-loop-digit : goal.invariant-loop-digit

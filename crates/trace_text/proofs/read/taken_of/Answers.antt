@@ -2,7 +2,7 @@ use Rattle.std.proofs.Common.{◌≡◌, ◌≤◌, ◌-◌, suc, ◌∷◌, [],
 use Rattle.std.proofs.lemmas.Result.{err_from_is_err_and}
 use Rattle.std.proofs.lemmas.List.{length-append}
 use Rattle.trace_text.specs.LogFields.{further}
-use Rattle.trace_text.specs.Reading.{behind}
+use Rattle.trace_text.specs.inside.Reading.{behind}
 use Rattle.trace_text.proofs.Steps.{begins, atom_step, atom_wrong, stops, fails_then}
 use Rattle.trace_text.proofs.read.taken_of.Goals as goal
 

@@ -3,7 +3,7 @@ use Rattle.chem_model.specs.declared.event.AtomId.{AtomId}
 use Rattle.trace_text.specs.LogText.{LogParts}
 use Rattle.trace_text.specs.Fields.{Format}
 use Rattle.trace_text.specs.LogFields.{taken, further}
-use Rattle.trace_text.specs.Reading.{read}
+use Rattle.trace_text.specs.inside.Reading.{read}
 use Rattle.trace_text.proofs.read.taken_of.Given as goal
 
 abbrev pub invariant-loop-after : goal.invariant-loop-after

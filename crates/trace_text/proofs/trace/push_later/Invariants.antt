@@ -1,5 +1,5 @@
 use Rattle.std.proofs.Common.{◌≡◌, ◌++◌, drop}
-use Rattle.trace_text.specs.Later.{later_text}
+use Rattle.trace_text.specs.inside.Later.{later_text}
 use Rattle.trace_text.proofs.trace.push_later.Given as goal
 
 abbrev pub invariant-loop-name : goal.invariant-loop-name

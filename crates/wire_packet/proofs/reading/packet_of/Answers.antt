@@ -3,7 +3,8 @@ use Rattle.std.proofs.lemmas.Result.{err_from_is_err_and}
 use Rattle.wire_packet.specs.declared.parcel.Packet.TheVariants as packet
 use Rattle.wire_packet.specs.Format.{whole}
 use Rattle.wire_packet.specs.Packets.{packets}
-use Rattle.wire_packet.specs.Reading.{read, drafted}
+use Rattle.wire_packet.specs.Reading.{read}
+use Rattle.wire_packet.specs.inside.Reading.{drafted}
 use Rattle.wire_packet.proofs.Whole.{found}
 use Rattle.wire_packet.proofs.reading.packet_of.Goals as goal
 

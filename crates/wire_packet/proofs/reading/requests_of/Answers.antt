@@ -4,9 +4,10 @@ use Rattle.std.proofs.lemmas.Result.{err_from_is_err_and}
 use Rattle.wire_packet.specs.declared.parcel.Packet.{Packet}
 use Rattle.wire_packet.specs.declared.packet.Request.{Request}
 use Rattle.wire_packet.specs.Format.{Format}
-use Rattle.wire_packet.specs.Ids.{holds}
+use Rattle.wire_packet.specs.inside.Ids.{holds}
 use Rattle.wire_packet.specs.Packets.{request_member, one_request, may_request}
-use Rattle.wire_packet.specs.Reading.{read, FailsAs}
+use Rattle.wire_packet.specs.Reading.{read}
+use Rattle.wire_packet.specs.inside.Reading.{FailsAs}
 use Rattle.std.specs.Prelude.{Option}
 use Rattle.chem_model.specs.declared.event.AtomId.{AtomId}
 use Rattle.wire_packet.proofs.Same.{last_more}

@@ -3,7 +3,7 @@ use Rattle.std.specs.Prelude.{None}
 use Rattle.wire_packet.specs.declared.parcel.Packet.{Packet}
 use Rattle.wire_packet.specs.declared.packet.Request.{Request}
 use Rattle.wire_packet.specs.Format.{Format}
-use Rattle.wire_packet.specs.Ids.{holds}
+use Rattle.wire_packet.specs.inside.Ids.{holds}
 use Rattle.wire_packet.specs.Packets.{request_list, members, request_member, last_id}
 use Rattle.wire_packet.specs.Reading.{read}
 use Rattle.wire_packet.proofs.reading.requests_of.Given as goal

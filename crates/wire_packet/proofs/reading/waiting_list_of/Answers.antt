@@ -5,7 +5,8 @@ use Rattle.wire_packet.specs.declared.parcel.Packet.{Packet}
 use Rattle.wire_packet.specs.declared.packet.Waiting.{Waiting}
 use Rattle.wire_packet.specs.Format.{Format}
 use Rattle.wire_packet.specs.Packets.{waiting_member, one_waiting}
-use Rattle.wire_packet.specs.Reading.{read, FailsAs}
+use Rattle.wire_packet.specs.Reading.{read}
+use Rattle.wire_packet.specs.inside.Reading.{FailsAs}
 use Rattle.wire_packet.proofs.Same.{has_more, same_test}
 use Rattle.wire_packet.proofs.Loop.{steps, ends, is_done}
 use Rattle.wire_packet.proofs.reading.waiting_list_of.Goals as goal

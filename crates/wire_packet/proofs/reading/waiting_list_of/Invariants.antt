@@ -2,7 +2,7 @@ use Rattle.std.proofs.Common.{◌≡◌, ℕ, ◌-◌, List}
 use Rattle.wire_packet.specs.declared.parcel.Packet.{Packet}
 use Rattle.wire_packet.specs.declared.packet.Waiting.{Waiting}
 use Rattle.wire_packet.specs.Format.{Format}
-use Rattle.wire_packet.specs.Ids.{holds}
+use Rattle.wire_packet.specs.inside.Ids.{holds}
 use Rattle.wire_packet.specs.ParcelFacts.{waiting_ids}
 use Rattle.wire_packet.specs.Packets.{waiting_list, members, waiting_member, has}
 use Rattle.wire_packet.specs.Reading.{read}

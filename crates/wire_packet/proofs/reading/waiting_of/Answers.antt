@@ -1,7 +1,7 @@
 use Rattle.std.proofs.Common.{◌≡◌, ◌∙◌, sym, true}
 use Rattle.std.specs.Prelude.{not}
 use Rattle.std.proofs.lemmas.Result.{err_from_is_err_and}
-use Rattle.wire_packet.specs.Ids.{holds}
+use Rattle.wire_packet.specs.inside.Ids.{holds}
 use Rattle.wire_packet.specs.Packets.{waits}
 use Rattle.wire_packet.proofs.reading.waiting_of.Goals as goal
 

@@ -1,6 +1,6 @@
 use Rattle.std.proofs.Common.{◌≡◌, drop}
 use Rattle.chem_model.specs.Pour.{name_pats}
-use Rattle.chem_plain.specs.Drawn.{drawn}
+use Rattle.chem_plain.specs.inside.Drawn.{drawn}
 use Rattle.chem_plain.proofs.pour.Level.name_pats.Given as goal
 
 abbrev pub invariant-loop-pat : goal.invariant-loop-pat

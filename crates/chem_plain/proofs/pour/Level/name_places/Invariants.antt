@@ -1,7 +1,7 @@
 use Rattle.std.proofs.Common.{◌≡◌, drop}
 use Rattle.chem_model.specs.Process.{definitions}
 use Rattle.chem_model.specs.Pour.{name_places}
-use Rattle.chem_plain.specs.Drawn.{drawn}
+use Rattle.chem_plain.specs.inside.Drawn.{drawn}
 use Rattle.chem_plain.proofs.pour.Level.name_places.Given as goal
 
 abbrev pub invariant-loop-definition : goal.invariant-loop-definition

@@ -1,6 +1,6 @@
 use Rattle.std.proofs.Common.{◌≡◌, drop}
 use Rattle.chem_model.specs.Pour.{name_pats}
-use Rattle.guard_compile.specs.Drawing.{drawn}
+use Rattle.guard_compile.specs.inside.Drawing.{drawn}
 use Rattle.guard_compile.proofs.names.Drawing.name_pats.Given as goal
 
 abbrev pub invariant-loop-pat : goal.invariant-loop-pat

@@ -1,7 +1,7 @@
 use Rattle.std.proofs.Common.{◌≡◌, drop}
 use Rattle.chem_model.specs.Process.{definitions}
 use Rattle.chem_model.specs.Pour.{name_places}
-use Rattle.guard_compile.specs.Drawing.{drawn}
+use Rattle.guard_compile.specs.inside.Drawing.{drawn}
 use Rattle.guard_compile.proofs.names.Drawing.name_places.Given as goal
 
 abbrev pub invariant-loop-definition : goal.invariant-loop-definition

@@ -2,7 +2,7 @@ use Rattle.std.proofs.Common.{◌≡◌, ◌<◌, length, ap, sym, ◌∙◌, ar
 use Rattle.std.specs.Prelude.{slice_index}
 use Rattle.std.proofs.lemmas.List.{get_or_read}
 use Rattle.loc_tree.specs.Tree.{Tree}
-use Rattle.loc_tree.specs.Stored.{IsNewest}
+use Rattle.loc_tree.specs.inside.Stored.{IsNewest}
 use Rattle.loc_tree.proofs.Newest.{fresh_above, fresh_only, fresh_where_all, all_where_fresh}
 use Rattle.loc_tree.proofs.tree.LocTree.fresh.Goals as goal
 

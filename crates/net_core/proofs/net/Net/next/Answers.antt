@@ -4,7 +4,7 @@ use Rattle.net_core.specs.declared.choice.Choice.{Choice}
 use Rattle.net_core.specs.Choosing.{Allows, IsNext}
 use Rattle.net_core.specs.Parts.{joined, net_of}
 use Rattle.net_core.specs.Resting.{IsNoneWhereQuiet}
-use Rattle.net_core.specs.Searched.{HasSites}
+use Rattle.net_core.specs.inside.Searched.{HasSites}
 use Rattle.net_core.specs.Whole.{NetParts}
 use Rattle.net_core.proofs.Carrying.{carried_length}
 use Rattle.net_core.proofs.NextChoices.{none_of, some_of, none_where_quiet}

@@ -3,7 +3,7 @@ use Rattle.std.specs.Prelude.{IfNone}
 use Rattle.net_laws.specs.Net.{Net}
 use Rattle.net_core.specs.Parts.{net_of}
 use Rattle.net_core.specs.Scheduling.{ReadyOpensNone}
-use Rattle.net_core.specs.Searched.{HasSites}
+use Rattle.net_core.specs.inside.Searched.{HasSites}
 use Rattle.net_core.specs.Whole.{NetParts}
 use Rattle.net_core.proofs.OpeningHere.{if_none}
 use Rattle.net_core.proofs.net.Net.opening_at.Goals as goal

@@ -1,4 +1,4 @@
-use Rattle.net_core.specs.PlayedSoFar.{IsPlaying}
+use Rattle.net_core.proofs.SoFar.{IsPlaying}
 use Rattle.net_core.proofs.net.Net.play.Given as goal
 
 abbrev pub invariant-loop-at : goal.invariant-loop-at

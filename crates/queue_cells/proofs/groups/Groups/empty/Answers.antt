@@ -1,6 +1,7 @@
 use Rattle.std.proofs.Common.{◌≡◌, ◌<◌, [], length, inl, inr, sym, ap, ◌∙◌, arith}
 use Rattle.std.proofs.lemmas.Bool.{cases_eq}
-use Rattle.queue_cells.specs.Grouped.{queue_in, with_queue, lists_at, emptied, waiting}
+use Rattle.queue_cells.specs.Grouped.{queue_in, with_queue, lists_at, waiting}
+use Rattle.queue_cells.specs.inside.Grouped.{emptied}
 use Rattle.queue_cells.proofs.RowLemmas.{length-with_queue, width-with_queue, queue_in-with, queue_in-other, waiting-with, waiting-none}
 use Rattle.queue_cells.proofs.Removal.{emptied-with_queue, emptied-empty}
 use Rattle.queue_cells.proofs.groups.Groups.empty.Goals as goal

@@ -1,5 +1,6 @@
 use Rattle.std.proofs.Common.{◌≡◌, ◌+◌, ◌<◌, ℕ, [], length}
-use Rattle.queue_cells.specs.Grouped.{queue_in, lists_at, emptied, waiting}
+use Rattle.queue_cells.specs.Grouped.{queue_in, lists_at, waiting}
+use Rattle.queue_cells.specs.inside.Grouped.{emptied}
 use Rattle.queue_cells.proofs.groups.Groups.empty.Given as goal
 
 abbrev pub invariant-loop-chan : goal.invariant-loop-chan

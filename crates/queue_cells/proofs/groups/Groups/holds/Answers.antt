@@ -1,6 +1,6 @@
 use Rattle.std.proofs.Common.{◌<◌, sym, ◌∙◌, arith, length}
 use Rattle.std.proofs.lemmas.List.{length-map}
-use Rattle.queue_cells.specs.Rows.{queued}
+use Rattle.queue_cells.specs.inside.Rows.{queued}
 use Rattle.queue_cells.proofs.RowLemmas.{IsRow-at, lists-at, holds-of}
 use Rattle.queue_cells.proofs.groups.Groups.holds.Goals as goal
 

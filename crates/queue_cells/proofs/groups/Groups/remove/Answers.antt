@@ -2,7 +2,7 @@ use Rattle.std.proofs.Common.{◌≡◌, ◌<◌, [], length, sym, ap, ◌∙◌
 use Rattle.std.specs.Prelude.{remove}
 use Rattle.std.proofs.lemmas.List.{length-map}
 use Rattle.queue_cells.specs.Grouped.{queue_in}
-use Rattle.queue_cells.specs.Rows.{queued}
+use Rattle.queue_cells.specs.inside.Rows.{queued}
 use Rattle.queue_cells.proofs.RowLemmas.{AreRows-remove}
 use Rattle.queue_cells.proofs.Removal.{length-emptied, queue_in-emptied, remove-emptied}
 use Rattle.queue_cells.proofs.groups.Groups.remove.Goals as goal

@@ -2,7 +2,8 @@ use Rattle.std.proofs.Common.{rules, ◌≡◌, ◌+◌, suc, length, take, true
 use Rattle.std.specs.Prelude.{not}
 use Rattle.std.proofs.lemmas.Fn.{filter_same}
 use Rattle.queue_cells.specs.declared.rows.Row.{Row}
-use Rattle.queue_cells.specs.Grouped.{emptied, but_where, waiting_where}
+use Rattle.queue_cells.specs.inside.Grouped.{emptied}
+use Rattle.queue_cells.specs.Grouped.{but_where, waiting_where}
 use Rattle.queue_cells.proofs.Removal.{but_where-emptied, waiting-emptied, taken-emptied, taken-other, taken-all, length-emptied, rows_left, AreRows-left}
 use Rattle.queue_cells.proofs.groups.Groups.remove_where.Goals.{then-selects, else-selects}
 use Rattle.queue_cells.proofs.groups.Groups.remove_where.Goals as goal

@@ -1,5 +1,5 @@
 use Rattle.std.proofs.Common.{◌≡◌, ◌≤◌, ◌-◌, length}
-use Rattle.queue_cells.specs.Index.{IsIndex}
+use Rattle.queue_cells.specs.inside.Index.{IsIndex}
 use Rattle.queue_cells.proofs.hot.Hot.reserve_groups.Given as goal
 
 abbrev pub invariant-bits : goal.invariant-bits

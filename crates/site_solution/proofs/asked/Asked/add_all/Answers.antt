@@ -3,7 +3,7 @@ use Rattle.std.specs.Prelude.{slice_index_or}
 use Rattle.wire_packet.specs.declared.packet.Request.{Request}
 use Rattle.wire_packet.specs.declared.packet.Ask.TheVariants as request
 use Rattle.chem_model.specs.declared.name.Name.TheVariants as name
-use Rattle.site_solution.specs.Rising.{with_requests, AreNewIn}
+use Rattle.site_solution.specs.inside.Rising.{with_requests, AreNewIn}
 use Rattle.site_solution.proofs.Ranks.{length-with}
 use Rattle.site_solution.proofs.Asking.{first-new, others-new, drop-here}
 use Rattle.site_solution.proofs.asked.Asked.add_all.Goals as goal

@@ -1,5 +1,5 @@
 use Rattle.std.proofs.Common.{◌≡◌, ◌≤◌, ◌<◌, ◌+◌, ◌^◌, length, drop}
-use Rattle.site_solution.specs.Rising.{with_requests, AreNewIn}
+use Rattle.site_solution.specs.inside.Rising.{with_requests, AreNewIn}
 use Rattle.site_solution.proofs.asked.Asked.add_all.Given as goal
 
 abbrev pub invariant-loop-request : goal.invariant-loop-request

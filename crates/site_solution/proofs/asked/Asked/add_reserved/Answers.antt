@@ -1,6 +1,6 @@
 use Rattle.std.proofs.Common.{◌≡◌, arith, ap, sym, ◌∙◌}
 use Rattle.std.specs.Prelude.{insert}
-use Rattle.site_solution.specs.Rising.{rank, Pending}
+use Rattle.site_solution.specs.inside.Rising.{rank, Pending}
 use Rattle.site_solution.proofs.Ranks.{insert-at_rank, Rising-with, length-with}
 use Rattle.site_solution.proofs.Asking.{taken-ok}
 use Rattle.site_solution.proofs.asked.Asked.add_reserved.Goals as goal

@@ -1,6 +1,6 @@
 use Rattle.std.proofs.Common.{◌≡◌, Some, None, cond, arith, ap, sym, ◌∙◌}
 use Rattle.std.specs.Prelude.{slice_get}
-use Rattle.site_solution.specs.Rising.{rank, Pending}
+use Rattle.site_solution.specs.inside.Rising.{rank, Pending}
 use Rattle.site_solution.proofs.Ranks.{request-at, if_same, slice_get-read, slice_get-past}
 use Rattle.site_solution.proofs.asked.Asked.find.Goals as goal
 

@@ -1,5 +1,5 @@
 use Rattle.std.proofs.Common.{◌≤◌, ◌-◌, length}
-use Rattle.site_solution.specs.Rising.{rank}
+use Rattle.site_solution.specs.inside.Rising.{rank}
 use Rattle.site_solution.proofs.asked.Asked.rank.Given as goal
 
 abbrev pub invariant-loop-low : goal.invariant-loop-low

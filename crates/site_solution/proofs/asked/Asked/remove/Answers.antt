@@ -1,6 +1,6 @@
 use Rattle.std.proofs.Common.{◌≡◌, arith, ap, sym, ◌∙◌}
 use Rattle.std.specs.Prelude.{remove}
-use Rattle.site_solution.specs.Rising.{rank, Pending}
+use Rattle.site_solution.specs.inside.Rising.{rank, Pending}
 use Rattle.site_solution.proofs.Ranks.{Rising-without, length-without, remove-at_rank, rank-below_length}
 use Rattle.site_solution.proofs.asked.Asked.remove.Goals as goal
 

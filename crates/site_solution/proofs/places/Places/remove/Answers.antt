@@ -1,7 +1,7 @@
 use Rattle.std.proofs.Common.{rules, ◌≡◌, ℕ, ap, ◌∙◌}
 use Rattle.std.specs.Prelude.{filter}
 use Rattle.std.proofs.lemmas.Fn.{filter_same}
-use Rattle.site_solution.specs.Hosted.{locs_of}
+use Rattle.site_solution.specs.inside.Hosted.{locs_of}
 use Rattle.site_solution.proofs.Removed.{is_other, locs-kept}
 use Rattle.site_solution.proofs.places.Places.remove.Goals as goal
 

@@ -2,13 +2,13 @@ use Rattle.std.proofs.Common.{◌≡◌, ◌+◌, ◌<◌, ◌^◌, ◌++◌, Li
 use Rattle.net_laws.specs.Site.{Told, Group, Site, told_in}
 use Rattle.net_laws.specs.Kept.{AreApart}
 use Rattle.site_solution.specs.Counted.{waiting_in}
-use Rattle.site_solution.specs.Index.{Rows, groups_of, told_of, IsIndex}
-use Rattle.site_solution.specs.New.{told_of_new, gone_at}
-use Rattle.site_solution.specs.More.{added, CanAdd}
+use Rattle.site_solution.specs.inside.Index.{Rows, groups_of, told_of, IsIndex}
+use Rattle.site_solution.specs.inside.New.{told_of_new, gone_at}
+use Rattle.site_solution.specs.inside.More.{added, CanAdd}
 use Rattle.site_solution.specs.Held.{taken_at}
-use Rattle.site_solution.specs.Rising.{with_requests}
+use Rattle.site_solution.specs.inside.Rising.{with_requests}
 use Rattle.site_solution.specs.declared.site.Site.TheInside.{Inside}
-use Rattle.site_solution.specs.Stored.{seen}
+use Rattle.site_solution.specs.inside.Stored.{seen}
 use Rattle.site_solution.proofs.Amounts.{stuck-many}
 use Rattle.site_solution.proofs.Fronts.{are-gone}
 use Rattle.site_solution.proofs.Adding.{gone-index, done-is, done-stored, may-done}

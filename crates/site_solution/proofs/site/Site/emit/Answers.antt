@@ -17,8 +17,8 @@ use Rattle.code_run.specs.RunFacts.{IsRun}
 use Rattle.code_run.specs.Posts.{run_of, all_posted}
 use Rattle.site_solution.specs.Commit.{CanLeave}
 use Rattle.site_solution.specs.Held.{taken_at}
-use Rattle.site_solution.specs.Leave.{IsLeft}
-use Rattle.site_solution.specs.New.{told_of_new, IsNewGroup}
+use Rattle.site_solution.specs.inside.Leave.{IsLeft}
+use Rattle.site_solution.specs.inside.New.{told_of_new, IsNewGroup}
 use Rattle.site_solution.proofs.Leaves.{run-leaves}
 use Rattle.site_solution.proofs.Poured.{no_code, emitted-keeps}
 use Rattle.site_solution.proofs.Answering.{sent-answers}

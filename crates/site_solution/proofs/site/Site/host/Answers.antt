@@ -3,7 +3,7 @@ use Rattle.chem_model.specs.declared.name.Loc.{Loc}
 use Rattle.net_laws.specs.Kept.{IsKept}
 use Rattle.net_laws.proofs.Posting.{host_kept}
 use Rattle.site_solution.proofs.Keeping.{either}
-use Rattle.site_solution.specs.Stored.{seen}
+use Rattle.site_solution.specs.inside.Stored.{seen}
 use Rattle.site_solution.proofs.site.Site.host.Goals as goal
 
 pub invariant_of-self : goal.invariant_of-self

@@ -1,5 +1,5 @@
 use Rattle.std.proofs.Common.{refl}
-use Rattle.site_solution.specs.Index.{groups_of}
+use Rattle.site_solution.specs.inside.Index.{groups_of}
 use Rattle.site_solution.proofs.Firing.{guards-wide, nothing-fires, fires-first}
 use Rattle.site_solution.proofs.site.Site.least_covered.Goals as goal
 

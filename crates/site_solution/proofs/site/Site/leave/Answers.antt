@@ -3,8 +3,8 @@ use Rattle.chem_model.specs.declared.name.Loc.{Loc}
 use Rattle.code_run.specs.Posts.{all_posted}
 use Rattle.site_solution.specs.Commit.{AreNew}
 use Rattle.site_solution.specs.Held.{taken_at}
-use Rattle.site_solution.specs.Leave.{IsSorted}
-use Rattle.site_solution.specs.More.{CanAdd, added}
+use Rattle.site_solution.specs.inside.Leave.{IsSorted}
+use Rattle.site_solution.specs.inside.More.{CanAdd, added}
 use Rattle.site_solution.specs.declared.more.More.{More}
 use Rattle.site_solution.proofs.Leaving.{new-alone, resort, can-add, left-is}
 use Rattle.site_solution.proofs.site.Site.leave.Goals as goal

@@ -4,9 +4,9 @@ use Rattle.wire_packet.specs.declared.packet.Waiting.{Waiting}
 use Rattle.wire_packet.specs.ParcelFacts.{ParcelParts, IsParcel}
 use Rattle.net_laws.specs.Site.{Site}
 use Rattle.net_laws.specs.Parcels.{groups_at, stuck_at, requests_at, in_all_queues, pack, parcel_of}
-use Rattle.site_solution.specs.Packed.{HasFewNames}
+use Rattle.site_solution.specs.inside.Packed.{HasFewNames}
 use Rattle.site_solution.specs.Rising.{AreAsked}
-use Rattle.site_solution.specs.Stored.{seen}
+use Rattle.site_solution.specs.inside.Stored.{seen}
 use Rattle.chem_model.specs.Each.{Each}
 use Rattle.site_solution.proofs.Packed.{packed-parcel}
 use Rattle.site_solution.proofs.site.Site.pack.Goals as goal

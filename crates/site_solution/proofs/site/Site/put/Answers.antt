@@ -3,9 +3,9 @@ use Rattle.site_solution.specs.Counted.{waiting_in}
 use Rattle.site_solution.proofs.Queueing.{taken, not_taken}
 use Rattle.site_solution.proofs.Putting.{put-queued, put-stuck}
 use Rattle.site_solution.proofs.Keeping.{either, on-success, AreStored, as-stored, put-stored}
-use Rattle.site_solution.specs.Index.{Rows, told_of, spot_of, holding}
+use Rattle.site_solution.specs.inside.Index.{Rows, told_of, spot_of, holding}
 use Rattle.net_laws.specs.Holding.{put}
-use Rattle.site_solution.specs.Stored.{seen}
+use Rattle.site_solution.specs.inside.Stored.{seen}
 use Rattle.site_solution.proofs.Noting.{serials-known}
 use Rattle.site_solution.proofs.site.Site.put.Goals as goal
 

@@ -5,10 +5,10 @@ use Rattle.net_laws.specs.Posting.{posted_of}
 use Rattle.net_laws.specs.Meeting.{continuation_made}
 use Rattle.site_solution.specs.Answers.{AreFlights}
 use Rattle.site_solution.specs.Held.{taken_at}
-use Rattle.site_solution.specs.Leave.{IsSorted}
-use Rattle.site_solution.specs.Split.{away_from}
-use Rattle.site_solution.specs.More.{CanAdd, added}
-use Rattle.site_solution.specs.Carried.{IsCarried}
+use Rattle.site_solution.specs.inside.Leave.{IsSorted}
+use Rattle.site_solution.specs.inside.Split.{away_from}
+use Rattle.site_solution.specs.inside.More.{CanAdd, added}
+use Rattle.site_solution.specs.inside.Carried.{IsCarried}
 use Rattle.site_solution.proofs.Receiving.{received-can, received-is, continued, beside-sorted}
 use Rattle.site_solution.proofs.Arriving.{received_fits}
 use Rattle.site_solution.proofs.site.Site.receive.Goals as goal

@@ -1,8 +1,8 @@
 use Rattle.std.proofs.Common.{◌≡◌, ◌<◌, ◌^◌, ◌∙◌, List, length, ap, sym, subst, arith}
 use Rattle.net_laws.specs.Site.{Group, Site}
 use Rattle.net_laws.specs.Parcels.{remove}
-use Rattle.site_solution.specs.Index.{groups_of}
-use Rattle.site_solution.specs.Stored.{seen}
+use Rattle.site_solution.specs.inside.Index.{groups_of}
+use Rattle.site_solution.specs.inside.Stored.{seen}
 use Rattle.site_solution.proofs.Queueing.{groups-many}
 use Rattle.site_solution.proofs.Adding.{as-whole, whole-stored}
 use Rattle.site_solution.proofs.Removed.{removed-whole, length-groups_but}

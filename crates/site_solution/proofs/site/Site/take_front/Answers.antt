@@ -1,10 +1,10 @@
 use Rattle.std.proofs.Common.{ℕ, length, sym, ap, subst, ◌∙◌}
 use Rattle.queue_cells.specs.Grouped.{queue_in}
-use Rattle.site_solution.specs.Covered.{HasSerials}
+use Rattle.site_solution.specs.inside.Covered.{HasSerials}
 use Rattle.site_solution.proofs.Noting.{serials-known, with-queue-many, queue-covering}
 use Rattle.site_solution.proofs.Keeping.{waiting, front-site, front-stored}
-use Rattle.site_solution.specs.Index.{groups_of}
-use Rattle.site_solution.specs.Stored.{seen}
+use Rattle.site_solution.specs.inside.Index.{groups_of}
+use Rattle.site_solution.specs.inside.Stored.{seen}
 use Rattle.site_solution.proofs.site.Site.take_front.Goals as goal
 
 pub take_front-requires-clause-group : goal.take_front-requires-clause-group

@@ -1,8 +1,8 @@
 use Rattle.std.proofs.Common.{◌∷◌, [], sym, subst, ◌∙◌, ap}
 use Rattle.wire_packet.specs.ParcelFacts.{ParcelParts}
 use Rattle.site_solution.specs.Held.{taken_at}
-use Rattle.site_solution.specs.More.{CanAdd, added}
-use Rattle.site_solution.specs.Carried.{IsCarried}
+use Rattle.site_solution.specs.inside.More.{CanAdd, added}
+use Rattle.site_solution.specs.inside.Carried.{IsCarried}
 use Rattle.site_solution.proofs.Keeping.{on-success}
 use Rattle.site_solution.proofs.Carrying.{carried-can, carried-in}
 use Rattle.site_solution.proofs.Arriving.{on_ok, taken_fits}

@@ -1,6 +1,6 @@
 use Rattle.std.proofs.Common.{◌≡◌, ◌+◌, ◌∙◌, ap, arith}
 use Rattle.site_solution.specs.Counted.{waiting_in}
-use Rattle.site_solution.specs.Stored.{seen}
+use Rattle.site_solution.specs.inside.Stored.{seen}
 use Rattle.site_solution.proofs.Amounts.{rows-many, stuck-many}
 use Rattle.site_solution.proofs.site.Site.waiting.Goals as goal
 

@@ -6,8 +6,8 @@ use Rattle.chem_model.specs.declared.numbered.Numbered.{Numbered}
 use Rattle.chem_model.specs.Sound.{IsSound}
 use Rattle.chem_model.specs.Apply.{apply, replay}
 use Rattle.trace_history.specs.Kept.{Kept, solution}
-use Rattle.trace_history.specs.Older.{Holds}
-use Rattle.trace_history.specs.Waiting.{AreFiled}
+use Rattle.trace_history.specs.inside.Older.{Holds}
+use Rattle.trace_history.specs.inside.Waiting.{AreFiled}
 use Rattle.trace_history.proofs.Replays.{replaced, replay_pushed, unchanged}
 use Rattle.trace_history.proofs.Holding.{holds_on, left_sound, base_sound, event_made, event_not_made, not_replaced, enabled_in, commits_place, commits_none}
 use Rattle.trace_history.proofs.Quiets.{one_reduction}

@@ -1,6 +1,6 @@
 use Rattle.std.proofs.Common.{subst, List}
 use Rattle.chem_model.specs.declared.numbered.NumberedAtom.{NumberedAtom}
-use Rattle.chem_commit.specs.Differ.{AtomsDiffer}
+use Rattle.chem_commit.specs.inside.Differ.{AtomsDiffer}
 use Rattle.trace_history.proofs.DifferLaws.{different}
 use Rattle.trace_history.proofs.table.AtomTable.are_different.Goals as goal
 

@@ -5,7 +5,7 @@ use Rattle.chem_model.specs.Bag.{one, bag}
 use Rattle.chem_model.specs.NewNames.{coded_pair}
 use Rattle.chem_model.specs.Numbered.{atom_pairs}
 use Rattle.chem_model.specs.Apply.{same_atom, atom_at}
-use Rattle.trace_history.specs.Table.{AreKeyed}
+use Rattle.trace_history.specs.inside.Table.{AreKeyed}
 use Rattle.trace_history.proofs.TableLaws.{pair_cmp, key_of, keyed_insert, lookup_insert, pairs_insert, either_way}
 use Rattle.trace_history.proofs.table.AtomTable.insert.Goals as goal
 

@@ -1,7 +1,7 @@
 use Rattle.std.proofs.Common.{ap, sym, ◌∙◌, subst}
 use Rattle.std.specs.Map.{values_of}
 use Rattle.chem_model.specs.Apply.{atom_at, without}
-use Rattle.trace_history.specs.Table.{AreKeyed}
+use Rattle.trace_history.specs.inside.Table.{AreKeyed}
 use Rattle.trace_history.proofs.TableLaws.{lookup_atom, values_without, keyed_without}
 use Rattle.trace_history.proofs.table.AtomTable.remove.Goals as goal
 

@@ -3,7 +3,7 @@ use Rattle.std.proofs.Common.{ap, ◌∙◌, cond, Some}
 use Rattle.chem_model.specs.declared.numbered.Named.{Named}
 use Rattle.chem_model.specs.Fill.{Naming}
 use Rattle.chem_model.specs.Numbered.{same_name, binder_in}
-use Rattle.trace_text.specs.Tables.{key_of}
+use Rattle.trace_text.specs.inside.Tables.{key_of}
 use Rattle.trace_text.proofs.Keys.{keyed_after, put_binder}
 use Rattle.trace_text.proofs.tables.Binders.put.Goals as goal
 

@@ -1,6 +1,0 @@
--- The names given so far, as the definitions see them: private contracts alone cite it.
-use Rattle.chem_model.specs.Pour.{Drawn}
-use Rattle.guard_compile.specs.declared.names.Drawing.{Drawing}
-
-abbrev pub drawn : Drawing → Drawn
-drawn d = record { next = d.next; names = d.names }

@@ -1,0 +1,57 @@
+-- That what was read so far begins a list, whatever comes behind it.
+use Rattle.std.specs.Prelude.{Bool, ◌≡◌, ℕ, List, [], ◌∷◌, ◌++◌}
+use Rattle.join_lex.specs.declared.token.Token.{Token}
+use Rattle.join_parse.specs.declared.word.Word.{Word}
+use Rattle.join_parse.specs.declared.word.PatTree.{PatTree}
+use Rattle.join_parse.specs.declared.word.SeenTree.{SeenTree}
+use Rattle.join_parse.specs.declared.tree.PlaceTree.{PlaceTree}
+use Rattle.join_parse.specs.Terminals.{Terminal}
+use Rattle.join_parse.specs.Source.{Process, Processes, one_more, Definition, Definitions, and_also}
+use Rattle.join_parse.specs.Grammar.{of_processes, of_definitions, more_definitions}
+use Rattle.join_parse.specs.Grammar.{of_declarations, of_sites, more_names, names, more_patterns}
+use Rattle.join_parse.specs.Grammar.{patterns, IsSome, AreShort, AreProcesses, AreDefinitions}
+use Rattle.join_parse.specs.Grammar.{AreDeclarations, AreSites}
+use Rattle.join_parse.specs.inside.Parsed.{terms}
+
+-- What was read so far begins a list, whatever comes behind it.
+abbrev pub ListedNames : List Token → ℕ → ℕ → List Word → Type 0
+ListedNames ts at end list =
+    (ws : List Word) (rest : List Terminal) → terms ts end ≡ more_names ws rest
+    → terms ts at ≡ names (list ++ ws) rest
+
+abbrev pub ListedPatterns : List Token → ℕ → ℕ → List PatTree → Type 0
+ListedPatterns ts at end list =
+    (ps : List PatTree) (rest : List Terminal) → AreShort ps → terms ts end ≡ more_patterns ps rest
+    → IsSome (list ++ ps) × AreShort (list ++ ps) × (terms ts at ≡ patterns (list ++ ps) rest)
+
+abbrev pub ListedDeclarations : List Token → ℕ → ℕ → List SeenTree → Type 0
+ListedDeclarations ts at end list =
+    (ds : List SeenTree) (rest : List Terminal) → AreDeclarations ds
+    → terms ts end ≡ of_declarations ds rest
+    → AreDeclarations (list ++ ds) × (terms ts at ≡ of_declarations (list ++ ds) rest)
+
+abbrev pub ListedSites : List Token → ℕ → ℕ → List PlaceTree → Type 0
+ListedSites ts at end list =
+    (ss : List PlaceTree) (rest : List Terminal) → AreSites ss → terms ts end ≡ of_sites ss rest
+    → AreSites (list ++ ss) × (terms ts at ≡ of_sites (list ++ ss) rest)
+
+-- the processes, and then others
+abbrev pub joined : List Process → Processes → Processes
+joined [] ps = ps
+joined (p ∷ list) ps = one_more p (joined list ps)
+
+abbrev pub ListedProcesses : List Token → ℕ → ℕ → List Process → Type 0
+ListedProcesses ts at end list =
+    (ps : Processes) (rest : List Terminal) → AreProcesses ps → terms ts end ≡ of_processes ps rest
+    → AreProcesses (joined list ps) × (terms ts at ≡ of_processes (joined list ps) rest)
+
+-- the definitions, and then others
+abbrev pub also : List Definition → Definitions → Definitions
+also [] ds = ds
+also (d ∷ list) ds = and_also d (also list ds)
+
+abbrev pub ListedDefinitions : List Token → ℕ → ℕ → Bool → List Definition → Type 0
+ListedDefinitions ts at end within list =
+    (ds : Definitions) (rest : List Terminal) → AreDefinitions within ds
+    → terms ts end ≡ more_definitions ds rest
+    → AreDefinitions within (also list ds) × (terms ts at ≡ of_definitions (also list ds) rest)

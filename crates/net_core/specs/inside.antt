@@ -1,0 +1,10 @@
+pub mod Fitting
+pub mod Pieces
+pub mod PlayedSoFar
+pub mod Handing
+pub mod Starting
+pub mod AtSites
+pub mod Alone
+pub mod Delivering
+pub mod Slots
+pub mod Searched

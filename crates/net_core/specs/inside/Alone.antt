@@ -1,0 +1,119 @@
+-- A site that works while its network is elsewhere: it does what it would do in the network, where
+-- all the others wait.
+use Rattle.std.specs.Prelude.{◌≡◌, ℕ, ◌+◌, ◌<◌, ◌^◌, List, [], ◌∷◌, ◌++◌, length, true, false, Some}
+use Rattle.std.specs.Prelude.{None, Option, slice_get}
+use Rattle.chem_model.specs.declared.event.Event.{Event}
+use Rattle.chem_model.specs.Each.{Each}
+use Rattle.wire_packet.specs.MessageFacts.{MessageParts}
+use Rattle.wire_packet.specs.declared.packet.Flight.{Flight}
+use Rattle.env_store.specs.CodeParts.{CodeParts}
+use Rattle.loc_tree.specs.Tree.{Tree}
+use Rattle.net_laws.specs.Site.{Site}
+use Rattle.net_laws.specs.Net.{Addressed, Net, among, address}
+use Rattle.net_laws.specs.Holding.{put}
+use Rattle.net_laws.specs.Rounds.{WorksOff}
+use Rattle.site_solution.specs.InTree.{is_in_tree}
+use Rattle.site_solution.specs.InCode.{is_in_code}
+use Rattle.site_solution.specs.Draws.{CanDraw}
+use Rattle.site_solution.specs.declared.effects.Effects.{Effects}
+use Rattle.reducer.specs.declared.pick.Pick.{Pick}
+use Rattle.reducer.specs.Picks.{Picked, Picks}
+use Rattle.reducer.specs.Fronts.{event_of}
+use Rattle.reducer.specs.Ready.{IsReady}
+use Rattle.reducer.specs.Reacted.{Reacts, StaysFit}
+use Rattle.router.specs.Delivering.{home_at}
+use Rattle.net_core.specs.declared.turn.Made.{Made}
+use Rattle.net_core.specs.declared.turn.Work.{Work}
+use Rattle.net_core.specs.Bare.{bare}
+use Rattle.net_core.specs.inside.Delivering.{GoesOn}
+use Rattle.net_core.specs.Lending.{mail_to, WorksAlone}
+use Rattle.net_core.specs.Parts.{message_in, all_carried, IsMessageFlight}
+use Rattle.net_core.specs.Scheduling.{births_of}
+use Rattle.net_core.specs.Whole.{IsRunning}
+
+-- the site is the site i of a network with this tree that runs the code and had so many events, and
+-- the packets under way to it there begin with this mail
+pub record IsAlone (c : CodeParts) (t : Tree) (i events : ℕ) (s : Site) (mail : List Addressed)
+    : Type 0 where
+  pub net : Net
+  pub running : IsRunning c net events
+  pub tree : net.tree ≡ bare t
+  pub here : slice_get net.sites i ≡ Some s
+  pub later : List Addressed
+  pub mail_is : mail_to i net.packets ≡ mail ++ later
+
+-- it meets what its calls need
+pub record IsReadyForCalls (c : CodeParts) (t : Tree) (s : Site) : Type 0 where
+  pub in_tree : is_in_tree t s ≡ true
+  pub in_code : is_in_code c t s ≡ true
+  pub draws : CanDraw t s
+
+-- ---- its mail
+
+-- a message is put at its home, or the answer is the site to which it goes on
+abbrev pub IsBroughtTo : Tree → Site → MessageParts → Option ℕ → Site → Type 0
+IsBroughtTo t s m None new = (among s.locs (home_at s m) ≡ true) × (new ≡ put (home_at s m) m s)
+IsBroughtTo t s m (Some target) new =
+    (among s.locs (home_at s m) ≡ false) × (target ≡ address t (home_at s m)) × (new ≡ s)
+
+-- a flight came to the site: its message is put there, or it goes behind those that go on
+pub record Arrives (t : Tree) (s : Site) (f : Flight) (old : List Flight) (new : Site)
+    (on : List Flight) : Type 0 where
+  pub target : Option ℕ
+  pub more : List Flight
+  pub brought : IsBroughtTo t s (message_in f.bytes) target new
+  pub goes : GoesOn f target more
+  pub on_is : on ≡ old ++ more
+
+-- the mail among these flights was worked off, and these go on
+pub record HasArrived (t : Tree) (i : ℕ) (flights : List Flight) (s : Site) (on : List Flight)
+    (new : Site) : Type 0 where
+  pub works : WorksOff (bare t) s (mail_to i (all_carried flights)) (all_carried on) new
+  pub spelled : Each IsMessageFlight on
+
+-- ---- its reactions
+
+-- the reaction is ready, and opens no location
+pub record IsNextHere (c : CodeParts) (t : Tree) (s : Site) (q : Pick) : Type 0 where
+  pub ready : IsReady c t s q
+  pub none : births_of c q ≡ 0
+
+abbrev pub NoneIsNext : CodeParts → Tree → Site → Type 0
+NoneIsNext c t s = (q : Pick) → IsReady c (bare t) s q → 0 < births_of c q
+
+-- the reaction of a pick was made
+pub record ReactsOnce (c : CodeParts) (t : Tree) (s : Site) (q : Pick) (x : Picked) (e : Event)
+    (effects : Effects) (new : Site) : Type 0 where
+  pub reacts : Reacts c t s q x new effects
+  pub event_is : e ≡ event_of q x
+  pub fit : StaysFit c t s.number new effects
+
+abbrev pub ReactsBy : CodeParts → Tree → Site → Pick → Event → Effects → Site → Type 0
+ReactsBy c t s q e effects new =
+    (x : Picked) → Picks c s q x → ReactsOnce c t s q x e effects new
+
+-- an event and its effects go behind what was made so far
+pub record IsNoted (e : Event) (effects : Effects) (old new : Made) : Type 0 where
+  pub events : new.events ≡ old.events ++ e ∷ []
+  pub outs : new.outs ≡ old.outs ++ effects.outs
+  pub sends : new.sends ≡ old.sends ++ effects.sends
+
+-- reactions up to a quota
+pub record HasReacted (c : CodeParts) (t : Tree) (i quota : ℕ) (s : Site) (m : Made) (new : Site)
+    : Type 0 where
+  pub works : WorksAlone c (bare t) i quota s m.events m.outs (all_carried m.sends) new
+  pub spelled : Each IsMessageFlight m.sends
+  pub stays :
+      (events : ℕ) → events + quota < 2 ^ 32 → IsAlone c t i events s []
+      → IsAlone c t i (events + length m.events) new []
+
+-- ---- its turn
+
+pub record IsWorked (c : CodeParts) (t : Tree) (quota : ℕ) (flights : List Flight) (s : Site)
+    (w : Work) (new : Site) : Type 0 where
+  pub mid : Site
+  pub arrives : HasArrived t s.number flights s w.on mid
+  pub reacts : HasReacted c t s.number quota mid w.made new
+  pub stays :
+      (events : ℕ) → IsAlone c t s.number events s (mail_to s.number (all_carried flights))
+      → IsAlone c t s.number events mid []

@@ -1,0 +1,26 @@
+-- How far the opening of a program's sites has come.
+use Rattle.std.specs.Prelude.{◌≡◌, ℕ, ◌≤◌, true, false, Some, is_some, drop, length, slice_get}
+use Rattle.std.specs.List.{Contains}
+use Rattle.chem_model.specs.declared.name.Loc.{Loc}
+use Rattle.env_store.specs.CodeParts.{CodeParts}
+use Rattle.loc_tree.specs.Tree.{spot}
+use Rattle.net_laws.specs.Site.{Site}
+use Rattle.net_laws.specs.Opened.{all_opened, opened_net, BearNew}
+use Rattle.net_core.specs.declared.parts.Parts.{Parts}
+use Rattle.net_core.specs.Parts.{net_of}
+use Rattle.net_core.specs.Whole.{AllFit, AreFlying}
+
+-- the sites with numbers below n are opened: the others still lead to the opened network, and bear
+-- new locations; of the sites to come the tree has the site-level locations alone
+pub record IsUpTo (c : CodeParts) (n : ℕ) (p : Parts) : Type 0 where
+  pub rest : all_opened c n (drop n c.sites) (net_of c.seen p) ≡ opened_net c
+  pub new : BearNew c n (drop n c.sites) (net_of c.seen p)
+  pub tops :
+      (l : Loc) → Contains c.tops l
+      → spot p.tree l ≡ Some (record { number = l.site; marked = false })
+  pub no_others : (l : Loc) → n ≤ l.site → is_some (spot p.tree l) ≡ true → Contains c.tops l
+  pub numbered : (j : ℕ) (s : Site) → slice_get p.sites.items j ≡ Some s → s.number ≡ j
+  pub many : length p.sites.items ≡ n
+  pub roots : p.tree.roots ≡ length c.sites
+  pub fit : AllFit c p.tree p.sites.items
+  pub flying : AreFlying p

@@ -1,0 +1,4 @@
+pub mod Index
+pub mod Grouped
+pub mod Walk
+pub mod Rows

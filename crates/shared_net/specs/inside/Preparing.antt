@@ -1,0 +1,30 @@
+-- What stands behind the locks of a run at its opening.
+use Rattle.std.specs.Prelude.{◌≡◌, ℕ, ◌==◌, List, [], ◌∷◌, Some, cond, length, slice_get}
+use Rattle.wire_packet.specs.MessageFacts.{MessageParts}
+use Rattle.env_store.specs.CodeParts.{CodeParts}
+use Rattle.loc_tree.specs.Tree.{Tree}
+use Rattle.net_laws.specs.Site.{Site}
+use Rattle.net_laws.specs.Net.{Addressed}
+use Rattle.net_laws.specs.Opened.{opened_net}
+use Rattle.shared_net.specs.inside.Mail.{AreSpelled}
+use Rattle.shared_net.specs.inside.Making.{IsSameTree}
+
+-- the messages that go to the site with this number, in order
+abbrev pub messages_to : ℕ → List Addressed → List MessageParts
+messages_to i [] = []
+messages_to i (p ∷ ps) = cond (p.target == i) (p.msg ∷ messages_to i ps) (messages_to i ps)
+
+-- the mail of each site spells the messages that go to it
+abbrev pub IsMailOf : List Addressed → List (List (List ℕ)) → Type 0
+IsMailOf ps mails =
+    (i : ℕ) (mail : List (List ℕ)) → slice_get mails i ≡ Some mail
+    → AreSpelled (messages_to i ps) mail
+
+-- sites and tree are those of the network that the code opens, and what the openings send is the
+-- mail of the sites, one mail for each
+pub record IsOpenedAs (c : CodeParts) (t : Tree) (sites : List Site)
+    (mails : List (List (List ℕ))) : Type 0 where
+  pub tree : IsSameTree (opened_net c).tree t
+  pub sites_are : sites ≡ (opened_net c).sites
+  pub boxes : length mails ≡ length sites
+  pub mail : IsMailOf (opened_net c).packets mails

@@ -1,0 +1,16 @@
+pub mod Packed
+pub mod Stored
+pub mod New
+pub mod Split
+pub mod Rising
+pub mod Told
+pub mod Index
+pub mod Carried
+pub mod Forgotten
+pub mod InTree
+pub mod Parted
+pub mod More
+pub mod Leave
+pub mod Fired
+pub mod Covered
+pub mod Hosted

@@ -1,0 +1,12 @@
+-- The locations that a site hosts, as pairs in a set.
+use Rattle.std.specs.Prelude.{ℕ, List, [], ◌∷◌}
+use Rattle.chem_model.specs.declared.name.Loc.{Loc}
+
+-- the locations, and how many more fit with no allocation
+pub record Hosted : Type 0 where
+  pub locs : List Loc
+  pub spare : ℕ
+
+abbrev pub locs_of : List (ℕ × ℕ) → List Loc
+locs_of [] = []
+locs_of (p ∷ ps) = record { site = p.0; k = p.1 } ∷ locs_of ps
