@@ -7,7 +7,7 @@ use Rattle.chem_model.specs.declared.name.Pat.{Pat}
 use Rattle.chem_model.specs.Process.{Rule, Place, Definitions, no_definition, and_also}
 use Rattle.chem_model.specs.Binders.{binder_of, channels_of, block, places_of, at, patterns_of, is_among, times}
 use Rattle.chem_model.specs.Scope.{IsBinder, AreRules, AreRulesAndPlaces, AreNamed, Agree, IsBlock}
-use Rattle.chem_model.specs.Each.{Each}
+use Rattle.chem_model.specs.Each.{Each, IsIn}
 use Rattle.chem_laws.proofs.Lists.{either_true, is_false}
 use Rattle.chem_laws.proofs.Terms.{among-append, times-cons, times-append}
 
@@ -24,11 +24,7 @@ not_among (b ∷ bs) c e = times-cons b bs c ∙ go (b == c) (not_among bs c) e
     go true ih e' = cc
     go false ih e' = omega (arith, ih e')
 
--- ---- membership, by recursion
-
-abbrev pub IsIn : {X : Type 0} → X → List X → Type 0
-IsIn x [] = ⊥
-IsIn x (y ∷ ys) = (x ≡ y) ⊎ IsIn x ys
+-- ---- membership
 
 module _ {X : Type 0} where
   pub in_left : (x : X) (xs ys : List X) → IsIn x xs → IsIn x (xs ++ ys)

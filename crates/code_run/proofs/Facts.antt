@@ -25,7 +25,7 @@ use Rattle.env_store.specs.Running.{Ran, atom_ran, loc_at, code_made, site_made}
 use Rattle.net_laws.specs.Net.{among}
 use Rattle.net_laws.specs.ByCode.{counts_at, guards_at}
 use Rattle.code_run.specs.Posts.{run_of}
-use Rattle.code_run.specs.RunFacts.{IsHere, IsNameHere, IsOfRun, IsLaid, IsRun}
+use Rattle.code_run.specs.RunFacts.{IsHere, IsNameHere, IsOfRun, IsLaid, HasRunFacts}
 use Rattle.code_run.proofs.Runs.{filled}
 use Rattle.code_run.proofs.Numbers.{Numbers, Within, chans_of, code_numbers, opening_numbers, message_numbers}
 use Rattle.code_run.proofs.Stays.{Stays, IsDeep, IsOk, code_here, opening_here, message_here}
@@ -78,7 +78,7 @@ module _ (c : CodeParts) (s : ℕ) (l : Loc) (env : List Name) (k : ℕ) (a : Ra
       own (inl f) = record { same_site = f.same_site; from = f.from; below = omega (arith, f.below) }
       own (inr f) = f
 
-  pub is_run : a.next ≤ k + 1048576 → Numbers c s k k k a → Stays c s H N knows here a → IsRun c s l env k (run_of a)
+  pub is_run : a.next ≤ k + 1048576 → Numbers c s k k k a → Stays c s H N knows here a → HasRunFacts c s l env k (run_of a)
   is_run few n t = record {
     from = n.up;
     below = few;
@@ -93,14 +93,14 @@ module _ (c : CodeParts) (s : ℕ) (l : Loc) (env : List Name) (k : ℕ) (a : Ra
   }
 
 -- a body's run
-pub body_facts : (c : CodeParts) → IsCode c → (s j : ℕ) (env : List Name) (l : Loc) (k : ℕ) → IsBodyAt c (length env) j → IsRun c s l env k (run_of (code_made c s j env l k))
+pub body_facts : (c : CodeParts) → IsCode c → (s j : ℕ) (env : List Name) (l : Loc) (k : ℕ) → IsBodyAt c (length env) j → HasRunFacts c s l env k (run_of (code_made c s j env l k))
 body_facts c kept s j env l k is =
     let a = code_made c s j env l k in
     is_run c s l env k a (is.draws s env l k refl) (code_numbers c s j env l k)
     (code_here c s (H c s l env k a) (N c s l env k a) (knows c s l env k a) (here c s l env k a) kept j env l k is (start_here c s l env k a) (env_named c s l env k a) (births_here c s l env k a))
 
 -- the opening of a site
-pub opening_facts : (c : CodeParts) → IsCode c → (s : ℕ) (site : SiteCode) → slice_get c.sites s ≡ Some site → IsRun c s (loc_at s 0) [] 1 (run_of (site_made c s site))
+pub opening_facts : (c : CodeParts) → IsCode c → (s : ℕ) (site : SiteCode) → slice_get c.sites s ≡ Some site → HasRunFacts c s (loc_at s 0) [] 1 (run_of (site_made c s site))
 opening_facts c kept s site there =
     let a = site_made c s site in
     let l = loc_at s 0 in
@@ -120,9 +120,9 @@ message_few seen s l k (name.Place a) vs = omega arith
 message_few seen s l k (name.Chan t j h) vs = omega arith
 
 pub message_facts : (c : CodeParts) (seen : List ℕ) (s : ℕ) (l : Loc) (on : Name) (args : List Name) (k : ℕ)
-    → IsRun c s l (on ∷ args) k (run_of (atom_ran (pour seen s (root_of s) [] l k (Msg (Known on) (all_known args)))))
+    → HasRunFacts c s l (on ∷ args) k (run_of (atom_ran (pour seen s (root_of s) [] l k (Msg (Known on) (all_known args)))))
 message_facts c seen s l on args k =
-    subst (λ vs. IsRun c s l (on ∷ args) k (run_of (atom_ran (message_made seen s l k (Known on) vs)))) (sym (filled args))
+    subst (λ vs. HasRunFacts c s l (on ∷ args) k (run_of (atom_ran (message_made seen s l k (Known on) vs)))) (sym (filled args))
     (is_run c s l env k a (message_few seen s l k on (all_known args)) (message_numbers c s seen l k (Known on) (all_known args))
     (message_here c s (H c s l env k a) (N c s l env k a) (knows c s l env k a) (here c s l env k a) seen l k (Known on) (all_known args) (start_here c s l env k a) named.0 (oks args named.1) (births_here c s l env k a)))
   where

@@ -87,7 +87,7 @@ module _ (N : Name → Type 0) where
 -- ---- a run
 
 -- a run at the location l of the site s, under an environment, from the number k on
-pub record IsRun (c : CodeParts) (s : ℕ) (l : Loc) (env : List Name) (k : ℕ) (r : Run) : Type 0
+pub record HasRunFacts (c : CodeParts) (s : ℕ) (l : Loc) (env : List Name) (k : ℕ) (r : Run) : Type 0
   where
     -- it draws at most 1,048,576 numbers
     pub from : k ≤ r.next

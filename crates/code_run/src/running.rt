@@ -10,7 +10,7 @@ ghost use Rattle.env_store.specs.CodeParts.{CodeParts};
 ghost use Rattle.env_store.specs.CodeFacts.{IsBodyAt};
 ghost use Rattle.env_store.specs.Running.{atom_ran, code_made, site_made};
 ghost use Rattle.code_run.specs.Posts.{run_of};
-ghost use Rattle.code_run.specs.RunFacts.{IsRun};
+ghost use Rattle.code_run.specs.RunFacts.{HasRunFacts};
 
 use crate::body::{lay_block, run_body};
 use crate::made::Run;
@@ -35,7 +35,7 @@ pub fn run(
     requires { IsBodyAt code.now (length env.now) body }
     ensures run { IfOk result (λ r. r
         ≡ run_of (code_made code.now number body env.now loc.now from)) }
-    ensures facts { IfOk result (λ r. IsRun code.now number loc.now env.now from r) }
+    ensures facts { IfOk result (λ r. HasRunFacts code.now number loc.now env.now from r) }
 {
     let _ = &code.bodies;
     let mut env = env.copy(alloc)?;
@@ -50,7 +50,7 @@ pub fn open(alloc: Global, code: &Code, number: u32) -> Result<Run, Memory>
     ensures run { IfOk result (λ r. (site : site_code)
         → slice_get code.now.sites number ≡ Some site
         → r ≡ run_of (site_made code.now number site)) }
-    ensures facts { IfOk result (λ r. IsRun code.now number (root_of number) [] 1 r) }
+    ensures facts { IfOk result (λ r. HasRunFacts code.now number (root_of number) [] 1 r) }
 {
     let site = site_at(code, number);
     let block = block_at(code, site.block);
@@ -81,7 +81,7 @@ pub fn message(
     ensures run { IfOk result (λ r. r ≡ run_of (atom_ran (pour counts.now number (root_of number)
         [] loc.now from (Msg (Known on) (all_known args))))) }
     ensures facts { IfOk result (λ r. (c : CodeParts)
-        → IsRun c number loc.now (on ∷ args) from r) }
+        → HasRunFacts c number loc.now (on ∷ args) from r) }
 {
     let mut made = start(alloc, from);
     post_message(counts, number, *loc, on, args, &mut made)?;

@@ -16,7 +16,8 @@ use Rattle.chem_model.specs.Opening.{site_names}
 use Rattle.chem_laws.proofs.Lists.{Each-append, all_each}
 use Rattle.chem_laws.proofs.Parts.{is_named}
 use Rattle.chem_laws.proofs.Naming.{naming_is}
-use Rattle.chem_laws.proofs.NamingLevels.{IsIn, in_left, in_right, all_in}
+use Rattle.chem_model.specs.Each.{IsIn}
+use Rattle.chem_laws.proofs.NamingLevels.{in_left, in_right, all_in}
 use Rattle.chem_laws.proofs.OpeningBlocks.{IsBlockAt, of_block, own_block, other_block}
 use Rattle.chem_laws.proofs.OpeningNames.{HasLevel, rest_found}
 use Rattle.env_store.specs.Layout.{new_ref, new_in, new_channels, count_ref, counts_in, new_counts, place_order, order, LevelTerm, level_term, levels_of, levels_of_all, levels_of_defs, levels_of_def, levels_of_site, levels_of_sites, levels_of_program}

@@ -2,9 +2,10 @@
 use Rattle.std.proofs.Common.{◌≡◌, ◌≢◌, ◌⊎◌, ℕ, Bool, true, false, cond, List, [], ◌∷◌, refl, sym, ap, ◌∙◌, inl, inr, Some, None}
 use Rattle.std.specs.Str.{bytes_eq}
 use Rattle.std.proofs.lemmas.Slice.Eq.{bytes_eq-Decides}
+use Rattle.chem_model.specs.Each.{IsIn}
 use Rattle.join_lex.specs.declared.token.Key.{Key}
 use Rattle.join_lex.specs.declared.token.Key.TheVariants as key
-use Rattle.join_lex.specs.Spelling.{first_version, key_bytes, in_word, is_lower, IsRun, IsAmong}
+use Rattle.join_lex.specs.Spelling.{first_version, key_bytes, in_word, is_lower, IsStretch}
 use Rattle.join_lex.specs.inside.Scan.{key_at}
 
 -- Two words are tested to be equal, or not to be.
@@ -15,7 +16,7 @@ by_test a b C same other =
     (bytes_eq-Decides a b).0 (bytes_eq-Decides a b).1
 
 -- A keyword's spelling is a word.
-pub key-run : (k : Key) → IsRun is_lower in_word (key_bytes k)
+pub key-run : (k : Key) → IsStretch is_lower in_word (key_bytes k)
 key-run key.Observe = record { head = 111; more = _; is = refl; starts = refl; passes = (refl, (refl, (refl, (refl, (refl, (refl, tt)))))) }
 key-run key.Site = record { head = 115; more = _; is = refl; starts = refl; passes = (refl, (refl, (refl, tt))) }
 key-run key.Def = record { head = 100; more = _; is = refl; starts = refl; passes = (refl, (refl, tt)) }
@@ -42,31 +43,31 @@ pub one_key : (j k : Key) → key_bytes j ≡ key_bytes k → j ≡ k
 one_key j k e =
     let same : Some j ≡ Some k = sym (read_back j) ∙ ap (key_at first_version.keywords) e ∙ read_back k in cc
 
-pub key_at-none : (keys : List Key) (w : List ℕ) → ((k : Key) → IsAmong keys k → w ≢ key_bytes k) → key_at keys w ≡ None
+pub key_at-none : (keys : List Key) (w : List ℕ) → ((k : Key) → IsIn k keys → w ≢ key_bytes k) → key_at keys w ≡ None
 key_at-none [] w n = refl
 key_at-none (k ∷ ks) w n =
     by_test w (key_bytes k) (λ v. cond v (Some k) (key_at ks w) ≡ None)
     (λ h. absurd (n k (inl refl) h))
     (λ h. key_at-none ks w (λ j m. n j (inr m)))
 
-pub key_at-key : (keys : List Key) (k : Key) → IsAmong keys k → key_at keys (key_bytes k) ≡ Some k
+pub key_at-key : (keys : List Key) (k : Key) → IsIn k keys → key_at keys (key_bytes k) ≡ Some k
 key_at-key [] k m = absurd m
 key_at-key (j ∷ js) k m =
     by_test (key_bytes k) (key_bytes j) (λ v. cond v (Some j) (key_at js (key_bytes k)) ≡ Some k)
     (λ h. ap Some (sym (one_key k j h)))
     (λ h. key_at-key js k (later m h))
   where
-    later : (k ≡ j) ⊎ IsAmong js k → key_bytes k ≢ key_bytes j → IsAmong js k
+    later : (k ≡ j) ⊎ IsIn k js → key_bytes k ≢ key_bytes j → IsIn k js
     later (inl e) h = absurd (h (ap key_bytes e))
     later (inr m) h = m
 
-pub key_at-some : (keys : List Key) (w : List ℕ) (k : Key) → key_at keys w ≡ Some k → (w ≡ key_bytes k) × IsAmong keys k
+pub key_at-some : (keys : List Key) (w : List ℕ) (k : Key) → key_at keys w ≡ Some k → (w ≡ key_bytes k) × IsIn k keys
 key_at-some [] w k e = cc
 key_at-some (j ∷ js) w k e =
-    by_test w (key_bytes j) (λ v. cond v (Some j) (key_at js w) ≡ Some k → (w ≡ key_bytes k) × IsAmong (j ∷ js) k)
+    by_test w (key_bytes j) (λ v. cond v (Some j) (key_at js w) ≡ Some k → (w ≡ key_bytes k) × IsIn k (j ∷ js))
     (λ h q. let s : j ≡ k = cc in (h ∙ ap key_bytes s, inl (sym s)))
     (λ h q. let r = key_at-some js w k q in (r.0, inr r.1))
     e
 
-pub not-key : (keys : List Key) (w : List ℕ) → key_at keys w ≡ None → (k : Key) → IsAmong keys k → w ≢ key_bytes k
+pub not-key : (keys : List Key) (w : List ℕ) → key_at keys w ≡ None → (k : Key) → IsIn k keys → w ≢ key_bytes k
 not-key keys w e k m h = let s : key_at keys w ≡ Some k = ap (key_at keys) h ∙ key_at-key keys k m in cc

@@ -9,8 +9,8 @@ use Rattle.join_lex.specs.declared.token.Key.{Key}
 use Rattle.join_lex.specs.declared.token.Sign.{Sign}
 use Rattle.join_lex.specs.declared.token.Sign.TheVariants as sign
 use Rattle.join_lex.specs.declared.token.Kind2.TheVariants as kind
-use Rattle.join_lex.specs.Spelling.{Version, key_bytes, sign_bytes, is_blank, is_lower, in_word, is_digit, is_hash, in_line, value_of, Pass, IsRun}
-use Rattle.join_lex.specs.Lexical.{Piece, Gap, Word, bytes_of, Stops, Fits, Begins, IsSmall, LargeNumber}
+use Rattle.join_lex.specs.Spelling.{Version, key_bytes, sign_bytes, is_blank, is_lower, in_word, is_digit, is_hash, in_line, value_of, Pass, IsStretch}
+use Rattle.join_lex.specs.Lexical.{Piece, Gap, Word, bytes_of, Stops, Fits, BeginsWith, IsSmall, LargeNumber}
 use Rattle.join_lex.specs.inside.Scan.{scan, key_at, sign_at, one_sign, sign_piece, number_piece}
 use Rattle.join_lex.specs.inside.Scan.{word_piece, word_kind}
 use Rattle.join_lex.proofs.Keys.{key-run, key_at-key, key_at-none, key_at-some, not-key}
@@ -61,20 +61,20 @@ small_is version p r s e = (λ _. e, λ n. absurd (n s))
 run-blank : (version : Version) (b : ℕ) (r : List ℕ) → is_blank b ≡ true → scan version (b ∷ r) ≡ Ok (Gap (b ∷ []))
 run-blank version b r e = rw e refl
 
-run-comment : (version : Version) (g r : List ℕ) → IsRun is_hash in_line g → Stops in_line r → scan version (g ++ r) ≡ Ok (Gap g)
+run-comment : (version : Version) (g r : List ℕ) → IsStretch is_hash in_line g → Stops in_line r → scan version (g ++ r) ≡ Ok (Gap g)
 run-comment version g r h s =
     let n = hash-not h.head h.starts in
     let t : take_while in_line ((h.head ∷ h.more) ++ r) ≡ h.head ∷ h.more = take_while-run in_line (h.head ∷ h.more) r (n.1, h.passes) s in
     let same : eqb h.head 35 ≡ true = h.starts in
     rw h.is (rw (n.0, same, t) refl)
 
-run-word : (version : Version) (w r : List ℕ) → IsRun is_lower in_word w → Stops in_word r → scan version (w ++ r) ≡ Ok (word_piece version w)
+run-word : (version : Version) (w r : List ℕ) → IsStretch is_lower in_word w → Stops in_word r → scan version (w ++ r) ≡ Ok (word_piece version w)
 run-word version w r h s =
     let n = lower-not h.head h.starts in
     let t : take_while in_word ((h.head ∷ h.more) ++ r) ≡ h.head ∷ h.more = take_while-run in_word (h.head ∷ h.more) r (n.2, h.passes) s in
     rw h.is (rw (t, n.0, n.1, h.starts) refl)
 
-run-number : (version : Version) (w r : List ℕ) → IsRun is_digit is_digit w → Stops is_digit r → scan version (w ++ r) ≡ number_piece version w
+run-number : (version : Version) (w r : List ℕ) → IsStretch is_digit is_digit w → Stops is_digit r → scan version (w ++ r) ≡ number_piece version w
 run-number version w r h s =
     let n = digit-not h.head h.starts in
     let t : take_while is_digit ((h.head ∷ h.more) ++ r) ≡ h.head ∷ h.more = take_while-run is_digit (h.head ∷ h.more) r (h.starts, h.passes) s in
@@ -121,19 +121,19 @@ fits-found version (Word (kind.Key k) w) r (e, m, s) =
 fits-found version (Word (kind.Sign s) w) r e = small_is version _ _ tt (rw e (run-sign version s r))
 
 -- A piece that begins a text is what the scan finds.
-pub begins-found : (version : Version) (p : Piece) (text r : List ℕ) → Begins version p text r → Found version p (scan version text)
+pub begins-found : (version : Version) (p : Piece) (text r : List ℕ) → BeginsWith version p text r → Found version p (scan version text)
 begins-found version p text r b = rw b.whole (fits-found version p r b.fits)
 
 -- What the scan answers is a piece that begins the text, or a number that is too large.
 abbrev pub Sound : Version → List ℕ → Result Piece Kind → Type 0
-Sound version text (Ok p) = ((more : List ℕ) × Begins version p text more) × IsSmall version p × (0 < length (bytes_of p))
+Sound version text (Ok p) = ((more : List ℕ) × BeginsWith version p text more) × IsSmall version p × (0 < length (bytes_of p))
 Sound version text (Err k) = (k ≡ Lex2) ⊎ ((k ≡ Lex3) × LargeNumber version text)
 
 -- the run at the front of a text that begins with such a byte
 record Front (first f : ℕ → Bool) (text : List ℕ) : Type 0 where
   rest : List ℕ
   whole : text ≡ take_while f text ++ rest
-  run : IsRun first f (take_while f text)
+  run : IsStretch first f (take_while f text)
   stop : Stops f rest
   some : 0 < length (take_while f text)
 
@@ -149,13 +149,13 @@ front-run first f b t e k =
       some = rw is (omega arith);
     }
 
-word-sound : (version : Version) (text w : List ℕ) (rest : List ℕ) → text ≡ w ++ rest → IsRun is_lower in_word w → Stops in_word rest → 0 < length w → (o : Option Key) → key_at version.keywords w ≡ o → Sound version text (Ok (Word (word_kind w o) w))
+word-sound : (version : Version) (text w : List ℕ) (rest : List ℕ) → text ≡ w ++ rest → IsStretch is_lower in_word w → Stops in_word rest → 0 < length w → (o : Option Key) → key_at version.keywords w ≡ o → Sound version text (Ok (Word (word_kind w o) w))
 word-sound version text w rest e r s l None k = ((rest, record { whole = e; fits = (refl, (r, not-key version.keywords w k), s) }), tt, l)
 word-sound version text w rest e r s l (Some k) h =
     let f = key_at-some version.keywords w k h in
     ((rest, record { whole = e; fits = (f.0, f.1, s) }), tt, l)
 
-number-sound : (version : Version) (text w rest : List ℕ) → text ≡ w ++ rest → IsRun is_digit is_digit w → Stops is_digit rest → 0 < length w → (v : Bool) → leb (value_of w) version.largest ≡ v → Sound version text (cond v (Ok (Word (kind.Number (value_of w)) w)) (Err Lex3))
+number-sound : (version : Version) (text w rest : List ℕ) → text ≡ w ++ rest → IsStretch is_digit is_digit w → Stops is_digit rest → 0 < length w → (v : Bool) → leb (value_of w) version.largest ≡ v → Sound version text (cond v (Ok (Word (kind.Number (value_of w)) w)) (Err Lex3))
 number-sound version text w rest e r s l true k = ((rest, record { whole = e; fits = (refl, r, s) }), grind (arith, nat_tests), l)
 number-sound version text w rest e r s l false k =
     inr (refl, (value_of w, w, rest, record { whole = e; fits = (refl, r, s) }, grind (arith, nat_tests)))
@@ -200,7 +200,7 @@ scan-sound version [] n = absurd (n refl)
 scan-sound version (b ∷ t) n = scan-sound-cons version b t
 
 -- where the scan finds no token, no piece begins
-pub scan-none : (version : Version) (text : List ℕ) → scan version text ≡ Err Lex2 → (p : Piece) (more : List ℕ) → Begins version p text more → ⊥
+pub scan-none : (version : Version) (text : List ℕ) → scan version text ≡ Err Lex2 → (p : Piece) (more : List ℕ) → BeginsWith version p text more → ⊥
 scan-none version text e p more b =
     let f = begins-found version p text more b in
     let not_small : IsSmall version p → ⊥ = λ s. let q = f.0 s in cc in

@@ -11,7 +11,7 @@ use Rattle.join_lex.specs.declared.token.Kind2.{Kind2}
 use Rattle.join_lex.specs.declared.token.Token.{Token}
 use Rattle.join_lex.specs.Spelling.{Version}
 use Rattle.join_lex.specs.Tokens.{TokensOfText}
-use Rattle.join_lex.specs.Lexical.{Fault, too_long, no_token, large_number, Piece, Gap, Word, bytes_of, Begins, IsSmall, NoToken, LargeNumber, BreaksAt, Splits, tokens_at, StandFor, AreTokensOf, IsFirstFault, NamesFault, IsOrMemory, kind_of, HasOneOutcome}
+use Rattle.join_lex.specs.Lexical.{Fault, too_long, no_token, large_number, Piece, Gap, Word, bytes_of, BeginsWith, IsSmall, NoToken, LargeNumber, BreaksAt, Splits, tokens_at, StandFor, AreTokensOf, IsFirstFault, NamesFault, IsOrMemory, kind_of, HasOneOutcome}
 use Rattle.join_lex.specs.inside.Scan.{scan, piece_of, ScanFails}
 use Rattle.join_lex.specs.inside.Steps.{StepsTo}
 use Rattle.join_lex.proofs.Passed.{Passed}
@@ -25,7 +25,7 @@ length-piece rest None len l = length-take-le len rest l
 length-piece rest (Some k) len l = length-take-le len rest l
 
 -- a piece at the front is followed by what is left when it is dropped
-begins-drop : (version : Version) (p : Piece) (text more : List ℕ) (len : ℕ) → Begins version p text more → length (bytes_of p) ≡ len → Begins version p text (drop len text)
+begins-drop : (version : Version) (p : Piece) (text more : List ℕ) (len : ℕ) → BeginsWith version p text more → length (bytes_of p) ≡ len → BeginsWith version p text (drop len text)
 begins-drop version p text more len b e =
     let d : drop len text ≡ more = rw (b.whole, ← e) (drop-append_seam (bytes_of p) more) in
     rw d b
@@ -61,7 +61,7 @@ splits-total version (p ∷ ps) text rest (more, b, s, t) =
     let i = splits-total version ps more rest t in
     omega (arith, simp length-append at (ap length b.whole))
 
-splits-more : (version : Version) (ps : List Piece) (p : Piece) (text rest more : List ℕ) → Splits version ps text rest → Begins version p rest more → IsSmall version p → Splits version (ps ++ p ∷ []) text more
+splits-more : (version : Version) (ps : List Piece) (p : Piece) (text rest more : List ℕ) → Splits version ps text rest → BeginsWith version p rest more → IsSmall version p → Splits version (ps ++ p ∷ []) text more
 splits-more version [] p text rest more e b s = (more, rw e b, s, refl)
 splits-more version (q ∷ ps) p text rest more (next, c, k, t) b s = (next, c, k, splits-more version ps p next rest more t b s)
 
@@ -119,9 +119,9 @@ stops-refused version text at tokens (front.Refused k place) s l p h =
 
 -- No piece within the bound begins the rest.
 abbrev pub Ends : Version → List ℕ → Type 0
-Ends version rest = (p : Piece) (more : List ℕ) → Begins version p rest more → IsSmall version p → ⊥
+Ends version rest = (p : Piece) (more : List ℕ) → BeginsWith version p rest more → IsSmall version p → ⊥
 
-found-small : (version : Version) (p : Piece) (text more : List ℕ) → Begins version p text more → IsSmall version p → scan version text ≡ Ok p
+found-small : (version : Version) (p : Piece) (text more : List ℕ) → BeginsWith version p text more → IsSmall version p → scan version text ≡ Ok p
 found-small version p text more b s = (begins-found version p text more b).0 s
 
 found-large : (version : Version) (rest : List ℕ) → LargeNumber version rest → scan version rest ≡ Err Lex3
@@ -139,7 +139,7 @@ ends-large version rest bad p more b s =
     let l = found-large version rest bad in
     cc
 
-same-rest : (version : Version) (p : Piece) (text more next : List ℕ) → Begins version p text more → Begins version p text next → more ≡ next
+same-rest : (version : Version) (p : Piece) (text more next : List ℕ) → BeginsWith version p text more → BeginsWith version p text next → more ≡ next
 same-rest version p text more next b c =
     let d : drop (length (bytes_of p)) text ≡ more = rw b.whole (drop-append_seam (bytes_of p) more) in
     let e : drop (length (bytes_of p)) text ≡ next = rw c.whole (drop-append_seam (bytes_of p) next) in

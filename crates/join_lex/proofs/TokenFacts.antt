@@ -9,13 +9,13 @@ use Rattle.join_lex.specs.declared.token.Sign.TheVariants as sign
 use Rattle.join_lex.specs.declared.token.Kind2.{Kind2}
 use Rattle.join_lex.specs.declared.token.Kind2.TheVariants as kind
 use Rattle.join_lex.specs.declared.token.Token.{Token}
-use Rattle.join_lex.specs.Spelling.{Version, first_version, IsRun, IsOfVersion, sign_bytes}
+use Rattle.join_lex.specs.Spelling.{Version, first_version, IsStretch, IsOfVersion, sign_bytes}
 use Rattle.join_lex.specs.Tokens.{TokensOfText, AreTokens}
-use Rattle.join_lex.specs.Lexical.{Begins, bytes_of, Piece, Gap, Word, Spells, IsSmall, Splits, tokens_at, AreTokensOf, IsSpelledAt}
+use Rattle.join_lex.specs.Lexical.{BeginsWith, bytes_of, Piece, Gap, Word, SpellsToken, IsSmall, Splits, tokens_at, AreTokensOf, IsSpelledAt}
 use Rattle.join_lex.proofs.Passed.{Passed}
 use Rattle.join_lex.proofs.Keys.{key-run}
 
-run-some : {first f : ℕ → Bool} {word : List ℕ} → IsRun first f word → 0 < length word
+run-some : {first f : ℕ → Bool} {word : List ℕ} → IsStretch first f word → 0 < length word
 run-some {first} {f} {word} r = omega (arith, ap length r.is)
 
 sign-some : (s : Sign) → 0 < length (sign_bytes s)
@@ -31,7 +31,7 @@ sign-some sign.Semicolon = omega arith
 sign-some sign.Slash = omega arith
 
 -- A token's spelling has a byte, and the token is one of the version.
-spelled : (version : Version) (k : Kind2) (word rest : List ℕ) → Spells version k word rest → IsSmall version (Word k word) → (0 < length word) × IsOfVersion version k
+spelled : (version : Version) (k : Kind2) (word rest : List ℕ) → SpellsToken version k word rest → IsSmall version (Word k word) → (0 < length word) × IsOfVersion version k
 spelled version (kind.Ident name) word rest (e, i, t) s = (run-some i.0, rw e i)
 spelled version (kind.Number n) word rest (e, r, t) s = (run-some r, s)
 spelled version (kind.Key k) word rest (e, m, t) s = (rw e (run-some (key-run k)), m)
@@ -98,12 +98,12 @@ are_tokens text place tokens short end p =
     let b : Between first_version 0 (length text) tokens = rw p.tokens_are (between first_version p.pieces text 0 (length text) split (omega arith)) in
     record { few = omega (arith, b.few, short); spans = b.spans; rise = b.rise; within = b.within; words = b.words }
 
-behind : (version : Version) (p : Piece) (whole text more : List ℕ) (place : ℕ) → drop place whole ≡ text → Begins version p text more → drop (place + length (bytes_of p)) whole ≡ more
+behind : (version : Version) (p : Piece) (whole text more : List ℕ) (place : ℕ) → drop place whole ≡ text → BeginsWith version p text more → drop (place + length (bytes_of p)) whole ≡ more
 behind version p whole text more place e b =
     let d : drop (length (bytes_of p)) text ≡ more = rw b.whole (drop_at (bytes_of p) more _ refl) in
     sym (drop-drop (length (bytes_of p)) place whole) ∙ ap (drop (length (bytes_of p))) e ∙ d
 
-word-spelled : (version : Version) (k : Kind2) (w whole text more : List ℕ) (place : ℕ) → drop place whole ≡ text → Begins version (Word k w) text more → IsSpelledAt version whole (record { kind = k; span = record { from = place; upto = place + length w } })
+word-spelled : (version : Version) (k : Kind2) (w whole text more : List ℕ) (place : ℕ) → drop place whole ≡ text → BeginsWith version (Word k w) text more → IsSpelledAt version whole (record { kind = k; span = record { from = place; upto = place + length w } })
 word-spelled version k w whole text more place e b =
     let n : place + length w - place ≡ length w = omega arith in
     let t : take (place + length w - place) (drop place whole) ≡ w = rw (n, e, b.whole) (take_at w more _ refl) in

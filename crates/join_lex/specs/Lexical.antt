@@ -6,11 +6,12 @@ use Rattle.join_base.specs.declared.fault.Kind.{Kind}
 use Rattle.join_base.specs.declared.fault.Kind.TheVariants as fault_kind
 use Rattle.join_base.specs.declared.fault.Front.{Front}
 use Rattle.join_base.specs.declared.fault.Front.TheVariants as front
+use Rattle.chem_model.specs.Each.{IsIn}
 use Rattle.join_lex.specs.declared.token.Kind2.{Kind2}
 use Rattle.join_lex.specs.declared.token.Kind2.TheVariants as kind
 use Rattle.join_lex.specs.declared.token.Token.{Token}
 use Rattle.join_lex.specs.Spelling.{Version, is_blank, is_hash, in_line, is_digit, in_word}
-use Rattle.join_lex.specs.Spelling.{sign_bytes, key_bytes, value_of, IsRun, IsAmong, IsIdentifier}
+use Rattle.join_lex.specs.Spelling.{sign_bytes, key_bytes, value_of, IsStretch, IsIdentifier}
 use Rattle.join_lex.specs.Tokens.{TokensOfText}
 
 -- a piece of a text: a blank or a whole comment, or a token with its spelling
@@ -29,14 +30,14 @@ Stops f [] = Unit {0}
 Stops f (b ∷ bs) = f b ≡ false
 
 -- The word before this rest is the spelling of such a token, and could not be longer.
-abbrev pub Spells : Version → Kind2 → List ℕ → List ℕ → Type 0
-Spells version (kind.Ident name) word rest =
+abbrev pub SpellsToken : Version → Kind2 → List ℕ → List ℕ → Type 0
+SpellsToken version (kind.Ident name) word rest =
     (name ≡ word) × IsIdentifier version word × Stops in_word rest
-Spells version (kind.Number n) word rest =
-    (n ≡ value_of word) × IsRun is_digit is_digit word × Stops is_digit rest
-Spells version (kind.Key k) word rest =
-    (word ≡ key_bytes k) × IsAmong version.keywords k × Stops in_word rest
-Spells version (kind.Sign s) word rest = word ≡ sign_bytes s
+SpellsToken version (kind.Number n) word rest =
+    (n ≡ value_of word) × IsStretch is_digit is_digit word × Stops is_digit rest
+SpellsToken version (kind.Key k) word rest =
+    (word ≡ key_bytes k) × IsIn k version.keywords × Stops in_word rest
+SpellsToken version (kind.Sign s) word rest = word ≡ sign_bytes s
 
 -- a blank
 abbrev pub IsBlank : List ℕ → Type 0
@@ -44,11 +45,11 @@ IsBlank bytes = (b : ℕ) × (bytes ≡ b ∷ []) × IsTrue (is_blank b)
 
 -- The piece may stand before the rest. A comment goes on to the next line feed or the end.
 abbrev pub Fits : Version → Piece → List ℕ → Type 0
-Fits version (Gap bytes) rest = IsBlank bytes ⊎ (IsRun is_hash in_line bytes × Stops in_line rest)
-Fits version (Word k word) rest = Spells version k word rest
+Fits version (Gap bytes) rest = IsBlank bytes ⊎ (IsStretch is_hash in_line bytes × Stops in_line rest)
+Fits version (Word k word) rest = SpellsToken version k word rest
 
 -- The text is a piece that may stand there, and the rest.
-pub record Begins (version : Version) (piece : Piece) (text rest : List ℕ) : Type 0 where
+pub record BeginsWith (version : Version) (piece : Piece) (text rest : List ℕ) : Type 0 where
   pub whole : text ≡ bytes_of piece ++ rest
   pub fits : Fits version piece rest
 
@@ -64,7 +65,7 @@ IsSmall version (Word (kind.Sign s) word) = Unit {0}
 abbrev pub Splits : Version → List Piece → List ℕ → List ℕ → Type 0
 Splits version [] text rest = text ≡ rest
 Splits version (p ∷ ps) text rest =
-    (more : List ℕ) × Begins version p text more × IsSmall version p × Splits version ps more rest
+    (more : List ℕ) × BeginsWith version p text more × IsSmall version p × Splits version ps more rest
 
 -- the tokens among pieces of which the first stands at this place
 abbrev pub tokens_at : ℕ → List Piece → List Token
@@ -89,7 +90,7 @@ pub record AreTokensOf (version : Version) (t : TokensOfText) (text : List ℕ) 
 -- The bytes of the token's span are its spelling, and it could not be longer.
 abbrev pub IsSpelledAt : Version → List ℕ → Token → Type 0
 IsSpelledAt version text token =
-    Spells version token.kind
+    SpellsToken version token.kind
     (take (token.span.upto - token.span.from) (drop token.span.from text))
     (drop token.span.upto text)
 
@@ -99,13 +100,13 @@ HoldSpellings version text t = AreTokensOf version t text → All (IsSpelledAt v
 
 -- At the front of the rest stands a byte that begins neither blank, comment nor token.
 abbrev pub NoToken : Version → List ℕ → Type 0
-NoToken version rest = (rest ≢ []) × ((p : Piece) (more : List ℕ) → Begins version p rest more → ⊥)
+NoToken version rest = (rest ≢ []) × ((p : Piece) (more : List ℕ) → BeginsWith version p rest more → ⊥)
 
 -- At the front of the rest stands a number above the bound.
 abbrev pub LargeNumber : Version → List ℕ → Type 0
 LargeNumber version rest =
     (n : ℕ) × (word : List ℕ) × (more : List ℕ)
-    × Begins version (Word (kind.Number n) word) rest more × (version.largest < n)
+    × BeginsWith version (Word (kind.Number n) word) rest more × (version.largest < n)
 
 -- Pieces stand before this place, and such a rest begins at it.
 pub record BreaksAt (version : Version) (Bad : List ℕ → Type 0) (place : ℕ)

@@ -1,6 +1,7 @@
 -- How keywords, signs, identifiers and numbers are spelled.
 use Rattle.std.specs.Prelude.{◌≡◌, ◌≢◌, ◌⊎◌, ℕ, ◌+◌, ◌*◌, ◌-◌, ◌≤◌, ◌||◌, ◌&&◌, ◌==◌}
 use Rattle.std.specs.Prelude.{nat_le, not, Bool, IsTrue, List, [], ◌∷◌, codes, fold}
+use Rattle.chem_model.specs.Each.{IsIn}
 use Rattle.join_lex.specs.declared.token.Key.{Key}
 use Rattle.join_lex.specs.declared.token.Key.TheVariants as key
 use Rattle.join_lex.specs.declared.token.Sign.{Sign}
@@ -78,25 +79,21 @@ Pass f [] = Unit {0}
 Pass f (b ∷ bs) = IsTrue (f b) × Pass f bs
 
 -- a first byte and then bytes that pass
-pub record IsRun (first f : ℕ → Bool) (word : List ℕ) : Type 0 where
+pub record IsStretch (first f : ℕ → Bool) (word : List ℕ) : Type 0 where
   pub head : ℕ
   pub more : List ℕ
   pub is : word ≡ head ∷ more
   pub starts : IsTrue (first head)
   pub passes : Pass f more
 
-abbrev pub IsAmong : List Key → Key → Type 0
-IsAmong [] k = ⊥
-IsAmong (j ∷ js) k = (k ≡ j) ⊎ IsAmong js k
-
 -- a word that is no keyword of this version
 abbrev pub IsIdentifier : Version → List ℕ → Type 0
 IsIdentifier version word =
-    IsRun is_lower in_word word × ((k : Key) → IsAmong version.keywords k → word ≢ key_bytes k)
+    IsStretch is_lower in_word word × ((k : Key) → IsIn k version.keywords → word ≢ key_bytes k)
 
 -- a token that this version has
 abbrev pub IsOfVersion : Version → Kind2 → Type 0
 IsOfVersion version (kind.Ident name) = IsIdentifier version name
 IsOfVersion version (kind.Number n) = n ≤ version.largest
-IsOfVersion version (kind.Key k) = IsAmong version.keywords k
+IsOfVersion version (kind.Key k) = IsIn k version.keywords
 IsOfVersion version (kind.Sign s) = Unit {0}

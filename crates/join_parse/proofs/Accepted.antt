@@ -9,7 +9,7 @@ use Rattle.join_parse.specs.declared.word.SeenTree.{SeenTree}
 use Rattle.join_parse.specs.declared.tree.PlaceTree.{PlaceTree}
 use Rattle.join_parse.specs.Terminals.{Terminal, a_key, a_sign, kind_of}
 use Rattle.join_parse.specs.Source.{Process, Zero, Msg, Go, Fail, Halt, Group, Def, Processes, none, one_more, Definition, Rule, Place, Definitions, no_definition, and_also, processes, definitions}
-use Rattle.join_parse.specs.Grammar.{TreeOfText, more_names, names, more_patterns, of_process, of_processes, more_processes, of_definition, of_definitions, more_definitions, of_declarations, of_sites, sentence, IsSome, AreShort, IsSimple, IsProcess, AreProcesses, AreMore, IsDefinition, AreDefinitions, AreDeclarations, AreSites, IsGrammatical}
+use Rattle.join_parse.specs.Grammar.{TreeOfText, more_names, names, more_patterns, of_process, of_processes, more_processes, of_definition, of_definitions, more_definitions, of_declarations, of_sites, sentence, IsNotEmpty, AreShort, IsSimple, IsProcess, AreProcesses, AreMore, IsDefinition, AreDefinitions, AreDeclarations, AreSites, IsGrammatical}
 use Rattle.join_parse.specs.Levels.{more_names_levels, names_levels, more_patterns_levels, process_levels, processes_levels, more_processes_levels, definition_levels, definitions_levels, more_definitions_levels, declarations_levels, sites_levels, levels}
 use Rattle.join_parse.specs.Begins.{Symbol, AName, ASign, AKey, CloseGroup, CloseSquare, EndDef, Program, Sites, Defs, MoreDefs, DefRest, MorePatterns, Names, MoreNames, AProc, MoreProcs}
 use Rattle.join_parse.specs.inside.Automaton.{advance, may_end, level, is_sign, is_key}
@@ -150,6 +150,6 @@ r-program (d ∷ seen) s sites a b =
 pub run-sentence : (t : TreeOfText) → IsGrammatical t → run (sentence t) (Program ∷ []) ≡ (levels t, true)
 run-sentence t g = some t.sites g.some_site g.sites
   where
-    some : (sites : List PlaceTree) → IsSome sites → AreSites sites → run (of_declarations t.seen (of_sites sites [])) (Program ∷ []) ≡ (declarations_levels t.seen (sites_levels sites []), true)
+    some : (sites : List PlaceTree) → IsNotEmpty sites → AreSites sites → run (of_declarations t.seen (of_sites sites [])) (Program ∷ []) ≡ (declarations_levels t.seen (sites_levels sites []), true)
     some [] i a = absurd i
     some (s ∷ sites) i a = r-program t.seen s sites g.seen a

@@ -7,14 +7,14 @@ use Rattle.join_lex.specs.declared.token.Key.TheVariants as key
 use Rattle.join_lex.specs.declared.token.Sign.TheVariants as sign
 use Rattle.join_lex.specs.declared.token.Token.{Token}
 use Rattle.join_lex.specs.Spelling.{first_version, in_word, is_digit, IsOfVersion}
-use Rattle.join_lex.specs.Lexical.{Piece, Gap, Word as Token_piece, Stops, Spells, IsSmall, Splits, tokens_at}
+use Rattle.join_lex.specs.Lexical.{Piece, Gap, Word as Token_piece, Stops, SpellsToken, IsSmall, Splits, tokens_at}
 use Rattle.join_parse.specs.declared.word.Word.{Word}
 use Rattle.join_parse.specs.declared.word.PatTree.{PatTree}
 use Rattle.join_parse.specs.declared.word.SeenTree.{SeenTree}
 use Rattle.join_parse.specs.declared.tree.PlaceTree.{PlaceTree}
 use Rattle.join_parse.specs.Terminals.{Terminal, a_name, a_number, a_site, a_key, a_sign, kind_of, terminal_of, terminals, named}
 use Rattle.join_parse.specs.Source.{Process, Zero, Msg, Go, Fail, Halt, Group, Def, Processes, none, one_more, Definition, Rule, Place, Definitions, no_definition, and_also, processes, definitions}
-use Rattle.join_parse.specs.Grammar.{TreeOfText, more_names, names, more_patterns, patterns, of_process, of_processes, more_processes, of_definition, of_definitions, more_definitions, of_declarations, of_sites, sentence, IsSome, AreShort, IsSimple, IsProcess, AreProcesses, AreMore, IsDefinition, AreDefinitions, AreDeclarations, AreSites, IsGrammatical}
+use Rattle.join_parse.specs.Grammar.{TreeOfText, more_names, names, more_patterns, patterns, of_process, of_processes, more_processes, of_definition, of_definitions, more_definitions, of_declarations, of_sites, sentence, IsNotEmpty, AreShort, IsSimple, IsProcess, AreProcesses, AreMore, IsDefinition, AreDefinitions, AreDeclarations, AreSites, IsGrammatical}
 use Rattle.join_parse.specs.Levels.{levels, AreWithin}
 use Rattle.join_parse.specs.Begins.{Symbol, Program}
 use Rattle.join_parse.specs.inside.Automaton.{advance, level}
@@ -114,7 +114,7 @@ g-short : (ps : List PatTree) → AreShort ps → AreShort (map bare_pattern ps)
 g-short [] a = tt
 g-short (p ∷ ps) a = (short p.params a.0, g-short ps a.1)
 
-g-some : {A B : Type 0} (f : A → B) (xs : List A) → IsSome xs → IsSome (map f xs)
+g-some : {A B : Type 0} (f : A → B) (xs : List A) → IsNotEmpty xs → IsNotEmpty (map f xs)
 g-some f [] s = s
 g-some f (x ∷ xs) s = tt
 
@@ -207,7 +207,7 @@ digit-stops : (ts : List Terminal) → Stops is_digit (printed_behind ts)
 digit-stops [] = refl
 digit-stops (t ∷ ts) = refl
 
-spells : (t : Terminal) (ts : List Terminal) → IsOfVersion first_version (kind_of t) → Spells first_version (kind_of t) (spelling t) (printed_behind ts)
+spells : (t : Terminal) (ts : List Terminal) → IsOfVersion first_version (kind_of t) → SpellsToken first_version (kind_of t) (spelling t) (printed_behind ts)
 spells (a_name text place) ts i = (refl, i, word-stops ts)
 spells (a_number n) ts i = let d = digits-spell n (omega arith) in (sym d.0, d.1, digit-stops ts)
 spells (a_site place) ts i = (refl, i, word-stops ts)

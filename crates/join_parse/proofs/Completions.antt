@@ -8,7 +8,7 @@ use Rattle.join_parse.specs.declared.word.SeenTree.{SeenTree}
 use Rattle.join_parse.specs.declared.tree.PlaceTree.{PlaceTree}
 use Rattle.join_parse.specs.Terminals.{Terminal, a_number, a_site, a_key, a_sign, named}
 use Rattle.join_parse.specs.Source.{Process, Zero, Msg, Go, Fail, Halt, Group, Def, Processes, none, one_more, Definition, Rule, Place, Definitions, no_definition, and_also, processes, definitions}
-use Rattle.join_parse.specs.Grammar.{TreeOfText, more_names, names, more_patterns, of_process, of_processes, more_processes, of_definition, of_definitions, more_definitions, of_declarations, of_sites, sentence, IsSome, AreShort, IsSimple, IsProcess, AreProcesses, AreMore, IsDefinition, AreDefinitions, AreDeclarations, AreSites, IsGrammatical}
+use Rattle.join_parse.specs.Grammar.{TreeOfText, more_names, names, more_patterns, of_process, of_processes, more_processes, of_definition, of_definitions, more_definitions, of_declarations, of_sites, sentence, IsNotEmpty, AreShort, IsSimple, IsProcess, AreProcesses, AreMore, IsDefinition, AreDefinitions, AreDeclarations, AreSites, IsGrammatical}
 use Rattle.join_parse.specs.Begins.{Symbol, AName, AZero, ACount, ASite, AKey, ASign, CloseGroup, CloseSquare, EndDef, Program, Sites, Body, Defs, MoreDefs, DefRest, MorePatterns, Names, MoreNames, AProc, MoreProcs, Alternative, observed, first_site, last_site, next_site, body, void, first_definition, last_definition, next_definition, rule, place, last_pattern, next_pattern, no_name, first_name, last_name, next_name, zero, message, go, fail, halt, group, def_in, last_process, next_process, end_def, StandsFor, name_stands, zero_stands, count_stands, site_stands, key_stands, sign_stands, group_stands, square_stands, Leads, ends, takes, opens, completed, completion}
 use Rattle.join_parse.specs.inside.Automaton.{may_pass, may_end}
 
@@ -27,7 +27,7 @@ Of (ASign s) ts rest = ts ≡ a_sign s ∷ rest
 Of CloseGroup ts rest = ts ≡ a_sign sign.ParenRight ∷ rest
 Of CloseSquare ts rest = ts ≡ a_sign sign.SquareRight ∷ rest
 Of EndDef ts rest = ts ≡ rest
-Of Program ts rest = (seen : List SeenTree) × (sites : List PlaceTree) × AreDeclarations seen × IsSome sites × AreSites sites × (ts ≡ of_declarations seen (of_sites sites rest))
+Of Program ts rest = (seen : List SeenTree) × (sites : List PlaceTree) × AreDeclarations seen × IsNotEmpty sites × AreSites sites × (ts ≡ of_declarations seen (of_sites sites rest))
 Of Sites ts rest = (sites : List PlaceTree) × AreSites sites × (ts ≡ of_sites sites rest)
 Of (Body within) ts rest = (ds : Definitions) × (ps : Processes) × AreDefinitions within ds × AreProcesses ps × (ts ≡ bracketed ds ps rest)
 Of (Defs within) ts rest = (ds : Definitions) × AreDefinitions within ds × (ts ≡ of_definitions ds rest)

@@ -13,12 +13,12 @@ use Rattle.join_parse.specs.Begins.{Symbol, Program, Leads, Begins, completion}
 use Rattle.join_parse.specs.inside.Automaton.{Outcome, Whole, Stop, advance, level, outcome}
 use Rattle.join_parse.specs.Levels.{levels}
 use Rattle.join_parse.proofs.Accepted.{followed, run, run-sentence}
-use Rattle.join_parse.specs.Faults.{IsTreeOf, IsRefusedAs, OneOutcome}
+use Rattle.join_parse.specs.Faults.{IsTreeOf, IsRefusedAs, HasOneOutcome}
 use Rattle.join_parse.proofs.Firsts.{tree-outcome, fault-stop, stop-fault, whole-tree, prefix-begins}
 use Rattle.join_parse.proofs.Completions.{leads-sentence}
 use Rattle.join_parse.proofs.Unique.{one-sentence}
 
-pub one_outcome : (limit end : ℕ) (tokens : List Token) → OneOutcome limit end tokens
+pub one_outcome : (limit end : ℕ) (tokens : List Token) → HasOneOutcome limit end tokens
 one_outcome limit end tokens = record {
   some = by (outcome b tokens (Program ∷ [])) refl;
   one_tree = λ t u i j. one-sentence t u i.grammatical j.grammatical (sym i.spelled ∙ j.spelled);

@@ -12,7 +12,7 @@ pub mod Whole
 pub mod Prints
 pub mod Digits
 pub mod Again
-use Rattle.join_parse.specs.Faults.{OneOutcome}
+use Rattle.join_parse.specs.Faults.{HasOneOutcome}
 use Rattle.join_parse.proofs.Expansions.{sites-end}
 use Rattle.join_parse.proofs.Lists.{definitions-all}
 use Rattle.join_parse.proofs.Whole.{tree-kept}

@@ -9,7 +9,7 @@ use Rattle.join_parse.specs.Terminals.{Terminal}
 use Rattle.join_parse.specs.Source.{Process, Processes, one_more, Definition, Definitions, and_also}
 use Rattle.join_parse.specs.Grammar.{of_processes, of_definitions, more_definitions}
 use Rattle.join_parse.specs.Grammar.{of_declarations, of_sites, more_names, names, more_patterns}
-use Rattle.join_parse.specs.Grammar.{patterns, IsSome, AreShort, AreProcesses, AreDefinitions}
+use Rattle.join_parse.specs.Grammar.{patterns, IsNotEmpty, AreShort, AreProcesses, AreDefinitions}
 use Rattle.join_parse.specs.Grammar.{AreDeclarations, AreSites}
 use Rattle.join_parse.specs.inside.Parsed.{terms}
 
@@ -22,7 +22,7 @@ ListedNames ts at end list =
 abbrev pub ListedPatterns : List Token → ℕ → ℕ → List PatTree → Type 0
 ListedPatterns ts at end list =
     (ps : List PatTree) (rest : List Terminal) → AreShort ps → terms ts end ≡ more_patterns ps rest
-    → IsSome (list ++ ps) × AreShort (list ++ ps) × (terms ts at ≡ patterns (list ++ ps) rest)
+    → IsNotEmpty (list ++ ps) × AreShort (list ++ ps) × (terms ts at ≡ patterns (list ++ ps) rest)
 
 abbrev pub ListedDeclarations : List Token → ℕ → ℕ → List SeenTree → Type 0
 ListedDeclarations ts at end list =

@@ -9,7 +9,7 @@ use Rattle.join_parse.specs.declared.word.SeenTree.{SeenTree}
 use Rattle.join_parse.specs.declared.tree.PlaceTree.{PlaceTree}
 use Rattle.join_parse.specs.Terminals.{a_number, a_site, a_key, a_sign, named}
 use Rattle.join_parse.specs.Source.{Process, Processes, none, one_more, Definition, Definitions, no_definition, and_also, processes, definitions}
-use Rattle.join_parse.specs.Grammar.{names, applied, patterns, of_process, of_processes, of_definition, of_definitions, of_declarations, of_sites, IsSome, AreShort, IsSimple, AreProcesses, AreDefinitions, AreDeclarations, AreSites}
+use Rattle.join_parse.specs.Grammar.{names, applied, patterns, of_process, of_processes, of_definition, of_definitions, of_declarations, of_sites, IsNotEmpty, AreShort, IsSimple, AreProcesses, AreDefinitions, AreDeclarations, AreSites}
 use Rattle.join_parse.specs.inside.Parsed.{terms, SpellsProcess, SpellsProcesses, SpellsDefinition}
 use Rattle.join_parse.specs.inside.Parsed.{SpellsDefinitions, SpellsSite}
 use Rattle.join_parse.proofs.Listed.{joined, also, ListedNames, ListedPatterns, ListedProcesses}
@@ -31,10 +31,10 @@ module _ (ts : List Token) where
   patterns-more at end mid upto list p l bar few e = λ ps rest a q.
       let h = l (p ∷ ps) rest (few, a) (bar ∙ ap (λ r. a_sign sign.Bar ∷ r) (e ∙ ap (applied p.on p.params) q)) in
       let same : list ++ p ∷ ps ≡ (list ++ p ∷ []) ++ ps = sym (append_assoc list (p ∷ []) ps) in
-      subst (λ xs. IsSome xs × AreShort xs × (terms ts at ≡ patterns xs rest)) same h
+      subst (λ xs. IsNotEmpty xs × AreShort xs × (terms ts at ≡ patterns xs rest)) same h
 
-  pub patterns-all : (at end upto : ℕ) (list : List PatTree) → ListedPatterns ts at end list → terms ts end ≡ a_sign sign.Arrow ∷ terms ts upto → IsSome list × AreShort list × (terms ts at ≡ patterns list (terms ts upto))
-  patterns-all at end upto list l arrow = subst (λ xs. IsSome xs × AreShort xs × (terms ts at ≡ patterns xs (terms ts upto))) (append-nil list) (l [] (terms ts upto) tt arrow)
+  pub patterns-all : (at end upto : ℕ) (list : List PatTree) → ListedPatterns ts at end list → terms ts end ≡ a_sign sign.Arrow ∷ terms ts upto → IsNotEmpty list × AreShort list × (terms ts at ≡ patterns list (terms ts upto))
+  patterns-all at end upto list l arrow = subst (λ xs. IsNotEmpty xs × AreShort xs × (terms ts at ≡ patterns xs (terms ts upto))) (append-nil list) (l [] (terms ts upto) tt arrow)
 
   -- declarations
   pub declarations-more : (at end upto : ℕ) (list : List SeenTree) (d : SeenTree) → ListedDeclarations ts at end list → d.count ≤ 255 → terms ts end ≡ a_key key.Observe ∷ named d.name ∷ a_sign sign.Slash ∷ a_number d.count ∷ a_sign sign.Semicolon ∷ terms ts upto → ListedDeclarations ts at upto (list ++ d ∷ [])
@@ -97,6 +97,6 @@ module _ (ts : List Token) where
 pub length-push : {A : Type 0} (xs : List A) (x : A) → length (xs ++ x ∷ []) ≡ length xs + 1
 length-push xs x = simp length-append refl
 
-pub some-push : {A : Type 0} (xs : List A) (x : A) → IsSome (xs ++ x ∷ [])
+pub some-push : {A : Type 0} (xs : List A) (x : A) → IsNotEmpty (xs ++ x ∷ [])
 some-push [] x = tt
 some-push (y ∷ xs) x = tt

@@ -19,7 +19,7 @@ use Rattle.join_parse.specs.Begins.{Symbol, AName, ACount, ASign}
 use Rattle.join_parse.specs.inside.Automaton.{is_key, is_sign, Push, Pass, No, step, may_pass}
 use Rattle.join_parse.specs.inside.Automaton.{level, Stop, outcome}
 use Rattle.join_parse.specs.inside.Parsed.{next_is_sign, next_is_key, place_of, key_symbol, AtMost}
-use Rattle.join_parse.specs.inside.Parsed.{Reads, Halts, Fails}
+use Rattle.join_parse.specs.inside.Parsed.{Reads, StopsSo, Fails}
 use Rattle.join_parse.proofs.Steps.{sign-is}
 
 -- the kind of a token that a test has found
@@ -128,7 +128,7 @@ module _ (b : Bounds) where
   pub halts-before : (P : ℕ → Type 0) (ts : List Token) (at : ℕ) (ss : List Symbol) (P' : ℕ → Type 0) (at' : ℕ) (ss' : List Symbol) (then : List Symbol → List Symbol) (e : Front)
       → ((stack : List Symbol) → P (level stack) → outcome b (drop at ts) (ss ++ stack) ≡ outcome b (drop at' ts) (ss' ++ then stack))
       → ((stack : List Symbol) → P (level stack) → P' (level (then stack)))
-      → Halts b P' ts at' ss' e → Halts b P ts at ss e
+      → StopsSo b P' ts at' ss' e → StopsSo b P ts at ss e
   halts-before P ts at ss P' at' ss' then (Refused kind place) path fits halts = λ stack h. path stack h ∙ halts (then stack) (fits stack h)
   halts-before P ts at ss P' at' ss' then Memory path fits halts = tt
 
@@ -157,7 +157,7 @@ count-step-no (kind.Sign s) n = refl
 pub exit-before : (b : Bounds) (P : ℕ → Type 0) (ts : List Token) (at : ℕ) (ss : List Symbol) (P' : ℕ → Type 0) (at' : ℕ) (ss' : List Symbol) (then : List Symbol → List Symbol)
     → ((stack : List Symbol) → P (level stack) → outcome b (drop at ts) (ss ++ stack) ≡ outcome b (drop at' ts) (ss' ++ then stack))
     → ((stack : List Symbol) → P (level stack) → P' (level (then stack)))
-    → {T : Type 0} (r : Result T Front) (e : Front) → IsErrAnd r (λ y. y ≡ e) → Halts b P' ts at' ss' e → Fails b P ts at ss r
+    → {T : Type 0} (r : Result T Front) (e : Front) → IsErrAnd r (λ y. y ≡ e) → StopsSo b P' ts at' ss' e → Fails b P ts at ss r
 exit-before b P ts at ss P' at' ss' then path fits r e q h =
     let p = err_from_is_err_and r q in
     rw (p.1, p.2) (halts-before b P ts at ss P' at' ss' then e path fits h)

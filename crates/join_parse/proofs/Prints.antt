@@ -8,7 +8,7 @@ use Rattle.join_parse.specs.declared.word.SeenTree.{SeenTree}
 use Rattle.join_parse.specs.declared.tree.PlaceTree.{PlaceTree}
 use Rattle.join_parse.specs.Terminals.{Terminal, a_site, a_key, a_sign, named}
 use Rattle.join_parse.specs.Source.{Definition, definitions}
-use Rattle.join_parse.specs.Grammar.{TreeOfText, IsSome, IsGrammatical, sentence, applied, of_definitions, of_declarations, of_sites}
+use Rattle.join_parse.specs.Grammar.{TreeOfText, IsNotEmpty, IsGrammatical, sentence, applied, of_definitions, of_declarations, of_sites}
 use Rattle.join_parse.specs.Printed.{spelling, printed, printed_behind}
 use Rattle.join_parse.specs.inside.Printed.{spaced, Prints, between}
 use Rattle.join_parse.proofs.LeftToPrint.{left_names, left_patterns, left_definitions}
@@ -59,7 +59,7 @@ text-printed (t ∷ ts) n = nonempty (spelling t) (n t ts refl) ts
 first-spelled : (t : TreeOfText) → IsGrammatical t → (x : Terminal) (us : List Terminal) → sentence t ≡ x ∷ us → spelling x ≡ [] → ⊥
 first-spelled t g x us e s = by t.seen t.sites g.some_site e
   where
-    by : (seen : List SeenTree) (sites : List PlaceTree) → IsSome sites → of_declarations seen (of_sites sites []) ≡ x ∷ us → ⊥
+    by : (seen : List SeenTree) (sites : List PlaceTree) → IsNotEmpty sites → of_declarations seen (of_sites sites []) ≡ x ∷ us → ⊥
     by [] [] i q = absurd i
     by [] (p ∷ ps) i q = let h : a_site p.opener ≡ x = cc in let r : spelling (a_site p.opener) ≡ [] = ap spelling h ∙ s in cc
     by (d ∷ ds) sites i q = let h : a_key key.Observe ≡ x = cc in let r : spelling (a_key key.Observe) ≡ [] = ap spelling h ∙ s in cc

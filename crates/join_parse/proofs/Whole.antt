@@ -20,16 +20,16 @@ use Rattle.join_parse.specs.Begins.{Symbol, AName, ASite, Body, Sites, Program}
 use Rattle.join_parse.specs.inside.Automaton.{level, Stop, Whole, outcome}
 use Rattle.join_parse.specs.Faults.{IsTreeOf, IsRefusedAs}
 use Rattle.join_parse.specs.TreeFacts.{AreOfVersion, IsTree, most_levels}
-use Rattle.join_parse.specs.inside.Parsed.{next_is_key, place_of, Runs, Halts, IsStop}
+use Rattle.join_parse.specs.inside.Parsed.{next_is_key, place_of, Runs, StopsSo, IsStop}
 use Rattle.join_parse.proofs.Accepted.{run, run-sentence}
 use Rattle.join_parse.proofs.Firsts.{kind-of-terminal, stop-fault, whole-low}
 use Rattle.join_parse.proofs.Expansions.{program-site}
 
 -- the exit of a `?` of the whole
-pub exit-stop : (b : Bounds) (ts : List Token) (P : ℕ → Type 0) → P 0 → {T : Type 0} (r : Result T Front) (e : Front) → IsErrAnd r (λ y. y ≡ e) → Halts b P ts 0 (Program ∷ []) e → IfErr r (IsStop b ts)
+pub exit-stop : (b : Bounds) (ts : List Token) (P : ℕ → Type 0) → P 0 → {T : Type 0} (r : Result T Front) (e : Front) → IsErrAnd r (λ y. y ≡ e) → StopsSo b P ts 0 (Program ∷ []) e → IfErr r (IsStop b ts)
 exit-stop b ts P zero r e q h = let p = err_from_is_err_and r q in rw (p.1, p.2) (stop e h)
   where
-    stop : (e : Front) → Halts b P ts 0 (Program ∷ []) e → IsStop b ts e
+    stop : (e : Front) → StopsSo b P ts 0 (Program ∷ []) e → IsStop b ts e
     stop (Refused kind place) h = h [] zero
     stop Memory h = tt
 

@@ -82,7 +82,7 @@ AnswersFault limit t result =
     → IsOrMemory (Err (Refused kind place)) result
 
 -- Tokens have one tree, or they are refused in one way at one place.
-pub record OneOutcome (limit end : ℕ) (tokens : List Token) : Type 0 where
+pub record HasOneOutcome (limit end : ℕ) (tokens : List Token) : Type 0 where
   pub some : ((t : TreeOfText) × IsTreeOf limit tokens t)
       ⊎ ((kind : Kind) × (place : ℕ) × IsRefusedAs limit end tokens (Refused kind place))
   pub one_tree : (t u : TreeOfText) → IsSentence tokens t → IsSentence tokens u → t ≡ u

@@ -104,9 +104,9 @@ of_sites (s ∷ ss) rest =
 abbrev pub sentence : TreeOfText → List Terminal
 sentence t = of_declarations t.seen (of_sites t.sites [])
 
-abbrev pub IsSome : {A : Type 0} → List A → Type 0
-IsSome [] = ⊥
-IsSome (x ∷ xs) = Unit {0}
+abbrev pub IsNotEmpty : {A : Type 0} → List A → Type 0
+IsNotEmpty [] = ⊥
+IsNotEmpty (x ∷ xs) = Unit {0}
 
 abbrev pub AreShort : List PatTree → Type 0
 AreShort [] = Unit {0}
@@ -140,7 +140,7 @@ abbrev mutual
   AreMore p (one_more q ps) = IsSimple p × IsProcess q × AreMore q ps
 
   pub IsDefinition : Bool → Definition → Type 0
-  IsDefinition within (Rule pats ps) = IsSome pats × AreShort pats × AreProcesses ps
+  IsDefinition within (Rule pats ps) = IsNotEmpty pats × AreShort pats × AreProcesses ps
   IsDefinition true (Place opener name ds ps) = ⊥
   IsDefinition false (Place opener name ds ps) =
       (opener ≡ name.place) × AreDefinitions true ds × AreProcesses ps
@@ -161,7 +161,7 @@ AreSites (s ∷ ss) =
 -- a tree of the grammar, of any depth
 pub record IsGrammatical (t : TreeOfText) : Type 0 where
   pub seen : AreDeclarations t.seen
-  pub some_site : IsSome t.sites
+  pub some_site : IsNotEmpty t.sites
   pub sites : AreSites t.sites
 
 -- The tokens are the sentence of this tree.

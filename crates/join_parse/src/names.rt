@@ -1,6 +1,6 @@
 // Identifiers between parentheses, join patterns, and the two names of a request.
 ghost use Rattle.std.specs.Prelude.{◌≡◌, ◌∷◌, [], ◌≤◌, length, IfOk};
-ghost use Rattle.join_parse.specs.Grammar.{names, applied, patterns, pair, IsSome, AreShort};
+ghost use Rattle.join_parse.specs.Grammar.{names, applied, patterns, pair, IsNotEmpty, AreShort};
 ghost use Rattle.join_parse.specs.Begins.{Names};
 ghost use Rattle.join_parse.specs.inside.Parsed.{terms, a_pattern, some_patterns};
 ghost use Rattle.join_parse.specs.inside.Parsed.{a_pair, AtMost, Reads, Fails};
@@ -64,7 +64,7 @@ pub fn patterns(
 ) -> Result<(PatTrees, usize), Front>
     ensures reads { IfOk result (λ r.
         Reads b (AtMost b.levels) tokens.now at some_patterns r.1 []) }
-    ensures some { IfOk result (λ r. IsSome r.0) }
+    ensures some { IfOk result (λ r. IsNotEmpty r.0) }
     ensures short { IfOk result (λ r. AreShort r.0) }
     ensures spelled { IfOk result (λ r. terms tokens.now at ≡ patterns r.0 (terms tokens.now r.1)) }
     ensures fails { Fails b (AtMost b.levels) tokens.now at some_patterns result }

@@ -4,7 +4,7 @@ ghost use Rattle.join_lex.specs.declared.token.Token.{Token};
 ghost use Rattle.join_parse.specs.Grammar.{TreeOfText, IsSentence};
 ghost use Rattle.join_parse.specs.Begins.{Symbol, Program};
 ghost use Rattle.join_parse.specs.Faults.{IsTreeOf, IsRefusedAs, AnswersTree, AnswersFault};
-ghost use Rattle.join_parse.specs.Faults.{OneOutcome};
+ghost use Rattle.join_parse.specs.Faults.{HasOneOutcome};
 ghost use Rattle.join_parse.specs.Laws.{HaveOneLevel, IsCompleted, EachPrefixBegins};
 ghost use Rattle.join_parse.specs.TreeFacts.{most_levels};
 ghost use Rattle.join_parse.specs.inside.Automaton.{Whole, outcome};
@@ -73,7 +73,7 @@ pub fn parse(alloc: Global, tokens: &Tokens) -> Result<Tree, Front>
 /// For any bound on the levels, tokens have one tree, or they are refused in one way at one place,
 /// and never both. So `parse` answers exactly by the grammar, save for want of memory.
 pub fn one_outcome()
-    ensures { (limit end : ℕ) (tokens : List Token) → OneOutcome limit end tokens }
+    ensures { (limit end : ℕ) (tokens : List Token) → HasOneOutcome limit end tokens }
 {}
 
 /// The level of a token is the same in each sentence that goes on from it.

@@ -2,7 +2,7 @@
 ghost use Rattle.std.specs.Prelude.{◌≡◌, ◌∷◌, [], ◌≤◌, false, length, drop, IfOk};
 ghost use Rattle.join_lex.specs.declared.token.Key.TheVariants as word;
 ghost use Rattle.join_parse.specs.Grammar.{of_declarations, of_sites};
-ghost use Rattle.join_parse.specs.Grammar.{AreDeclarations, AreSites, IsSome};
+ghost use Rattle.join_parse.specs.Grammar.{AreDeclarations, AreSites, IsNotEmpty};
 ghost use Rattle.join_parse.specs.Begins.{Program};
 ghost use Rattle.join_parse.specs.inside.Parsed.{terms, next_is_key, AtMost, Exactly};
 ghost use Rattle.join_parse.specs.inside.Parsed.{a_declaration, a_whole_site, some_sites};
@@ -87,7 +87,7 @@ pub fn sites(
     at: usize,
 ) -> Result<(PlaceTrees, usize), Front>
     ensures reads { IfOk result (λ r. Reads b (Exactly 0) tokens.now at some_sites r.1 []) }
-    ensures some { IfOk result (λ r. IsSome r.0) }
+    ensures some { IfOk result (λ r. IsNotEmpty r.0) }
     ensures sites { IfOk result (λ r. AreSites r.0) }
     ensures spelled { IfOk result (λ r. terms tokens.now at ≡ of_sites r.0 (terms tokens.now r.1)) }
     ensures fails { Fails b (Exactly 0) tokens.now at some_sites result }

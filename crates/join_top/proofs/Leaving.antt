@@ -7,12 +7,12 @@ use Rattle.chem_model.specs.Numbered.{erase}
 use Rattle.chem_model.specs.Runs.{IsRun}
 use Rattle.chem_model.specs.Apply.{states}
 use Rattle.chem_model.specs.Laws.{erase_all}
-use Rattle.trace_history.specs.Kept.{Kept, solution}
+use Rattle.trace_history.specs.Kept.{BookKept, solution}
 use Rattle.trace_history.specs.Book.{IsStuck, IsQuiet, Replays}
 use Rattle.trace_text.specs.declared.text.Ending.{Ending}
 use Rattle.join_words.specs.declared.answer.Asked.{Asked}
 use Rattle.trace_text.specs.declared.text.Ending.TheVariants.{Quiescent, Stopped}
-use Rattle.join_top.specs.declared.run.Kept.{Kept as Left}
+use Rattle.join_top.specs.declared.run.Kept.{BookKept as Left}
 use Rattle.join_top.specs.declared.top.Ended.{Ended}
 use Rattle.site_runner.specs.declared.outcome.How.{How}
 use Rattle.join_top.specs.Task.{Words, task, ring_asked, text_of}
@@ -20,11 +20,11 @@ use Rattle.join_top.specs.Text.{IsProgramOfText}
 use Rattle.join_top.specs.RunJoin.{OnTold, has_run, EndsAs, IsRunAsked, Keeps, GoesWith, IsMadeBy, IsMadeAsAsked}
 use Rattle.join_top.specs.inside.Ran.{ending_of, IsEnded, IsWholeOfBook, IsRunBy}
 
-same_solution : (k : Kept) (n m : Numbered) → solution k ≡ Some n → solution k ≡ Some m → n ≡ m
+same_solution : (k : BookKept) (n m : Numbered) → solution k ≡ Some n → solution k ≡ Some m → n ≡ m
 same_solution k n m e f = cc
 
 -- what a book leaves at the end of a run
-pub ended : (a : Asked) (source : List ℕ) (p : ProgramTerms) (k : Kept) (how : How) (quiet : Bool) (ending : Ending) (text : List ℕ)
+pub ended : (a : Asked) (source : List ℕ) (p : ProgramTerms) (k : BookKept) (how : How) (quiet : Bool) (ending : Ending) (text : List ℕ)
     → IsRunBy a.by a.workers a.budget p (record { book = k; how = how })
     → Replays k → IsRun k.program (erase_all (states k.program k.journal))
     → (IsTrue quiet ↔ IsStuck k) → (IsTrue quiet ↔ IsQuiet k)

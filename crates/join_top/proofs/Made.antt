@@ -13,7 +13,7 @@ use Rattle.net_laws.specs.Net.{Stands}
 use Rattle.net_laws.specs.Opened.{opened_net, OpenedStands, RunsCode}
 use Rattle.net_core.specs.Rounds.{RoundsReplay}
 use Rattle.net_core.specs.Whole.{NetParts}
-use Rattle.trace_history.specs.Kept.{Kept}
+use Rattle.trace_history.specs.Kept.{BookKept}
 use Rattle.site_runner.specs.Run.{RunsOn}
 use Rattle.site_runner.specs.Schedule.{ScheduleOf}
 use Rattle.site_runner.specs.Rounds.{StandForOne, RunsInRounds, RoundsOf}
@@ -24,7 +24,7 @@ use Rattle.join_words.specs.declared.answer.By.TheVariants as by
 use Rattle.join_top.specs.inside.Ran.{IsRunBy}
 
 -- a program's book without an event
-abbrev pub begun : ProgramTerms → Kept
+abbrev pub begun : ProgramTerms → BookKept
 begun p = record { program = p; journal = [] }
 
 module _ (p : ProgramTerms) (workers budget : ℕ) where
@@ -42,15 +42,15 @@ module _ (p : ProgramTerms) (workers budget : ℕ) where
     ends = runs.ends;
   }
 
-  pub alone_made : (book : Kept) (r : Result Done Memory) → book ≡ begun p
+  pub alone_made : (book : BookKept) (r : Result Done Memory) → book ≡ begun p
       → IfOk r (λ (d : Done). RunsOn book budget d.book)
       → IfOk r (λ (d : Done). book.journal ≡ [] → ScheduleOf book.program budget d.book.journal)
       → IfOk r (λ (d : Done). d.how ≡ how.Alone)
       → IfOk r (IsRunBy by.Alone workers budget p)
   alone_made book r e runs whole made =
       alone_begun r
-      (subst (λ (b : Kept). IfOk r (λ (d : Done). RunsOn b budget d.book)) e runs)
-      (subst (λ (b : Kept). IfOk r (λ (d : Done). b.journal ≡ [] → ScheduleOf b.program budget d.book.journal)) e whole)
+      (subst (λ (b : BookKept). IfOk r (λ (d : Done). RunsOn b budget d.book)) e runs)
+      (subst (λ (b : BookKept). IfOk r (λ (d : Done). b.journal ≡ [] → ScheduleOf b.program budget d.book.journal)) e whole)
       made
 
   module _ (fine : IsProgram p) where
@@ -71,15 +71,15 @@ module _ (p : ProgramTerms) (workers budget : ℕ) where
       ends = runs.ends;
     }
 
-    pub rounds_made : RoundsReplay → (net : NetParts) → net.net ≡ opened_net net.code → (book : Kept) (r : Result Done Memory) → book ≡ begun p
+    pub rounds_made : RoundsReplay → (net : NetParts) → net.net ≡ opened_net net.code → (book : BookKept) (r : Result Done Memory) → book ≡ begun p
         → IfOk r (λ (d : Done). RunsInRounds net book budget d.book)
         → IfOk r (λ (d : Done). book.journal ≡ [] → net.net ≡ opened_net net.code → RoundsOf book.program budget d.book.journal)
         → IfOk r (λ (d : Done). d.how ≡ how.Rounds)
         → IfOk r (IsRunBy by.Rounds workers budget p)
     rounds_made law net opened book r e runs whole made =
         rounds_begun law net opened r
-        (subst (λ (b : Kept). IfOk r (λ (d : Done). RunsInRounds net b budget d.book)) e runs)
-        (subst (λ (b : Kept). IfOk r (λ (d : Done). b.journal ≡ [] → net.net ≡ opened_net net.code → RoundsOf b.program budget d.book.journal)) e whole)
+        (subst (λ (b : BookKept). IfOk r (λ (d : Done). RunsInRounds net b budget d.book)) e runs)
+        (subst (λ (b : BookKept). IfOk r (λ (d : Done). b.journal ≡ [] → net.net ≡ opened_net net.code → RoundsOf b.program budget d.book.journal)) e whole)
         made
 
 same_member : (n m : Numbered) → Some n ≡ Some m → n ≡ m
@@ -89,7 +89,7 @@ same_member n m e = cc
 pub begun_stand : OpenedStands → (p : ProgramTerms) → IsProgram p → (c : CodeParts) → IsCode c → IsCodeOf p c
     → (net : NetParts) → net.code ≡ c → net.net ≡ opened_net c → net.events ≡ 0
     → Stands (rules_of_group p) net.net (opening p)
-    → (book : Kept) → book ≡ begun p → StandForOne book net
+    → (book : BookKept) → book ≡ begun p → StandForOne book net
 begun_stand law p fine c is_code of_program net code opened events stands book e =
     let runs : RunsCode p c (opened_net c) = (law p c fine is_code of_program).1 in
     let at : StandForOne (begun p) net = record {
@@ -98,7 +98,7 @@ begun_stand law p fine c is_code of_program net code opened events stands book e
       runs = subst (RunsCode p net.code) (sym opened) (subst (λ (x : CodeParts). RunsCode p x (opened_net c)) (sym code) runs);
       counted = events;
     } in
-    subst (λ (b : Kept). StandForOne b net) (sym e) at
+    subst (λ (b : BookKept). StandForOne b net) (sym e) at
 
 -- a run on free threads
 pub free_made : (p : ProgramTerms) (workers budget : ℕ) (r : Result Done Memory)

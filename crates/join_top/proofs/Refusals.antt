@@ -32,7 +32,7 @@ pub by_tree : (text : List ℕ) (t : TokensOfText) (tree : TreeOfText) (e : Fron
 by_tree text t tree (front.Refused kind place) are is h = of_the_tree t tree are is h
 by_tree text t tree front.Memory are is h = tt
 
-module _ (lexed : (text : List ℕ) → lexer.HasOneOutcome first_version text) (parsed : (limit end : ℕ) (tokens : List Token) → grammar.OneOutcome limit end tokens) (checked : (t : TreeOfText) → scope.OneOutcome t) where
+module _ (lexed : (text : List ℕ) → lexer.HasOneOutcome first_version text) (parsed : (limit end : ℕ) (tokens : List Token) → grammar.HasOneOutcome limit end tokens) (checked : (t : TreeOfText) → scope.HasOneOutcome t) where
   -- two readings of a text have one tree
   same_tree : (text : List ℕ) (t u : TokensOfText) (tree other : TreeOfText) → AreTokensOf first_version t text → AreTokensOf first_version u text → IsTreeOf most_levels t.list tree → IsTreeOf most_levels u.list other → tree ≡ other
   same_tree text t u tree other a b is h =

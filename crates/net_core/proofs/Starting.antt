@@ -354,17 +354,17 @@ among_is (x ∷ ls) l e =
       | inr later ↦ (let h = among_is ls l later in (suc h.0, omega arith, h.2))
     ]
 
-is_among : (ls : List Loc) (l : Loc) → Contains ls l → among ls l ≡ true
-is_among [] l (k, less, e) = absurd (omega arith)
-is_among (x ∷ ls) l (zero, less, e) = ap (λ b. b || among ls l) (ap (λ (q : Loc). same_loc q l) e ∙ same_loc_refl l)
-is_among (x ∷ ls) l (suc k, less, e) = go (same_loc x l) (is_among ls l (k, omega arith, e))
+among-contained : (ls : List Loc) (l : Loc) → Contains ls l → among ls l ≡ true
+among-contained [] l (k, less, e) = absurd (omega arith)
+among-contained (x ∷ ls) l (zero, less, e) = ap (λ b. b || among ls l) (ap (λ (q : Loc). same_loc q l) e ∙ same_loc_refl l)
+among-contained (x ∷ ls) l (suc k, less, e) = go (same_loc x l) (among-contained ls l (k, omega arith, e))
   where
     go : (u : Bool) → among ls l ≡ true → u || among ls l ≡ true
     go true h = refl
     go false h = h
 
 first_tops : (c : CodeParts) (l : Loc) → Contains c.tops l → spot (first c) l ≡ Some (record { number = l.site; marked = false })
-first_tops c l h = tops_spot c.tops (unmarked_roots (length c.sites)) l ∙ ap (λ u. or_else (spot (unmarked_roots (length c.sites)) l) (cond u (Some (record { number = l.site; marked = false })) None)) (is_among c.tops l h) ∙ go (spot (unmarked_roots (length c.sites)) l) refl
+first_tops c l h = tops_spot c.tops (unmarked_roots (length c.sites)) l ∙ ap (λ u. or_else (spot (unmarked_roots (length c.sites)) l) (cond u (Some (record { number = l.site; marked = false })) None)) (among-contained c.tops l h) ∙ go (spot (unmarked_roots (length c.sites)) l) refl
   where
     go : (o : Option Spot) → spot (unmarked_roots (length c.sites)) l ≡ o → or_else o (Some (record { number = l.site; marked = false })) ≡ Some (record { number = l.site; marked = false })
     go None e = refl

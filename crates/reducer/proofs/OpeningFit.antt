@@ -32,7 +32,7 @@ use Rattle.net_laws.proofs.Trees.{IsFresh, births_spot, among_each}
 use Rattle.net_laws.proofs.Posting.{among_append}
 use Rattle.code_run.specs.declared.made.Run.{Run}
 use Rattle.code_run.specs.Posts.{all_posted}
-use Rattle.code_run.specs.RunFacts.{AreBorn, IsRun, IsHere, IsOfRun}
+use Rattle.code_run.specs.RunFacts.{AreBorn, HasRunFacts, IsHere, IsOfRun}
 use Rattle.site_solution.specs.Held.{taken_at}
 use Rattle.site_solution.specs.InTree.{has_number, is_number, is_in_tree}
 use Rattle.site_solution.specs.InCode.{is_told_by, is_in_code}
@@ -138,7 +138,7 @@ some_there : (o : Option Spot) (i : ℕ) → number_in o ≡ Some i → is_some 
 some_there None i e = cc
 some_there (Some s) i e = refl
 
-module _ (c : CodeParts) (t : Tree) (i : ℕ) (r : Run) (tops : HasTops c t i) (root_is : Contains c.tops (root_of i)) (low : (l : Loc) → l.site ≡ i → Contains c.tops l → l.k < r.next) (run : IsRun c i (loc_at i 0) [] 1 r) where
+module _ (c : CodeParts) (t : Tree) (i : ℕ) (r : Run) (tops : HasTops c t i) (root_is : Contains c.tops (root_of i)) (low : (l : Loc) → l.site ≡ i → Contains c.tops l → l.k < r.next) (run : HasRunFacts c i (loc_at i 0) [] 1 r) where
   abbrev new : List Loc
   new = not_in t r.births
 
@@ -258,7 +258,7 @@ module _ (c : CodeParts) (t : Tree) (i : ℕ) (r : Run) (tops : HasTops c t i) (
     opened_fit = record { there = in_tree_site; coded = in_code_site; drawn = drawn_site; few = omega (arith, come.made, run.below); fresh = fresh_site }
 
 -- the site that is answered, with the births that are
-pub fit_of : (c : CodeParts) (t : Tree) (i : ℕ) (r : Run) (s site : Site) (made : Effects) (births : List Loc) → HasTops c t i → Contains c.tops (root_of i) → ((l : Loc) → l.site ≡ i → Contains c.tops l → l.k < r.next) → s ≡ bare i → IsRun c i (loc_at i 0) [] 1 r → IsLeft c t s r site made → births ≡ not_in t made.births → IsOpenedFit c (with_births t i births) site
+pub fit_of : (c : CodeParts) (t : Tree) (i : ℕ) (r : Run) (s site : Site) (made : Effects) (births : List Loc) → HasTops c t i → Contains c.tops (root_of i) → ((l : Loc) → l.site ≡ i → Contains c.tops l → l.k < r.next) → s ≡ bare i → HasRunFacts c i (loc_at i 0) [] 1 r → IsLeft c t s r site made → births ≡ not_in t made.births → IsOpenedFit c (with_births t i births) site
 fit_of c t i r s site made births tops root_is low same run left new =
     let at : IsLeft c t (bare i) r site made = subst (λ (u : Site). IsLeft c t u r site made) same left in
     let own : births ≡ not_in t r.births = new ∙ ap (not_in t) at.births in

@@ -20,7 +20,7 @@ use Rattle.net_laws.specs.Parcels.{all_told}
 use Rattle.net_laws.specs.ByCode.{told_by}
 use Rattle.code_run.specs.declared.made.Run.{Run}
 use Rattle.code_run.specs.Posts.{all_posted, run_of}
-use Rattle.code_run.specs.RunFacts.{IsRun}
+use Rattle.code_run.specs.RunFacts.{HasRunFacts}
 use Rattle.code_run.proofs.Runs.{posted_back}
 use Rattle.site_solution.specs.Held.{taken_at}
 use Rattle.site_solution.specs.Draws.{all_drawn, is_drawn}
@@ -51,7 +51,7 @@ pub root_here : (i : ℕ) → among (root_of i ∷ []) (loc_at i 0) ≡ true
 root_here i = ap (λ b. b || false) (same_loc_refl (loc_at i 0))
 
 -- what it makes may be left at the root alone
-pub opening_leaves : (c : CodeParts) (i : ℕ) (s : Site) (r : Run) → s ≡ bare i → IsRun c i (loc_at i 0) [] 1 r → CanLeave r.births (all_told (told_by c) r.groups) (all_posted r.posts) s
+pub opening_leaves : (c : CodeParts) (i : ℕ) (s : Site) (r : Run) → s ≡ bare i → HasRunFacts c i (loc_at i 0) [] 1 r → CanLeave r.births (all_told (told_by c) r.groups) (all_posted r.posts) s
 opening_leaves c i s r same run =
     subst (λ (u : Site). CanLeave r.births (all_told (told_by c) r.groups) (all_posted r.posts) u) (sym same)
     (run-leaves c (bare i) (loc_at i 0) [] r run (root_here i) (bare_kept i) (λ j. omega arith) (bare_drawn i) (omega (arith, run.below)))

@@ -23,7 +23,7 @@ use Rattle.scope_check.specs.inside.Twin.{Table, site_terms_in, level_uses_in}
 use Rattle.scope_check.specs.inside.Clashes.{clashes_in}
 use Rattle.scope_check.specs.inside.Naming.{Level, name_all, walk_level}
 use Rattle.join_parse.specs.declared.word.SeenTree.{SeenTree}
-use Rattle.scope_check.specs.Checked.{most_sites, no_literals, IsProgramOf, OneOutcome}
+use Rattle.scope_check.specs.Checked.{most_sites, no_literals, IsProgramOf, HasOneOutcome}
 use Rattle.scope_check.proofs.Lists.{none_left, none_right}
 use Rattle.scope_check.proofs.Folds.{first-append}
 use Rattle.scope_check.proofs.Declares.{all_clashes}
@@ -145,7 +145,7 @@ some_outcome : (t : TreeOfText) (o : Option Fault) → IsFirst (IsFault most_sit
 some_outcome t None first = inl (program no_literals t, record { is = refl; none = first })
 some_outcome t (Some f) first = inr (f, first)
 
-pub one_outcome : (t : TreeOfText) → OneOutcome t
+pub one_outcome : (t : TreeOfText) → HasOneOutcome t
 one_outcome t = record {
   some = some_outcome t (first_of None (fault_list most_sites no_literals t)) (first-fault most_sites no_literals t);
   one_program = λ p q a b. a.is ∙ sym b.is;

@@ -1,26 +1,23 @@
 -- The fold over a list keeps the first of its members.
 use Rattle.std.proofs.Common.{◌≡◌, ◌⊎◌, inl, inr, ℕ, ◌<◌, ◌≤◌, Bool, true, false, cond, List, [], ◌∷◌, ◌++◌, refl, sym, ◌∙◌, subst, arith, Option, Some, None, eqb, ltb, ◌&&◌, ◌||◌}
 use Rattle.std.proofs.lemmas.Bool.Decides.{nat_tests}
+use Rattle.chem_model.specs.Each.{IsIn}
 use Rattle.scope_check.specs.declared.fault.Fault.{Fault}
 use Rattle.scope_check.specs.Order.{rank, IsSooner, IsFirst}
 use Rattle.scope_check.specs.inside.Order.{sooner, first_of}
 
-abbrev pub In : Fault → List Fault → Type 0
-In f [] = ⊥
-In f (g ∷ gs) = (f ≡ g) ⊎ In f gs
-
 -- in one list or the other
-pub in-append : (f : Fault) (gs hs : List Fault) → In f (gs ++ hs) → In f gs ⊎ In f hs
+pub in-append : (f : Fault) (gs hs : List Fault) → IsIn f (gs ++ hs) → IsIn f gs ⊎ IsIn f hs
 in-append f [] hs i = inr i
 in-append f (g ∷ gs) hs (inl e) = inl (inl e)
 in-append f (g ∷ gs) hs (inr i) = elim (in-append f gs hs i) [ inl a ↦ inl (inr a) | inr b ↦ inr b ]
 
-pub in-left : (f : Fault) (gs hs : List Fault) → In f gs → In f (gs ++ hs)
+pub in-left : (f : Fault) (gs hs : List Fault) → IsIn f gs → IsIn f (gs ++ hs)
 in-left f [] hs i = absurd i
 in-left f (g ∷ gs) hs (inl e) = inl e
 in-left f (g ∷ gs) hs (inr i) = inr (in-left f gs hs i)
 
-pub in-right : (f : Fault) (gs hs : List Fault) → In f hs → In f (gs ++ hs)
+pub in-right : (f : Fault) (gs hs : List Fault) → IsIn f hs → IsIn f (gs ++ hs)
 in-right f [] hs i = i
 in-right f (g ∷ gs) hs i = inr (in-right f gs hs i)
 
@@ -48,33 +45,33 @@ sooner-step f g = by (ltb g.place f.place || (eqb g.place f.place && ltb (rank g
         later a b m n e = grind (arith, nat_tests)
 
 -- the first of a fault that is kept and those of a list
-abbrev Kept : Option Fault → List Fault → Fault → Type 0
-Kept None gs f = In f gs
-Kept (Some k) gs f = (f ≡ k) ⊎ In f gs
+abbrev IsKeptOf : Option Fault → List Fault → Fault → Type 0
+IsKeptOf None gs f = IsIn f gs
+IsKeptOf (Some k) gs f = (f ≡ k) ⊎ IsIn f gs
 
 first-wider : (P Q : Fault → Type 0) (r : Option Fault) → IsFirst P r → ((f : Fault) → P f → Q f) → ((f : Fault) → Q f → (g : Fault) × P g × IsSooner g f) → IsFirst Q r
 first-wider P Q None n sub cover = λ f q. let w = cover f q in n w.0 w.1
 first-wider P Q (Some f) p sub cover = (sub f p.0, λ g q. let w = cover g q in sooner_trans f w.0 g (p.1 w.0 w.1) w.2)
 
-first-is : (o : Option Fault) (gs : List Fault) → IsFirst (Kept o gs) (first_of o gs)
+first-is : (o : Option Fault) (gs : List Fault) → IsFirst (IsKeptOf o gs) (first_of o gs)
 first-is None [] = λ f i. i
 first-is (Some k) [] = (inl refl, λ g i. elim i [ inl e ↦ rw e (sooner_refl k) | inr n ↦ absurd n ])
 first-is None (g ∷ gs) = first-is (Some g) gs
 first-is (Some k) (g ∷ gs) = step (λ h. first-is (Some h) gs) (sooner-step k g)
   where
-    sub : (h : Fault) → ((h ≡ k) ⊎ (h ≡ g)) → (f : Fault) → Kept (Some h) gs f → Kept (Some k) (g ∷ gs) f
+    sub : (h : Fault) → ((h ≡ k) ⊎ (h ≡ g)) → (f : Fault) → IsKeptOf (Some h) gs f → IsKeptOf (Some k) (g ∷ gs) f
     sub h (inl q) f (inl e) = inl (e ∙ q)
     sub h (inr q) f (inl e) = inr (inl (e ∙ q))
     sub h one f (inr i) = inr (inr i)
 
-    cover : (h : Fault) → IsSooner h k → IsSooner h g → (f : Fault) → Kept (Some k) (g ∷ gs) f → (x : Fault) × Kept (Some h) gs x × IsSooner x f
+    cover : (h : Fault) → IsSooner h k → IsSooner h g → (f : Fault) → IsKeptOf (Some k) (g ∷ gs) f → (x : Fault) × IsKeptOf (Some h) gs x × IsSooner x f
     cover h a b f (inl e) = (h, inl refl, rw e a)
     cover h a b f (inr (inl e)) = (h, inl refl, rw e b)
     cover h a b f (inr (inr i)) = (f, inr i, sooner_refl f)
 
-    step : ((h : Fault) → IsFirst (Kept (Some h) gs) (first_of (Some h) gs)) → ((h : Fault) × (sooner (Some k) g ≡ Some h) × ((h ≡ k) ⊎ (h ≡ g)) × IsSooner h k × IsSooner h g) → IsFirst (Kept (Some k) (g ∷ gs)) (first_of (sooner (Some k) g) gs)
-    step ih (h, e, one, a, b) = subst (λ o. IsFirst (Kept (Some k) (g ∷ gs)) (first_of o gs)) (sym e) (first-wider _ _ _ (ih h) (sub h one) (cover h a b))
+    step : ((h : Fault) → IsFirst (IsKeptOf (Some h) gs) (first_of (Some h) gs)) → ((h : Fault) × (sooner (Some k) g ≡ Some h) × ((h ≡ k) ⊎ (h ≡ g)) × IsSooner h k × IsSooner h g) → IsFirst (IsKeptOf (Some k) (g ∷ gs)) (first_of (sooner (Some k) g) gs)
+    step ih (h, e, one, a, b) = subst (λ o. IsFirst (IsKeptOf (Some k) (g ∷ gs)) (first_of o gs)) (sym e) (first-wider _ _ _ (ih h) (sub h one) (cover h a b))
 
 -- what the fold keeps is the first of any set with the list's members
-pub first-of-set : (P : Fault → Type 0) (gs : List Fault) → ((f : Fault) → In f gs → P f) → ((f : Fault) → P f → In f gs) → IsFirst P (first_of None gs)
-first-of-set P gs only all = first-wider (λ f. In f gs) P (first_of None gs) (first-is None gs) only (λ f p. (f, all f p, sooner_refl f))
+pub first-of-set : (P : Fault → Type 0) (gs : List Fault) → ((f : Fault) → IsIn f gs → P f) → ((f : Fault) → P f → IsIn f gs) → IsFirst P (first_of None gs)
+first-of-set P gs only all = first-wider (λ f. IsIn f gs) P (first_of None gs) (first-is None gs) only (λ f p. (f, all f p, sooner_refl f))

@@ -210,11 +210,11 @@ module _ (bs : List Binder) (seen : ℕ) where
       All-cons (λ (p : Pat). length p.params ≤ 255) (record { on = ref.Binder (index_of bs (binder own p.on)); params = numbers (index_of bs) k p.params }) (pats_of (index_of bs) own k ps)
       (omega (arith, h.0, length-numbers (index_of bs) k p.params)) (short-fine own k ps h.1)
 
-  some-fine : (own k : ℕ) (ps : List PatTree) → g.IsSome ps → 0 < length (pats_of (index_of bs) own k ps)
+  some-fine : (own k : ℕ) (ps : List PatTree) → g.IsNotEmpty ps → 0 < length (pats_of (index_of bs) own k ps)
   some-fine own k [] h = absurd h
   some-fine own k (p ∷ ps) h = omega arith
 
-  pattern-fine : (own k : ℕ) (ps : List PatTree) → g.IsSome ps → g.AreShort ps → pattern_faults ps ≡ [] → AllIn bs (in_patterns own k ps) → IsPattern (pats_of (index_of bs) own k ps)
+  pattern-fine : (own k : ℕ) (ps : List PatTree) → g.IsNotEmpty ps → g.AreShort ps → pattern_faults ps ≡ [] → AllIn bs (in_patterns own k ps) → IsPattern (pats_of (index_of bs) own k ps)
   pattern-fine own k ps some short none inside = record {
     some = some-fine own k ps some;
     channels = channels-apart own k [] ps inside (none_left (repeats Scope5 [] (ons ps)) (repeats Scope4 [] (params ps)) none);

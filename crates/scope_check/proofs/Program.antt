@@ -80,7 +80,7 @@ length-seen : (xs : List SeenTree) → length (seen_decls xs) ≡ length xs
 length-seen [] = refl
 length-seen (x ∷ xs) = omega (arith, length-seen xs)
 
-some-site : (xs : List PlaceTree) → g.IsSome xs → 1 ≤ length xs
+some-site : (xs : List PlaceTree) → g.IsNotEmpty xs → 1 ≤ length xs
 some-site [] h = absurd h
 some-site (x ∷ xs) h = omega arith
 

@@ -13,7 +13,7 @@ use Rattle.join_parse.specs.Source as s
 use Rattle.join_parse.specs.Terminals.{Terminal, a_key, a_sign}
 use Rattle.join_lex.specs.declared.token.Key.TheVariants as key
 use Rattle.join_lex.specs.declared.token.Sign.TheVariants as sign
-use Rattle.join_parse.specs.Grammar.{TreeOfText, more_names, names, applied, more_patterns, patterns, of_process, of_processes, more_processes, of_definition, of_definitions, more_definitions, of_declarations, of_sites, sentence, IsSome, IsProcess, AreProcesses, AreMore, IsDefinition, AreDefinitions, AreSites}
+use Rattle.join_parse.specs.Grammar.{TreeOfText, more_names, names, applied, more_patterns, patterns, of_process, of_processes, more_processes, of_definition, of_definitions, more_definitions, of_declarations, of_sites, sentence, IsNotEmpty, IsProcess, AreProcesses, AreMore, IsDefinition, AreDefinitions, AreSites}
 use Rattle.chem_model.specs.Process as t
 use Rattle.chem_model.specs.Binders.{pattern_nodes, nodes, nodes_of_all, nodes_of, definition_nodes}
 use Rattle.scope_check.specs.Blocks.{block, params, parameters, sites_of, place_of, Scope, open_at, scopes_in, scopes_in_def, scopes_in_defs}
@@ -48,7 +48,7 @@ module _ (number : Binder → ℕ) where
   more_patterns-long own k (p ∷ ps) rest =
       omega (arith, sum-cons (λ (q : Pat). 2 + length q.params) (record { on = ref.Binder (number (binder own p.on)); params = numbers number k p.params }) (pats_of number own k ps), applied-long p.on p.params (more_patterns ps rest), more_patterns-long own k ps rest, length-numbers k p.params)
 
-  patterns-long : (own k : ℕ) (ps : List PatTree) (rest : List Terminal) → IsSome ps → 1 + pattern_nodes (pats_of number own k ps) + length rest ≤ length (patterns ps rest)
+  patterns-long : (own k : ℕ) (ps : List PatTree) (rest : List Terminal) → IsNotEmpty ps → 1 + pattern_nodes (pats_of number own k ps) + length rest ≤ length (patterns ps rest)
   patterns-long own k [] rest some = absurd some
   patterns-long own k (p ∷ ps) rest some =
       omega (arith, sum-cons (λ (q : Pat). 2 + length q.params) (record { on = ref.Binder (number (binder own p.on)); params = numbers number k p.params }) (pats_of number own k ps), applied-long p.on p.params (more_patterns ps rest), more_patterns-long own k ps rest, length-numbers k p.params)

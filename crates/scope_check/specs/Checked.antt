@@ -31,7 +31,7 @@ IsRefusedAs t (Refused kind place) =
 IsRefusedAs t Memory = Unit {0}
 
 -- A tree has one program or one first fault, and never both.
-pub record OneOutcome (t : TreeOfText) : Type 0 where
+pub record HasOneOutcome (t : TreeOfText) : Type 0 where
   pub some : ((p : ProgramTerms) × IsProgramOf t p)
       ⊎ ((f : Fault) × IsFirst (IsFault most_sites no_literals t) (Some f))
   pub one_program : (p q : ProgramTerms) → IsProgramOf t p → IsProgramOf t q → p ≡ q

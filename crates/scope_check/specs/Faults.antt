@@ -9,6 +9,7 @@ use Rattle.join_parse.specs.declared.word.PatTree.{PatTree}
 use Rattle.join_parse.specs.declared.tree.PlaceTree.{PlaceTree}
 use Rattle.join_parse.specs.Grammar.{TreeOfText}
 use Rattle.chem_model.specs.declared.name.Ref.{Ref}
+use Rattle.chem_model.specs.Each.{IsIn}
 use Rattle.scope_names.specs.declared.scope.Sort.{Sort}
 use Rattle.scope_names.specs.declared.scope.Sort.TheVariants.{Channel, Location}
 use Rattle.scope_names.specs.declared.scope.Sort.TheVariants.{Observed, Parameter}
@@ -16,9 +17,6 @@ use Rattle.scope_check.specs.declared.fault.Fault.{Fault}
 use Rattle.scope_check.specs.Blocks.{Defining, params, first_in, Resolved, resolve}
 use Rattle.scope_check.specs.Uses.{Manner, called, headed, sent, Use, uses_of}
 use Rattle.scope_check.specs.Uses.{Declared, a_block, a_join, declared_of}
-
-pub data Member {A : Type 0} (x : A) (xs : List A) : Type 0 where
-  stands : (before after : List A) → xs ≡ before ++ x ∷ after → Member x xs
 
 -- A known channel or observed name is called with another count, or a known location is called. A
 -- parameter has neither kind nor count.
@@ -75,7 +73,7 @@ pub record Repeated (kind : Kind) (words : List Word) (f : Fault) : Type 0 where
   pub after : List Word
   pub all : words ≡ before ++ later ∷ after
   pub earlier : Word
-  pub stands_before : Member earlier before
+  pub stands_before : IsIn earlier before
   pub same : later.text ≡ earlier.text
   pub here : f.place ≡ later.place
   pub wrong : f.kind ≡ kind
@@ -103,7 +101,7 @@ pub record WrongSite (limit : ℕ) (sites : List PlaceTree) (f : Fault) : Type 0
 -- stands for this.
 pub data IsFault (limit : ℕ) (literal : Word → Option Ref) (t : TreeOfText)
     (f : Fault) : Type 0 where
-  of_use : (u : Use) → Member u (uses_of literal t) → WrongUse u f → IsFault limit literal t f
-  of_declared : (d : Declared) → Member d (declared_of t) → WrongDeclared d f
+  of_use : (u : Use) → IsIn u (uses_of literal t) → WrongUse u f → IsFault limit literal t f
+  of_declared : (d : Declared) → IsIn d (declared_of t) → WrongDeclared d f
       → IsFault limit literal t f
   of_site : WrongSite limit t.sites f → IsFault limit literal t f

@@ -8,7 +8,7 @@ ghost use Rattle.scope_check.specs.inside.Clashes.{clashes_in};
 ghost use Rattle.scope_check.specs.inside.Naming.{outermost, walk_sites as walked_sites};
 ghost use Rattle.scope_check.specs.inside.Twin.{site_terms_in, level_uses_in};
 ghost use Rattle.scope_check.specs.Stands.{seen_decls};
-ghost use Rattle.scope_check.specs.Checked.{IsProgramOf, IsRefusedAs, OneOutcome};
+ghost use Rattle.scope_check.specs.Checked.{IsProgramOf, IsRefusedAs, HasOneOutcome};
 ghost use Rattle.join_parse.specs.Grammar.{TreeOfText};
 
 use crate::block::{Defining, observed, sites};
@@ -170,5 +170,5 @@ pub fn check(alloc: Global, tree: &Tree) -> Result<Program, Front>
 /// A tree has one program or one first fault, and never both. So `check` answers exactly by the
 /// definitions, save for want of memory.
 pub fn one_outcome()
-    ensures { (t : TreeOfText) → OneOutcome t }
+    ensures { (t : TreeOfText) → HasOneOutcome t }
 {}

@@ -7,7 +7,7 @@ use Rattle.chem_model.specs.declared.event.Event.{Event}
 use Rattle.chem_model.specs.Each.{Each}
 use Rattle.chem_model.specs.ProgramFacts.{ProgramTerms}
 use Rattle.chem_laws.proofs.Lists.{Each-append, Each-weaker}
-use Rattle.trace_history.specs.Kept.{Kept}
+use Rattle.trace_history.specs.Kept.{BookKept}
 use Rattle.shared_net.specs.declared.receipt.Receipt.{Receipt}
 use Rattle.shared_net.specs.declared.report.Worked.{Worked}
 use Rattle.shared_net.specs.Passes.{PassKept, Rise}
@@ -52,7 +52,7 @@ within : (n budget : ℕ) (rs : List Receipt) → ((k : ℕ) → k < n → times
 within zero budget rs each below = omega arith
 within (suc n) budget rs each below = let last = occurs-below n budget rs below (let one = each n (omega arith) in omega arith) in omega arith
 
-pub agreed : (program : ProgramTerms) (budget : ℕ) (ps : List PassKept) (book : Kept) → Agrees book.journal (all_receipts (map row_of ps)) → Each (λ p. Rise 0 p.budget p.receipts) ps → HaveBudget budget ps → length (all_receipts (map row_of ps)) ≡ length book.journal → book.program ≡ program → IsAgreed program budget (map row_of ps) book
+pub agreed : (program : ProgramTerms) (budget : ℕ) (ps : List PassKept) (book : BookKept) → Agrees book.journal (all_receipts (map row_of ps)) → Each (λ p. Rise 0 p.budget p.receipts) ps → HaveBudget budget ps → length (all_receipts (map row_of ps)) ≡ length book.journal → book.program ≡ program → IsAgreed program budget (map row_of ps) book
 agreed program budget ps book agrees rise is many same =
     let rs = all_receipts (map row_of ps) in
     let low : Each (λ (r : Receipt). r.place < length book.journal) rs = Each-weaker (Stands book.journal) (λ r. r.place < length book.journal) (λ r s. slice_get_within book.journal r.place r.event s) rs agrees.stands in

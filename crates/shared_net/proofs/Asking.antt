@@ -13,7 +13,7 @@ use Rattle.net_laws.specs.Holding.{request_with}
 use Rattle.site_solution.proofs.Together.{request_id}
 use Rattle.site_solution.specs.declared.effects.Effects.{Effects}
 use Rattle.migration.specs.Moves.{can_go}
-use Rattle.trace_history.specs.Kept.{Kept}
+use Rattle.trace_history.specs.Kept.{BookKept}
 use Rattle.shared_net.specs.declared.choosing.Chosen.TheVariants as choice
 use Rattle.shared_net.specs.declared.turn.Turn.{Turn}
 use Rattle.shared_net.specs.declared.turn.Turn.TheVariants.{Did}
@@ -42,7 +42,7 @@ module _ (t : Tree) (s : Site) (a : AtomId) (least : IsLeastMet t s a) where
     pub ask_event : (c : CodeParts) (e : Event) → e ≡ event_for q.ask q.id → IsEventOf c s (choice.Ask a) e
     ask_event c e is = (q, (here, is ∙ ap (event_for q.ask) own))
 
-    module _ (e : Event) (is : e ≡ event_for q.ask q.id) (fits : Type 0) (test : fits ↔ FitsHere s (event_for q.ask q.id)) (old : Kept) (held : PassKept) (turn : Turn) (new : Kept) (after : PassKept) (offered : Offers fits old held e turn new after) where
+    module _ (e : Event) (is : e ≡ event_for q.ask q.id) (fits : Type 0) (test : fits ↔ FitsHere s (event_for q.ask q.id)) (old : BookKept) (held : PassKept) (turn : Turn) (new : BookKept) (after : PassKept) (offered : Offers fits old held e turn new after) where
       pub offers_ask : Offers (FitsHere s e) old held e turn new after
       offers_ask = offers_as old held e fits (FitsHere s e) turn new after (λ f. subst (FitsHere s) (sym is) (test.0 f)) (λ f. test.1 (subst (FitsHere s) is f)) offered
 

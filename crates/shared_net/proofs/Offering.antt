@@ -3,7 +3,7 @@ use Rattle.std.proofs.Common.{◌≡◌, ℕ, ◌<◌, length, Bool, true, false
 use Rattle.std.specs.Prelude.{nat_lt}
 use Rattle.std.proofs.lemmas.Bool.Decides.{nat_tests}
 use Rattle.chem_model.specs.declared.event.Event.{Event}
-use Rattle.trace_history.specs.Kept.{Kept}
+use Rattle.trace_history.specs.Kept.{BookKept}
 use Rattle.shared_net.specs.declared.turn.Turn.{Turn}
 use Rattle.shared_net.specs.declared.turn.Turn.TheVariants.{Did, Passed, Nothing, NotEnabled, Full}
 use Rattle.shared_net.specs.Passes.{PassKept}
@@ -12,7 +12,7 @@ use Rattle.shared_net.specs.Proposes.{with_receipt}
 use Rattle.shared_net.specs.inside.Offers.{Offers, Turned, MayHaveCommitted}
 use Rattle.shared_net.specs.Offers.{MayGain}
 
-module _ (old : Kept) (held : PassKept) (e : Event) where
+module _ (old : BookKept) (held : PassKept) (e : Event) where
   -- what doesn't fit
   pub offers_nothing : (Fits : Type 0) → (Fits → ⊥) → (IsFull old held → ⊥) → Offers Fits old held e Nothing old held
   offers_nothing Fits not full =
@@ -24,7 +24,7 @@ module _ (old : Kept) (held : PassKept) (e : Event) where
       by_order false e = absurd (full (grind (arith, nat_tests)))
 
   -- what fits, or is refused before that is asked
-  pub offers_of : (Fits : Type 0) (turn : Turn) (new : Kept) (after : PassKept) → Fits ⊎ IsFull old held → Proposes old held e turn new after → Offers Fits old held e turn new after
+  pub offers_of : (Fits : Type 0) (turn : Turn) (new : BookKept) (after : PassKept) → Fits ⊎ IsFull old held → Proposes old held e turn new after → Offers Fits old held e turn new after
   offers_of Fits Full new after fits p = record { answer = p.answer; book = p.book; pass = p.pass }
   offers_of Fits Nothing new after fits p = record { answer = (p.answer.0, inl p.answer.1); book = p.book; pass = p.pass }
   offers_of Fits NotEnabled new after (inl f) p = record { answer = (record { room = p.answer.0; fits = f }, p.answer.1); book = p.book; pass = p.pass }
@@ -34,7 +34,7 @@ module _ (old : Kept) (held : PassKept) (e : Event) where
   offers_of Fits Passed new after fits p = absurd p.answer
 
   -- the same said of what fits
-  pub offers_as : (P Q : Type 0) (turn : Turn) (new : Kept) (after : PassKept) → (P → Q) → (Q → P) → Offers P old held e turn new after → Offers Q old held e turn new after
+  pub offers_as : (P Q : Type 0) (turn : Turn) (new : BookKept) (after : PassKept) → (P → Q) → (Q → P) → Offers P old held e turn new after → Offers Q old held e turn new after
   offers_as P Q Full new after f g h = record { answer = h.answer; book = h.book; pass = h.pass }
   offers_as P Q Nothing new after f g h = record { answer = (h.answer.0, elim h.answer.1 [ inl behind ↦ inl behind | inr not ↦ inr (λ q. not (g q)) ]); book = h.book; pass = h.pass }
   offers_as P Q NotEnabled new after f g h = record { answer = (record { room = h.answer.0.room; fits = f h.answer.0.fits }, h.answer.1); book = h.book; pass = h.pass }
@@ -42,7 +42,7 @@ module _ (old : Kept) (held : PassKept) (e : Event) where
   offers_as P Q Passed new after f g h = absurd h.answer
 
   -- an event that was made fits
-  pub made_fits : (Fits : Type 0) (turn : Turn) (place : ℕ) (new : Kept) (after : PassKept) → Offers Fits old held e turn new after → turn ≡ Did place → Fits
+  pub made_fits : (Fits : Type 0) (turn : Turn) (place : ℕ) (new : BookKept) (after : PassKept) → Offers Fits old held e turn new after → turn ≡ Did place → Fits
   made_fits Fits turn place new after h is = (subst (λ (t : Turn). Offers Fits old held e t new after) is h).answer.0.fits
 
   -- ---- the pass
@@ -54,28 +54,28 @@ module _ (old : Kept) (held : PassKept) (e : Event) where
   turned NotEnabled after not is = is
   turned Full after not is = is
 
-  pub proposal_turned : (turn : Turn) (new : Kept) (after : PassKept) → Proposes old held e turn new after → Turned held turn after
+  pub proposal_turned : (turn : Turn) (new : BookKept) (after : PassKept) → Proposes old held e turn new after → Turned held turn after
   proposal_turned turn new after p = turned turn after (λ is. (subst (λ (t : Turn). Proposes old held e t new after) is p).answer) p.pass
 
-  pub offer_turned : (Fits : Type 0) (turn : Turn) (new : Kept) (after : PassKept) → Offers Fits old held e turn new after → Turned held turn after
+  pub offer_turned : (Fits : Type 0) (turn : Turn) (new : BookKept) (after : PassKept) → Offers Fits old held e turn new after → Turned held turn after
   offer_turned Fits turn new after p = turned turn after (λ is. (subst (λ (t : Turn). Offers Fits old held e t new after) is p).answer) p.pass
 
   -- ---- want of memory after the book has answered
 
-  pub proposal_may : (Is : Event → Type 0) (turn : Turn) (new : Kept) (after : PassKept) → Is e → Proposes old held e turn new after → MayHaveCommitted Is old held new after
+  pub proposal_may : (Is : Event → Type 0) (turn : Turn) (new : BookKept) (after : PassKept) → Is e → Proposes old held e turn new after → MayHaveCommitted Is old held new after
   proposal_may Is Full new after is p = inl (record { book = p.book; pass = p.pass })
   proposal_may Is Nothing new after is p = inl (record { book = p.book; pass = p.pass })
   proposal_may Is NotEnabled new after is p = inl (record { book = p.book; pass = p.pass })
   proposal_may Is Passed new after is p = absurd p.answer
   proposal_may Is (Did place) new after is p = inr (record { event = e; event_is = is; book = p.book; pass = p.pass ∙ ap (λ (k : ℕ). with_receipt held k e) p.answer.2 })
 
-  pub offer_may : (Is : Event → Type 0) (Fits : Type 0) (turn : Turn) (new : Kept) (after : PassKept) → Is e → Offers Fits old held e turn new after → MayHaveCommitted Is old held new after
+  pub offer_may : (Is : Event → Type 0) (Fits : Type 0) (turn : Turn) (new : BookKept) (after : PassKept) → Is e → Offers Fits old held e turn new after → MayHaveCommitted Is old held new after
   offer_may Is Fits Full new after is p = inl (record { book = p.book; pass = p.pass })
   offer_may Is Fits Nothing new after is p = inl (record { book = p.book; pass = p.pass })
   offer_may Is Fits NotEnabled new after is p = inl (record { book = p.book; pass = p.pass })
   offer_may Is Fits Passed new after is p = absurd p.answer
   offer_may Is Fits (Did place) new after is p = inr (record { event = e; event_is = is; book = p.book; pass = p.pass ∙ ap (λ (k : ℕ). with_receipt held k e) p.answer.2 })
 
-pub may_gain : (Is : Event → Type 0) (old : Kept) (held : PassKept) (new : Kept) (after : PassKept) → MayHaveCommitted Is old held new after → MayGain held after
+pub may_gain : (Is : Event → Type 0) (old : BookKept) (held : PassKept) (new : BookKept) (after : PassKept) → MayHaveCommitted Is old held new after → MayGain held after
 may_gain Is old held new after (inl h) = inl h.pass
 may_gain Is old held new after (inr h) = inr (record { place = length old.journal; event = h.event; pass = h.pass })

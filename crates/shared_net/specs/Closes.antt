@@ -2,7 +2,7 @@
 use Rattle.std.specs.Prelude.{◌≡◌, ℕ, ◌<◌, ◌≤◌, List, None, is_some, true, length, IfSome}
 use Rattle.chem_model.specs.Each.{Each}
 use Rattle.chem_model.specs.ProgramFacts.{ProgramTerms}
-use Rattle.trace_history.specs.Kept.{Kept}
+use Rattle.trace_history.specs.Kept.{BookKept}
 use Rattle.shared_net.specs.declared.report.Worked.{Worked}
 use Rattle.shared_net.specs.declared.closing.Closed.{Closed}
 use Rattle.shared_net.specs.declared.closing.Closed.TheVariants.{Agreed, Differs}
@@ -16,7 +16,7 @@ HaveBudget budget passes = Each (λ p. p.budget ≡ budget) passes
 
 -- the book is of the program, the receipts agree with it and are as many as its events, each of its
 -- places has one, and it has at most `budget` events
-pub record IsAgreed (program : ProgramTerms) (budget : ℕ) (rows : List Worked) (book : Kept)
+pub record IsAgreed (program : ProgramTerms) (budget : ℕ) (rows : List Worked) (book : BookKept)
     : Type 0 where
   pub same : book.program ≡ program
   pub agrees : Agrees book.journal (all_receipts rows)

@@ -5,8 +5,8 @@ use Rattle.chem_model.specs.Each.{Each}
 use Rattle.chem_model.specs.ProgramFacts.{ProgramTerms}
 use Rattle.chem_model.specs.declared.event.Event.{Event}
 use Rattle.chem_model.specs.declared.memory.Memory.{Memory}
-use Rattle.trace_history.specs.Kept.{Kept}
-use Rattle.trace_history.specs.Book.{OnSolution}
+use Rattle.trace_history.specs.Kept.{BookKept}
+use Rattle.trace_history.specs.Book.{OnItsSolution}
 use Rattle.shared_net.specs.declared.closing.Closed.TheVariants as closed
 use Rattle.shared_net.specs.declared.differs.Differs.{Differs}
 use Rattle.shared_net.specs.declared.receipt.Receipt.{Receipt}
@@ -93,7 +93,7 @@ pub are_rows : (sites : ℕ) (old w : List PassKept) → HaveSameOwners old w �
 are_rows sites old w same ended = record { numbered = same_numbers old w same; ended = have_ended sites w ended }
 
 -- the receipts agree with the beginning of a journal
-pub are_first : (program : ProgramTerms) (budget : ℕ) (rows : List Worked) (book : Kept) (final : List Event) (events : ℕ) (added : List Event)
+pub are_first : (program : ProgramTerms) (budget : ℕ) (rows : List Worked) (book : BookKept) (final : List Event) (events : ℕ) (added : List Event)
     → IsAgreed program budget rows book → events ≡ length book.journal → final ≡ book.journal ++ added
     → AreFirst events (all_receipts rows) final
 are_first program budget rows book final events added agreed many more = record {
@@ -113,13 +113,13 @@ has_cause p report some cause started = of report.differs refl some cause starte
     of (Some cause) same some is started = record { cause = cause; differs = same; is_true = is; started = started }
 
 -- what the one thread adds to the book with which the receipts agree
-pub goes_on_alone : (book new : Kept) (budget events : ℕ) → events ≡ length book.journal → RunsOn book budget new → GoesOnAlone book.program budget events new.journal
+pub goes_on_alone : (book new : BookKept) (budget events : ℕ) → events ≡ length book.journal → RunsOn book budget new → GoesOnAlone book.program budget events new.journal
 goes_on_alone book new budget events many run = record {
   first = book.journal;
   rest = run.added;
   journal_is = run.journal;
   as_many = sym many;
-  schedule = subst (λ (k : ℕ). OnSolution book (λ n. IsSchedule (budget - k) n 0 run.added)) (sym many) run.schedule;
+  schedule = subst (λ (k : ℕ). OnItsSolution book (λ n. IsSchedule (budget - k) n 0 run.added)) (sym many) run.schedule;
 }
 
 module _ (sites : ℕ) (old w : List PassKept) (p : ProgramTerms) (budget : ℕ) (same : HaveSameOwners old w) (ended : Each (λ p. HasEnded sites (row_of p)) w) where
@@ -134,7 +134,7 @@ module _ (sites : ℕ) (old w : List PassKept) (p : ProgramTerms) (budget : ℕ)
     made = subst (λ (ws : List Worked). IsMadeWith ws p budget d.book.journal d.how) is made;
   }
 
-  pub shared_is_free : (book : Kept) (report : Reported) → Closes p budget (map row_of w) (closed.Agreed book report) → (r : Result Done Memory)
+  pub shared_is_free : (book : BookKept) (report : Reported) → Closes p budget (map row_of w) (closed.Agreed book report) → (r : Result Done Memory)
       → IfOk r (λ (d : Done). IsMadeWith report.workers book.program budget d.book.journal d.how)
       → IfOk r (λ (d : Done). IsFree sites (map (λ (p : PassKept). p.number) old) p budget d.book.journal d.how)
   shared_is_free book report closes r made =

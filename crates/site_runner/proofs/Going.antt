@@ -9,7 +9,7 @@ use Rattle.chem_model.specs.Apply.{apply, apply_if, replay}
 use Rattle.trace_history.specs.declared.book.Commit.{Commit}
 use Rattle.trace_history.specs.declared.book.Commit.TheVariants.{Place, NotEnabled}
 use Rattle.trace_history.specs.declared.book.Found.{Found}
-use Rattle.trace_history.specs.Kept.{Kept, solution, is_enabled}
+use Rattle.trace_history.specs.Kept.{BookKept, solution, is_enabled}
 use Rattle.trace_history.specs.First.{IsFirst}
 use Rattle.trace_history.specs.Book.{Commits, IsStuck}
 use Rattle.trace_history.proofs.Replays.{replay_more, replay_sites}
@@ -17,7 +17,7 @@ use Rattle.site_runner.specs.Schedule.{after, IsSchedule, spent, stuck, first, S
 use Rattle.site_runner.specs.Run.{RunsOn}
 
 -- each schedule that goes on from here is the rest of one from the beginning
-pub record Goes (old : Kept) (budget : ℕ) (now : Kept) (from : ℕ) : Type 0 where
+pub record Goes (old : BookKept) (budget : ℕ) (now : BookKept) (from : ℕ) : Type 0 where
   pub program : now.program ≡ old.program
   pub added : List Event
   pub journal : now.journal ≡ old.journal ++ added
@@ -29,7 +29,7 @@ same_some : {X : Type 0} (x y : X) → Some x ≡ Some y → x ≡ y
 same_some x y e = cc
 
 -- at the beginning
-pub begins : (b : Kept) (budget : ℕ) (n : Numbered) → solution b ≡ Some n → Goes b budget b 0
+pub begins : (b : BookKept) (budget : ℕ) (n : Numbered) → solution b ≡ Some n → Goes b budget b 0
 begins b budget n e = record {
   program = refl;
   added = [];
@@ -51,7 +51,7 @@ some_of None e = cc
 some_of (Some m) e = (m, refl)
 
 -- where an event comes first, the book isn't stuck
-pub first_not_stuck : (b : Kept) (n : Numbered) → solution b ≡ Some n → (from site : ℕ) (e : Event) → IsFirst n from site e → IsStuck b → ⊥
+pub first_not_stuck : (b : BookKept) (n : Numbered) → solution b ≡ Some n → (from site : ℕ) (e : Event) → IsFirst n from site e → IsStuck b → ⊥
 first_not_stuck b n leads from site e finds still =
     let enabled : is_enabled b e ≡ is_some (apply n e) = ap (λ o. is_some (apply_if o e)) leads in
     let possible = finds.possible in
@@ -59,25 +59,25 @@ first_not_stuck b n leads from site e finds still =
     cc
 
 -- a run that began where no event is possible makes none
-pub still_stuck : (old now new : Kept) → (IsStuck old → IsStuck now) → (IsStuck now → ⊥) → IsStuck old → IsStuck new
+pub still_stuck : (old now new : BookKept) → (IsStuck old → IsStuck now) → (IsStuck now → ⊥) → IsStuck old → IsStuck new
 still_stuck old now new keeps not still = elim (not (keeps still)) [ ]
 
 -- on want of memory at an event, one was possible at the beginning
-pub possible_on_err : {X Y : Type 0} (o : Result X Y) (old now : Kept) → (IsStuck old → IsStuck now) → (IsStuck now → ⊥) → OnErr o (IsStuck old → ⊥)
+pub possible_on_err : {X Y : Type 0} (o : Result X Y) (old now : BookKept) → (IsStuck old → IsStuck now) → (IsStuck now → ⊥) → OnErr o (IsStuck old → ⊥)
 possible_on_err (Ok x) old now keeps not = tt
 possible_on_err (Err y) old now keeps not = λ still. not (keeps still)
 
 -- one more event, the first one
-module _ (old : Kept) (budget : ℕ) (now : Kept) (from : ℕ) (g : Goes old budget now from) (f : Found) (finds : IsFirst g.last from f.site f.event) (low : length now.journal < budget) where
+module _ (old : BookKept) (budget : ℕ) (now : BookKept) (from : ℕ) (g : Goes old budget now from) (f : Found) (finds : IsFirst g.last from f.site f.event) (low : length now.journal < budget) where
   next : (m : Numbered) × (apply g.last f.event ≡ Some m)
   next = some_of (apply g.last f.event) finds.possible
 
-  pub after_event : (sites : ℕ) → sites ≡ length old.program.sites → (c : Commit) (new : Kept) → Commits now f.event c new → Goes old budget new (after sites f.site) × (length new.journal ≡ length now.journal + 1)
+  pub after_event : (sites : ℕ) → sites ≡ length old.program.sites → (c : Commit) (new : BookKept) → Commits now f.event c new → Goes old budget new (after sites f.site) × (length new.journal ≡ length now.journal + 1)
   after_event sites is (Place k) new h = (
     record {
-      program = ap (λ (b : Kept). b.program) h.2 ∙ g.program;
+      program = ap (λ (b : BookKept). b.program) h.2 ∙ g.program;
       added = g.added ++ f.event ∷ [];
-      journal = ap (λ (b : Kept). b.journal) h.2 ∙ ap (λ (j : List Event). j ++ f.event ∷ []) g.journal ∙ append_assoc old.journal g.added (f.event ∷ []);
+      journal = ap (λ (b : BookKept). b.journal) h.2 ∙ ap (λ (j : List Event). j ++ f.event ∷ []) g.journal ∙ append_assoc old.journal g.added (f.event ∷ []);
       last = next.0;
       leads = ap solution h.2 ∙ replay_more now.program now.journal f.event g.last next.0 g.leads next.1;
       schedule = goes_on;
@@ -86,7 +86,7 @@ module _ (old : Kept) (budget : ℕ) (now : Kept) (from : ℕ) (g : Goes old bud
   )
     where
       longer : length new.journal ≡ length now.journal + 1
-      longer = ap (λ (b : Kept). length b.journal) h.2 ∙ one_more now.journal f.event
+      longer = ap (λ (b : BookKept). length b.journal) h.2 ∙ one_more now.journal f.event
 
       counts : length g.last.counts ≡ sites
       counts = replay_sites now.program now.journal g.last g.leads ∙ ap (λ (p : ProgramTerms). length p.sites) g.program ∙ sym is
@@ -111,7 +111,7 @@ none_of None e = refl
 none_of (Some m) e = cc
 
 -- where no event is possible
-pub stops : (old : Kept) (budget : ℕ) (now : Kept) (from : ℕ) (g : Goes old budget now from) → length now.journal ≤ budget → IsStuck now → RunsOn old budget now
+pub stops : (old : BookKept) (budget : ℕ) (now : BookKept) (from : ℕ) (g : Goes old budget now from) → length now.journal ≤ budget → IsStuck now → RunsOn old budget now
 stops old budget now from g within h = record {
   program = g.program;
   added = g.added;
@@ -122,7 +122,7 @@ stops old budget now from g within h = record {
 }
 
 -- where the budget is spent
-pub is_spent : (old : Kept) (budget : ℕ) (now : Kept) (from : ℕ) (g : Goes old budget now from) → length now.journal ≡ budget → RunsOn old budget now
+pub is_spent : (old : BookKept) (budget : ℕ) (now : BookKept) (from : ℕ) (g : Goes old budget now from) → length now.journal ≡ budget → RunsOn old budget now
 is_spent old budget now from g h = record {
   program = g.program;
   added = g.added;
@@ -136,7 +136,7 @@ is_spent old budget now from g h = record {
     nothing k e = subst (λ (i : ℕ). IsSchedule i g.last from []) (sym e) spent
 
 -- from an empty journal the whole journal is the program's schedule
-pub whole : (old : Kept) (budget : ℕ) (new : Kept) → RunsOn old budget new → old.journal ≡ [] → ScheduleOf old.program budget new.journal
+pub whole : (old : BookKept) (budget : ℕ) (new : BookKept) → RunsOn old budget new → old.journal ≡ [] → ScheduleOf old.program budget new.journal
 whole old budget new r e =
     let leads : solution old ≡ Some (opening old.program) = ap (replay old.program) e in
     let s = r.schedule (opening old.program) leads in

@@ -16,7 +16,7 @@ use Rattle.site_runner.specs.Schedule.{after, IsSchedule, spent, stuck, first, H
 use Rattle.site_runner.proofs.Going.{some_of, none_of}
 
 -- the first event of a schedule, and the schedule from there
-record Begins (budget : ℕ) (n : Numbered) (from : ℕ) (e : Event) (journal : List Event) : Type 0 where
+record BeginsJournal (budget : ℕ) (n : Numbered) (from : ℕ) (e : Event) (journal : List Event) : Type 0 where
   pub left : ℕ
   pub leaves : budget ≡ left + 1
   pub next : Numbered
@@ -28,7 +28,7 @@ record Begins (budget : ℕ) (n : Numbered) (from : ℕ) (e : Event) (journal : 
 -- what a schedule's journal says of it
 abbrev Says : ℕ → Numbered → ℕ → List Event → Type 0
 Says budget n from [] = (budget ≡ 0) ⊎ ((e : Event) → apply n e ≡ None)
-Says budget n from (e ∷ journal) = Begins budget n from e journal
+Says budget n from (e ∷ journal) = BeginsJournal budget n from e journal
 
 says : {budget : ℕ} {n : Numbered} {from : ℕ} {journal : List Event} → IsSchedule budget n from journal → Says budget n from journal
 says spent = inl refl
@@ -36,7 +36,7 @@ says (stuck h) = inr h
 says (first {budget = left} {m = next} {site = site} f a s) = record { left = left; leaves = refl; next = next; site = site; is_first = f; leads = a; rest = s }
 
 -- where a schedule has an event, it doesn't end
-goes_on : (budget : ℕ) (n : Numbered) (from : ℕ) (e : Event) (journal : List Event) → Begins budget n from e journal → (budget ≡ 0) ⊎ ((e : Event) → apply n e ≡ None) → ⊥
+goes_on : (budget : ℕ) (n : Numbered) (from : ℕ) (e : Event) (journal : List Event) → BeginsJournal budget n from e journal → (budget ≡ 0) ⊎ ((e : Event) → apply n e ≡ None) → ⊥
 goes_on budget n from e journal b (inl h) = let more = b.leaves in omega arith
 goes_on budget n from e journal b (inr h) = let not = h e in let is = b.leads in cc
 
@@ -47,8 +47,8 @@ module _ (start : OpeningIsAStart) (law : EventIsAReduction) where
   same_journal budget n from sound [] (f ∷ other) s t = absurd (goes_on budget n from f other (says t) (says s))
   same_journal budget n from sound (e ∷ one) [] s t = absurd (goes_on budget n from e one (says s) (says t))
   same_journal budget n from sound (e ∷ one) (f ∷ other) s t =
-      let a : Begins budget n from e one = says s in
-      let b : Begins budget n from f other = says t in
+      let a : BeginsJournal budget n from e one = says s in
+      let b : BeginsJournal budget n from f other = says t in
       let same = one_first n sound from a.site b.site e f a.is_first b.is_first in
       let next : b.next ≡ a.next = same_some b.next a.next (sym b.leads ∙ ap (apply n) (sym same.1) ∙ a.leads) in
       let one_left = a.leaves in

@@ -18,7 +18,7 @@ use Rattle.wire_packet.specs.declared.packet.Ask.TheVariants as request
 use Rattle.wire_packet.specs.declared.packet.Request.{Request}
 use Rattle.trace_history.specs.declared.book.Commit.{Commit}
 use Rattle.trace_history.specs.declared.book.Commit.TheVariants.{Place, NotEnabled}
-use Rattle.trace_history.specs.Kept.{Kept, solution, is_enabled}
+use Rattle.trace_history.specs.Kept.{BookKept, solution, is_enabled}
 use Rattle.trace_history.specs.Book.{Commits, IsStuck, Replays}
 use Rattle.trace_history.proofs.Replays.{replay_from-append, replay_sites, same_some}
 use Rattle.env_store.specs.CodeParts.{CodeParts}
@@ -53,23 +53,23 @@ use Rattle.site_runner.specs.inside.RoundParts.{HasTurn, made, passed, MeetsRequ
 
 -- ---- books with more events
 
-abbrev book_of : ProgramTerms → List Event → Kept
+abbrev book_of : ProgramTerms → List Event → BookKept
 book_of p es = record { program = p; journal = es }
 
-pub and_then_twice : (b : Kept) (xs ys : List Event) → and_then (and_then b xs) ys ≡ and_then b (xs ++ ys)
+pub and_then_twice : (b : BookKept) (xs ys : List Event) → and_then (and_then b xs) ys ≡ and_then b (xs ++ ys)
 and_then_twice b xs ys = ap (book_of b.program) (append_assoc b.journal xs ys)
 
-pub and_then_none : (b : Kept) → and_then b [] ≡ b
+pub and_then_none : (b : BookKept) → and_then b [] ≡ b
 and_then_none b = ap (book_of b.program) (append-nil b.journal)
 
-pub longer : (b after : Kept) (es : List Event) → after ≡ and_then b es → length after.journal ≡ length b.journal + length es
-longer b after es is = ap (λ (x : Kept). length x.journal) is ∙ length-append b.journal es
+pub longer : (b after : BookKept) (es : List Event) → after ≡ and_then b es → length after.journal ≡ length b.journal + length es
+longer b after es is = ap (λ (x : BookKept). length x.journal) is ∙ length-append b.journal es
 
-same_length : (b after : Kept) → after ≡ and_then b [] → length after.journal ≡ length b.journal
-same_length b after is = ap (λ (x : Kept). length x.journal) (is ∙ and_then_none b)
+same_length : (b after : BookKept) → after ≡ and_then b [] → length after.journal ≡ length b.journal
+same_length b after is = ap (λ (x : BookKept). length x.journal) (is ∙ and_then_none b)
 
 -- where an event is left now, one was left before
-pub was_left : (budget : ℕ) (book0 book : Kept) (added : List Event) → book ≡ and_then book0 added → length book.journal < budget → length book0.journal < budget
+pub was_left : (budget : ℕ) (book0 book : BookKept) (added : List Event) → book ≡ and_then book0 added → length book.journal < budget → length book0.journal < budget
 was_left budget book0 book added is low = let long = longer book0 book added is in omega arith
 
 pub on_err : {X Y P : Type 0} (o : Result X Y) → P → OnErr o P
@@ -102,20 +102,20 @@ none_after (suc i) (x ∷ xs) h = none_after i xs (omega arith)
 
 -- ---- a book and a network that stand for one solution
 
-pub fine : (b : Kept) (net : NetParts) → AreOne b net → IsFine b.program net.code net.net
+pub fine : (b : BookKept) (net : NetParts) → AreOne b net → IsFine b.program net.code net.net
 fine b net o = record { solution = o.last; stands = o.stands; runs = o.runs }
 
-pub site_count : (b : Kept) (net : NetParts) → AreOne b net → length net.net.sites ≡ length b.program.sites
+pub site_count : (b : BookKept) (net : NetParts) → AreOne b net → length net.net.sites ≡ length b.program.sites
 site_count b net o = sym (length_made net.net.sites) ∙ ap length (sym o.stands.agrees.counts) ∙ replay_sites b.program b.journal o.last o.leads
 
-pub some_sites : (b : Kept) (net : NetParts) → AreOne b net → 0 < length net.net.sites
+pub some_sites : (b : BookKept) (net : NetParts) → AreOne b net → 0 < length net.net.sites
 some_sites b net o = let count = site_count b net o in let some = o.is_program.some_site in omega arith
 
 -- the number of sites stays
-pub same_sites : (b after : Kept) (net new : NetParts) (es : List Event) → AreOne b net → after ≡ and_then b es → AreOne after new → length net.net.sites ≡ length new.net.sites
-same_sites b after net new es o is m = site_count b net o ∙ ap (λ (x : Kept). length x.program.sites) (sym is) ∙ sym (site_count after new m)
+pub same_sites : (b after : BookKept) (net new : NetParts) (es : List Event) → AreOne b net → after ≡ and_then b es → AreOne after new → length net.net.sites ≡ length new.net.sites
+same_sites b after net new es o is m = site_count b net o ∙ ap (λ (x : BookKept). length x.program.sites) (sym is) ∙ sym (site_count after new m)
 
-pub as_one : (b : Kept) (net : NetParts) → StandForOne b net → Replays b → IsProgram b.program → IsCode net.code → AreOne b net
+pub as_one : (b : BookKept) (net : NetParts) → StandForOne b net → Replays b → IsProgram b.program → IsCode net.code → AreOne b net
 as_one b net o r p c = record {
   is_program = p;
   is_code = c;
@@ -128,9 +128,9 @@ as_one b net o r p c = record {
 }
 
 -- with more events
-pub one_after : (b after : Kept) (net new : NetParts) (es : List Event) (n : Numbered) (o : AreOne b net) → after ≡ and_then b es → new.code ≡ net.code → replay_from (Some o.last) es ≡ Some n
+pub one_after : (b after : BookKept) (net new : NetParts) (es : List Event) (n : Numbered) (o : AreOne b net) → after ≡ and_then b es → new.code ≡ net.code → replay_from (Some o.last) es ≡ Some n
     → Stands (rules_of_group b.program) new.net n → RunsCode b.program net.code new.net → new.events ≡ net.events + length es → AreOne after new
-one_after b after net new es n o is code leads stands runs events = subst (λ (x : Kept). AreOne x new) (sym is) more
+one_after b after net new es n o is code leads stands runs events = subst (λ (x : BookKept). AreOne x new) (sym is) more
   where
     more : AreOne (and_then b es) new
     more = record {
@@ -146,7 +146,7 @@ one_after b after net new es n o is code leads stands runs events = subst (λ (x
 
 -- ---- one choice
 
-module _ (net new : NetParts) (b after : Kept) (x : Choice) (o : AreOne b net) (few : length new.net.packets < 2 ^ 32) where
+module _ (net new : NetParts) (b after : BookKept) (x : Choice) (o : AreOne b net) (few : length new.net.packets < 2 ^ 32) where
   pub made_some : (e : Event) (k : Commit) → HasActed net x (Some e) new → Commits b e k after → IsMade net b x new after
   made_some e k h c = go k c
     where
@@ -185,23 +185,23 @@ module _ (net new : NetParts) (b after : Kept) (x : Choice) (o : AreOne b net) (
 -- ---- on the way
 
 -- what the rest says makes what all of it says
-pub record OnItsWay (All Rest : List Event → Net → Type 0) (net0 : NetParts) (book0 : Kept) (net : NetParts) (book : Kept) : Type 0 where
+pub record OnItsWay (All Rest : List Event → Net → Type 0) (net0 : NetParts) (book0 : BookKept) (net : NetParts) (book : BookKept) : Type 0 where
   pub added : List Event
   pub code : net.code ≡ net0.code
   pub book_is : book ≡ and_then book0 added
   pub one : AreOne book net
   pub so_far : (es : List Event) (end : Net) → Rest es end → All (added ++ es) end
 
-pub begins : (All : List Event → Net → Type 0) (net : NetParts) (book : Kept) → AreOne book net → OnItsWay All All net book net book
+pub begins : (All : List Event → Net → Type 0) (net : NetParts) (book : BookKept) → AreOne book net → OnItsWay All All net book net book
 begins All net book o = record { added = []; code = refl; book_is = sym (and_then_none book); one = o; so_far = λ es end h. h }
 
-module _ (All Rest : List Event → Net → Type 0) (net0 : NetParts) (book0 : Kept) (net new : NetParts) (book after : Kept) (g : OnItsWay All Rest net0 book0 net book) where
+module _ (All Rest : List Event → Net → Type 0) (net0 : NetParts) (book0 : BookKept) (net new : NetParts) (book after : BookKept) (g : OnItsWay All Rest net0 book0 net book) where
   pub goes : (Later : List Event → Net → Type 0) (more : List Event) → new.code ≡ net.code → after ≡ and_then book more → AreOne after new
       → ((es : List Event) (end : Net) → Later es end → Rest (more ++ es) end) → OnItsWay All Later net0 book0 new after
   goes Later more code is o step = record {
     added = g.added ++ more;
     code = code ∙ g.code;
-    book_is = is ∙ ap (λ (x : Kept). and_then x more) g.book_is ∙ and_then_twice book0 g.added more;
+    book_is = is ∙ ap (λ (x : BookKept). and_then x more) g.book_is ∙ and_then_twice book0 g.added more;
     one = o;
     so_far = λ es end h. subst (λ (xs : List Event). All xs end) (sym (append_assoc g.added more es)) (g.so_far (more ++ es) end (step es end h));
   }
@@ -211,11 +211,11 @@ module _ (All Rest : List Event → Net → Type 0) (net0 : NetParts) (book0 : K
     added = g.added ++ more;
     runs = g.so_far more new.net h;
     code = code ∙ g.code;
-    book_is = is ∙ ap (λ (x : Kept). and_then x more) g.book_is ∙ and_then_twice book0 g.added more;
+    book_is = is ∙ ap (λ (x : BookKept). and_then x more) g.book_is ∙ and_then_twice book0 g.added more;
     one = o;
   }
 
-pub ends : (All Rest : List Event → Net → Type 0) (net0 : NetParts) (book0 : Kept) (net : NetParts) (book : Kept) → OnItsWay All Rest net0 book0 net book → Rest [] net.net → HaveRun All net0 book0 net book
+pub ends : (All Rest : List Event → Net → Type 0) (net0 : NetParts) (book0 : BookKept) (net : NetParts) (book : BookKept) → OnItsWay All Rest net0 book0 net book → Rest [] net.net → HaveRun All net0 book0 net book
 ends All Rest net0 book0 net book g h = record { added = g.added; runs = subst (λ (xs : List Event). All xs net.net) (append-nil g.added) (g.so_far [] net.net h); code = g.code; book_is = g.book_is; one = g.one }
 
 -- ---- what falls
@@ -233,10 +233,10 @@ light net few = let low = misdirected_le net.tree net.packets in omega arith
 
 -- ---- one choice after another
 
-abbrev pub Goes : ℕ → CodeParts → NetParts → Kept → List Event → Net → Type 0
+abbrev pub Goes : ℕ → CodeParts → NetParts → BookKept → List Event → Net → Type 0
 Goes budget c net book = GoesOn c (budget - length book.journal) net.net
 
-module _ (budget : ℕ) (net new : NetParts) (book after : Kept) (x : Choice) (low : length book.journal < budget) (m : IsMade net book x new after) where
+module _ (budget : ℕ) (net new : NetParts) (book after : BookKept) (x : Choice) (low : length book.journal < budget) (m : IsMade net book x new after) where
   -- the next choice
   goes_step : (c : CodeParts) → net.code ≡ c → IsNext net.code net.net x → (es : List Event) (end : Net) → Goes budget c new after es end → Goes budget c net book (events_of m.event ++ es) end
   goes_step c code next es end = go m.event m.acts m.book_is
@@ -253,7 +253,7 @@ module _ (budget : ℕ) (net new : NetParts) (book after : Kept) (x : Choice) (l
           let one : budget - length after.journal ≡ budget - length book.journal - 1 = omega arith in
           commits (budget - length book.journal) net.net new.net end x e es (omega arith) first (subst (λ (d : CodeParts). Acts d net.net x (Some e) new.net) code a) (subst (λ (k : ℕ). GoesOn c k new.net es end) one h)
 
-  pub goes_on : (net0 : NetParts) (book0 : Kept) → OnItsWay (Goes budget net0.code net0 book0) (Goes budget net0.code net book) net0 book0 net book → IsNext net.code net.net x → OnItsWay (Goes budget net0.code net0 book0) (Goes budget net0.code new after) net0 book0 new after
+  pub goes_on : (net0 : NetParts) (book0 : BookKept) → OnItsWay (Goes budget net0.code net0 book0) (Goes budget net0.code net book) net0 book0 net book → IsNext net.code net.net x → OnItsWay (Goes budget net0.code net0 book0) (Goes budget net0.code new after) net0 book0 new after
   goes_on net0 book0 g next =
       goes (Goes budget net0.code net0 book0) (Goes budget net0.code net book) net0 book0 net new book after g (Goes budget net0.code new after) (events_of m.event) m.code m.book_is m.one (goes_step net0.code g.code next)
 
@@ -278,16 +278,16 @@ module _ (budget : ℕ) (net new : NetParts) (book after : Kept) (x : Choice) (l
           omega arith
 
 -- as the loop keeps it
-abbrev pub GoesWay : ℕ → NetParts → Kept → NetParts → Kept → Type 0
+abbrev pub GoesWay : ℕ → NetParts → BookKept → NetParts → BookKept → Type 0
 GoesWay budget net0 book0 net book = OnItsWay (Goes budget net0.code net0 book0) (Goes budget net0.code net book) net0 book0 net book
 
-pub goes_spent : (budget : ℕ) (net0 net : NetParts) (book0 book : Kept) → GoesWay budget net0 book0 net book → budget ≤ length book.journal → HaveRun (Goes budget net0.code net0 book0) net0 book0 net book
+pub goes_spent : (budget : ℕ) (net0 net : NetParts) (book0 book : BookKept) → GoesWay budget net0 book0 net book → budget ≤ length book.journal → HaveRun (Goes budget net0.code net0 book0) net0 book0 net book
 goes_spent budget net0 net book0 book g h = ends (Goes budget net0.code net0 book0) (Goes budget net0.code net book) net0 book0 net book g (go (budget - length book.journal) (omega arith))
   where
     go : (k : ℕ) → k ≡ 0 → GoesOn net0.code k net.net [] net.net
     go k e = subst (λ (i : ℕ). GoesOn net0.code i net.net [] net.net) (sym e) (all_spent net.net)
 
-pub goes_rest : (budget : ℕ) (net0 net : NetParts) (book0 book : Kept) → GoesWay budget net0 book0 net book → ((x : Choice) → Allows net.code net.net x → ⊥) → HaveRun (Goes budget net0.code net0 book0) net0 book0 net book
+pub goes_rest : (budget : ℕ) (net0 net : NetParts) (book0 book : BookKept) → GoesWay budget net0 book0 net book → ((x : Choice) → Allows net.code net.net x → ⊥) → HaveRun (Goes budget net0.code net0 book0) net0 book0 net book
 goes_rest budget net0 net book0 book g none =
     ends (Goes budget net0.code net0 book0) (Goes budget net0.code net book) net0 book0 net book g
     (none_enabled (budget - length book.journal) net.net (subst (λ (d : CodeParts). (x : Choice) → Allows d net.net x → ⊥) g.code none))
@@ -295,17 +295,17 @@ goes_rest budget net0 net book0 book g none =
 -- ---- what is made in turn
 
 module _ {X : Type 0} (Makes : CodeParts → Net → X → Event → Net → Type 0) (Passes : CodeParts → Net → X → Type 0) where
-  abbrev pub Turns : ℕ → CodeParts → List X → NetParts → Kept → List Event → Net → Type 0
+  abbrev pub Turns : ℕ → CodeParts → List X → NetParts → BookKept → List Event → Net → Type 0
   Turns budget c xs net book = InTurn (Makes c) (Passes c) (budget - length book.journal) xs net.net
 
   abbrev pub Turn : NetParts → X → List Event → Net → Type 0
   Turn net x = HasTurn (Makes net.code) (Passes net.code) net.net x
 
   -- as the loop keeps it
-  abbrev pub TurnsWay : ℕ → List X → NetParts → Kept → List X → NetParts → Kept → Type 0
+  abbrev pub TurnsWay : ℕ → List X → NetParts → BookKept → List X → NetParts → BookKept → Type 0
   TurnsWay budget all net0 book0 xs net book = OnItsWay (Turns budget net0.code all net0 book0) (Turns budget net0.code xs net book) net0 book0 net book
 
-  module _ (budget : ℕ) (net new : NetParts) (book after : Kept) (x : X) (xs : List X) (low : length book.journal < budget) (r : HaveRun (Turn net x) net book new after) where
+  module _ (budget : ℕ) (net new : NetParts) (book after : BookKept) (x : X) (xs : List X) (low : length book.journal < budget) (r : HaveRun (Turn net x) net book new after) where
     turn_step : (c : CodeParts) → net.code ≡ c → (es : List Event) (end : Net) → Turns budget c xs new after es end → Turns budget c (x ∷ xs) net book (r.added ++ es) end
     turn_step c code es end h = go r.added new.net r.runs r.book_is h
       where
@@ -325,38 +325,38 @@ module _ {X : Type 0} (Makes : CodeParts → Net → X → Event → Net → Typ
         go more m (made e _ done) is = let long : length after.journal ≡ length book.journal + 1 = longer book after (e ∷ []) is in omega arith
         go more m (passed by) is = let same = same_length book after is in omega arith
 
-    pub turn_goes : (all : List X) (net0 : NetParts) (book0 : Kept) → TurnsWay budget all net0 book0 (x ∷ xs) net book → TurnsWay budget all net0 book0 xs new after
+    pub turn_goes : (all : List X) (net0 : NetParts) (book0 : BookKept) → TurnsWay budget all net0 book0 (x ∷ xs) net book → TurnsWay budget all net0 book0 xs new after
     turn_goes all net0 book0 g =
         goes (Turns budget net0.code all net0 book0) (Turns budget net0.code (x ∷ xs) net book) net0 book0 net new book after g (Turns budget net0.code xs new after) r.added r.code r.book_is r.one (turn_step net0.code g.code)
 
   -- the turn of the one at this place
-  pub turn_at : (budget : ℕ) (net new : NetParts) (book after : Kept) (items : List X) (i : ℕ) (d : X) → i < length items → length book.journal < budget → HaveRun (Turn net (slice_index_or items i d)) net book new after
-      → (all : List X) (net0 : NetParts) (book0 : Kept) → TurnsWay budget all net0 book0 (drop i items) net book → TurnsWay budget all net0 book0 (drop (i + 1) items) new after
+  pub turn_at : (budget : ℕ) (net new : NetParts) (book after : BookKept) (items : List X) (i : ℕ) (d : X) → i < length items → length book.journal < budget → HaveRun (Turn net (slice_index_or items i d)) net book new after
+      → (all : List X) (net0 : NetParts) (book0 : BookKept) → TurnsWay budget all net0 book0 (drop i items) net book → TurnsWay budget all net0 book0 (drop (i + 1) items) new after
   turn_at budget net new book after items i d less low r all net0 book0 g =
       turn_goes budget net new book after (slice_index_or items i d) (drop (i + 1) items) low r all net0 book0
       (subst (λ (xs : List X). TurnsWay budget all net0 book0 xs net book) (item_splits i items d less).0 g)
 
-  pub turn_at_within : (budget : ℕ) (net new : NetParts) (book after : Kept) (x : X) → length book.journal < budget → HaveRun (Turn net x) net book new after → length after.journal ≤ budget
+  pub turn_at_within : (budget : ℕ) (net new : NetParts) (book after : BookKept) (x : X) → length book.journal < budget → HaveRun (Turn net x) net book new after → length after.journal ≤ budget
   turn_at_within budget net new book after x low r = turn_within budget net new book after x [] low r
 
-  pub turns_spent : (budget : ℕ) (all xs : List X) (net0 net : NetParts) (book0 book : Kept) → TurnsWay budget all net0 book0 xs net book → budget ≤ length book.journal → HaveRun (Turns budget net0.code all net0 book0) net0 book0 net book
+  pub turns_spent : (budget : ℕ) (all xs : List X) (net0 net : NetParts) (book0 book : BookKept) → TurnsWay budget all net0 book0 xs net book → budget ≤ length book.journal → HaveRun (Turns budget net0.code all net0 book0) net0 book0 net book
   turns_spent budget all xs net0 net book0 book g h = ends (Turns budget net0.code all net0 book0) (Turns budget net0.code xs net book) net0 book0 net book g (go (budget - length book.journal) (omega arith))
     where
       go : (k : ℕ) → k ≡ 0 → InTurn (Makes net0.code) (Passes net0.code) k xs net.net [] net.net
       go k e = subst (λ (i : ℕ). InTurn (Makes net0.code) (Passes net0.code) i xs net.net [] net.net) (sym e) (spent xs net.net)
 
-  pub turns_over : (budget : ℕ) (all xs : List X) (net0 net : NetParts) (book0 book : Kept) → TurnsWay budget all net0 book0 xs net book → xs ≡ [] → HaveRun (Turns budget net0.code all net0 book0) net0 book0 net book
+  pub turns_over : (budget : ℕ) (all xs : List X) (net0 net : NetParts) (book0 book : BookKept) → TurnsWay budget all net0 book0 xs net book → xs ≡ [] → HaveRun (Turns budget net0.code all net0 book0) net0 book0 net book
   turns_over budget all xs net0 net book0 book g e =
       ends (Turns budget net0.code all net0 book0) (Turns budget net0.code xs net book) net0 book0 net book g
       (subst (λ (ys : List X). InTurn (Makes net0.code) (Passes net0.code) (budget - length book.journal) ys net.net [] net.net) (sym e) (no_more (budget - length book.journal) net.net))
 
-pub no_turn : {X : Type 0} (Makes : CodeParts → Net → X → Event → Net → Type 0) (Passes : CodeParts → Net → X → Type 0) (net : NetParts) (book : Kept) (x : X) → AreOne book net → Passes net.code net.net x
+pub no_turn : {X : Type 0} (Makes : CodeParts → Net → X → Event → Net → Type 0) (Passes : CodeParts → Net → X → Type 0) (net : NetParts) (book : BookKept) (x : X) → AreOne book net → Passes net.code net.net x
     → HaveRun (Turn Makes Passes net x) net book net book
 no_turn Makes Passes net book x o by = record { added = []; runs = passed by; code = refl; book_is = sym (and_then_none book); one = o }
 
 -- ---- the reactions that open locations, and the requests
 
-module _ (net new : NetParts) (book after : Kept) (x : Choice) (m : IsMade net book x new after) where
+module _ (net new : NetParts) (book after : BookKept) (x : Choice) (m : IsMade net book x new after) where
   pub opens_turn : (i : ℕ) (q : Pick) → x ≡ choice.React i q → IsReadyAt net.code net.net i q → 0 < births_of net.code q → HaveRun (Turn Opens ReadyOpensNone net i) net book new after
   opens_turn i q is ready some = go m.event (subst (λ (y : Choice). Acts net.code net.net y m.event new.net) is m.acts) m.book_is
     where
@@ -388,12 +388,12 @@ none_stays : (es : List Event) (m : Numbered) → replay_from None es ≡ Some m
 none_stays [] m e = cc
 none_stays (x ∷ es) m e = none_stays es m e
 
-commit_next : (book after : Kept) (e : Event) (rest : List Event) (k : Commit) → CanFollow book (e ∷ rest) → Commits book e k after → (after ≡ and_then book (e ∷ [])) × CanFollow after rest
+commit_next : (book after : BookKept) (e : Event) (rest : List Event) (k : Commit) → CanFollow book (e ∷ rest) → Commits book e k after → (after ≡ and_then book (e ∷ [])) × CanFollow after rest
 commit_next book after e rest (Place p) can h = (
   h.2,
   record {
     after = can.after;
-    replays = ap (λ (b : Kept). replay_from (solution b) rest) h.2 ∙ ap (λ (o : Option Numbered). replay_from o rest) (replay_from-append (Some (opening book.program)) book.journal (e ∷ [])) ∙ can.replays;
+    replays = ap (λ (b : BookKept). replay_from (solution b) rest) h.2 ∙ ap (λ (o : Option Numbered). replay_from o rest) (replay_from-append (Some (opening book.program)) book.journal (e ∷ [])) ∙ can.replays;
   },
 )
 commit_next book after e rest NotEnabled can h = absurd (go (apply_if (solution book) e) refl can.replays)
@@ -402,29 +402,29 @@ commit_next book after e rest NotEnabled can h = absurd (go (apply_if (solution 
     go None c f = none_stays rest can.after f
     go (Some n) c f = let not = h.0 in let is : is_enabled book e ≡ true = ap (λ o. is_some o) c in let clash : true ≡ false = sym is ∙ not in cc
 
-pub commit_item : (book0 book after : Kept) (e : Event) (events : List Event) (i : ℕ) (k : Commit) → book ≡ and_then book0 (take i events) → CanFollow book (drop i events) → i < length events → e ≡ slice_index_or events i e → Commits book e k after
+pub commit_item : (book0 book after : BookKept) (e : Event) (events : List Event) (i : ℕ) (k : Commit) → book ≡ and_then book0 (take i events) → CanFollow book (drop i events) → i < length events → e ≡ slice_index_or events i e → Commits book e k after
     → (after ≡ and_then book0 (take (i + 1) events)) × CanFollow after (drop (i + 1) events)
 commit_item book0 book after e events i k is can lt at h =
     let parts = item_splits i events e lt in
     let here : drop i events ≡ e ∷ drop (i + 1) events = parts.0 ∙ ap (λ x. x ∷ drop (i + 1) events) (sym at) in
     let next = commit_next book after e (drop (i + 1) events) k (subst (CanFollow book) here can) h in (
-      next.0 ∙ ap (λ (b : Kept). and_then b (e ∷ [])) is ∙ and_then_twice book0 (take i events) (e ∷ []) ∙ ap (λ xs. and_then book0 (take i events ++ xs)) (ap (λ x. x ∷ []) at) ∙ ap (and_then book0) (sym parts.1),
+      next.0 ∙ ap (λ (b : BookKept). and_then b (e ∷ [])) is ∙ and_then_twice book0 (take i events) (e ∷ []) ∙ ap (λ xs. and_then book0 (take i events ++ xs)) (ap (λ x. x ∷ []) at) ∙ ap (and_then book0) (sym parts.1),
       next.1,
     )
 
 -- ---- a round
 
-module _ (net new : NetParts) (book : Kept) (quota : ℕ) (es : List Event) (o : AreOne book net) (h : HasWorked quota net es new) where
+module _ (net new : NetParts) (book : BookKept) (quota : ℕ) (es : List Event) (o : AreOne book net) (h : HasWorked quota net es new) where
   worked : IsPlayed book.program net.code o.last es new.net
   worked = h.replays book.program o.last o.is_program o.of_program o.stands o.runs
 
   pub work_follows : CanFollow book es
   work_follows = record { after = worked.after; replays = ap (λ (n : Option Numbered). replay_from n es) o.leads ∙ worked.replays }
 
-  pub work_one : (after : Kept) → after ≡ and_then book es → AreOne after new
+  pub work_one : (after : BookKept) → after ≡ and_then book es → AreOne after new
   work_one after is = one_after book after net new es worked.after o is h.code worked.replays worked.stands worked.runs h.events
 
-pub round_joins : (budget quota : ℕ) (net0 net1 net2 net3 : NetParts) (book0 book1 book2 book3 : Kept) (es : List Event)
+pub round_joins : (budget quota : ℕ) (net0 net1 net2 net3 : NetParts) (book0 book1 book2 book3 : BookKept) (es : List Event)
     → AreOne book0 net0 → quota ≡ min 64 ((budget - length book0.journal) / length net0.net.sites) → HasWorked quota net0 es net1 → book1 ≡ and_then book0 es → AreOne book1 net1
     → HaveRun (Turns Opens ReadyOpensNone budget net1.code (numbers net1.net) net1 book1) net1 book1 net2 book2
     → HaveRun (Turns Meets Forbids budget net2.code (asks net2.net) net2 book2) net2 book2 net3 book3
@@ -443,7 +443,7 @@ round_joins budget quota net0 net1 net2 net3 book0 book1 book2 book3 es one0 sha
     events = refl;
   };
   code = meets.code ∙ opens.code ∙ work.code;
-  book_is = meets.book_is ∙ ap (λ (b : Kept). and_then b meets.added) opens.book_is ∙ and_then_twice book1 opens.added meets.added ∙ ap (λ (b : Kept). and_then b (opens.added ++ meets.added)) is1 ∙ and_then_twice book0 es (opens.added ++ meets.added);
+  book_is = meets.book_is ∙ ap (λ (b : BookKept). and_then b meets.added) opens.book_is ∙ and_then_twice book1 opens.added meets.added ∙ ap (λ (b : BookKept). and_then b (opens.added ++ meets.added)) is1 ∙ and_then_twice book0 es (opens.added ++ meets.added);
   one = meets.one;
 }
   where
@@ -469,10 +469,10 @@ round_joins budget quota net0 net1 net2 net3 book0 book1 book2 book3 es one0 sha
 
 -- ---- rounds
 
-abbrev pub Rounds : ℕ → CodeParts → NetParts → Kept → List Event → Net → Type 0
+abbrev pub Rounds : ℕ → CodeParts → NetParts → BookKept → List Event → Net → Type 0
 Rounds budget c net book = AreRounds c (budget - length book.journal) net.net
 
-abbrev pub Round : ℕ → NetParts → Kept → List Event → Net → Type 0
+abbrev pub Round : ℕ → NetParts → BookKept → List Event → Net → Type 0
 Round budget net book = IsRound net.code (budget - length book.journal) net.net
 
 nil_is : {X : Type 0} (xs : List X) → length xs ≡ 0 → xs ≡ []
@@ -480,10 +480,10 @@ nil_is [] e = refl
 nil_is (x ∷ xs) e = absurd (omega arith)
 
 -- as the loop keeps it
-abbrev pub RoundsWay : ℕ → NetParts → Kept → NetParts → Kept → Type 0
+abbrev pub RoundsWay : ℕ → NetParts → BookKept → NetParts → BookKept → Type 0
 RoundsWay budget net0 book0 net book = OnItsWay (Rounds budget net0.code net0 book0) (Rounds budget net0.code net book) net0 book0 net book
 
-module _ (budget : ℕ) (net0 net new : NetParts) (book0 book after : Kept) (g : RoundsWay budget net0 book0 net book) where
+module _ (budget : ℕ) (net0 net new : NetParts) (book0 book after : BookKept) (g : RoundsWay budget net0 book0 net book) where
   abbrev End : Type 0
   End = HaveRun (Rounds budget net0.code net0 book0) net0 book0 new after
 
@@ -516,7 +516,7 @@ module _ (budget : ℕ) (net0 net new : NetParts) (book0 book after : Kept) (g :
             one_round (budget - length book.journal) net.net new.net end r.added es many round_here some (subst (λ (k : ℕ). AreRounds net0.code k new.net es end) left h)
 
 -- a round uses up budget, or leaves fewer deliveries, or ends the run
-pub round_falls : (budget : ℕ) (net new : NetParts) (book after : Kept) → AreOne book net → length new.net.packets < 2 ^ 32 → length after.journal ≤ budget → HaveRun (Round budget net book) net book new after
+pub round_falls : (budget : ℕ) (net new : NetParts) (book after : BookKept) → AreOne book net → length new.net.packets < 2 ^ 32 → length after.journal ≤ budget → HaveRun (Round budget net book) net book new after
     → (length after.journal ≡ length book.journal → new.net.packets ≡ [] → ⊥)
     → (budget - length after.journal) * 2 ^ 33 + deliveries_left new.net < (budget - length book.journal) * 2 ^ 33 + deliveries_left net.net
 round_falls budget net new book after o few within r more = go r.added r.book_is r.runs
@@ -539,10 +539,10 @@ round_falls budget net new book after o few within r more = go r.added r.book_is
 -- ---- the whole run
 
 -- where the machine is quiet, no event is possible
-stuck_where : StuckIsQuiet → (b : Kept) (n : Numbered) → IsSound n → solution b ≡ Some n → Quiet n.seen (erase n) → IsStuck b
+stuck_where : StuckIsQuiet → (b : BookKept) (n : Numbered) → IsSound n → solution b ≡ Some n → Quiet n.seen (erase n) → IsStuck b
 stuck_where law b n sound leads quiet = λ e. ap (λ (o : Option Numbered). is_some (apply_if o e)) leads ∙ ap (λ (o : Option Numbered). is_some o) ((law n sound).1 quiet e)
 
-module _ (law : StuckIsQuiet) (budget : ℕ) (net end : NetParts) (book after : Kept) (o : AreOne book net) (within : length book.journal ≤ budget) (r : HaveRun (Rounds budget net.code net book) net book end after) where
+module _ (law : StuckIsQuiet) (budget : ℕ) (net end : NetParts) (book after : BookKept) (o : AreOne book net) (within : length book.journal ≤ budget) (r : HaveRun (Rounds budget net.code net book) net book end after) where
   run_ends : IsStuck after ⊎ (length after.journal ≡ budget)
   run_ends =
       elim (rounds_end book.program net.code o.is_program o.is_code o.of_program (budget - length book.journal) net.net end.net r.added (fine book net o) r.runs) [
@@ -559,10 +559,10 @@ module _ (law : StuckIsQuiet) (budget : ℕ) (net end : NetParts) (book after : 
 
   pub runs_in_rounds : length after.journal ≤ budget → RunsInRounds net book budget after
   runs_in_rounds within = record {
-    program = ap (λ (b : Kept). b.program) r.book_is;
+    program = ap (λ (b : BookKept). b.program) r.book_is;
     added = r.added;
     end = end.net;
-    journal = ap (λ (b : Kept). b.journal) r.book_is;
+    journal = ap (λ (b : BookKept). b.journal) r.book_is;
     schedule = r.runs;
     stand = λ n e. subst (Stands (rules_of_group after.program) end.net) (same_some r.one.last n (sym r.one.leads ∙ e)) r.one.stands;
     within = within;
@@ -576,7 +576,7 @@ module _ (law : StuckIsQuiet) (budget : ℕ) (net end : NetParts) (book after : 
       left = let none : length book.journal ≡ 0 = ap length empty in omega arith
 
       journal : after.journal ≡ r.added
-      journal = ap (λ (b : Kept). b.journal) r.book_is ∙ ap (λ (es : List Event). es ++ r.added) empty
+      journal = ap (λ (b : BookKept). b.journal) r.book_is ∙ ap (λ (es : List Event). es ++ r.added) empty
 
       schedule : AreRounds net.code budget (opened_net net.code) after.journal end.net
       schedule =

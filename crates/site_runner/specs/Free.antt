@@ -4,8 +4,8 @@ use Rattle.std.specs.Prelude.{Some, None, true, length, map}
 use Rattle.chem_model.specs.Each.{Each}
 use Rattle.chem_model.specs.declared.event.Event.{Event}
 use Rattle.chem_model.specs.ProgramFacts.{ProgramTerms}
-use Rattle.trace_history.specs.Kept.{Kept}
-use Rattle.trace_history.specs.Book.{OnSolution, IsStuck}
+use Rattle.trace_history.specs.Kept.{BookKept}
+use Rattle.trace_history.specs.Book.{OnItsSolution, IsStuck}
 use Rattle.shared_net.specs.declared.differs.Differs.{Differs}
 use Rattle.shared_net.specs.declared.receipt.Receipt.{Receipt}
 use Rattle.shared_net.specs.declared.report.Worked.{Worked}
@@ -18,7 +18,7 @@ use Rattle.site_runner.specs.declared.outcome.How.TheVariants.{Alone, Rounds, Sh
 
 -- the book is of the program and has at most so many events; and no event is possible or it has
 -- exactly that many
-pub record IsFinished (p : ProgramTerms) (budget : ℕ) (book : Kept) : Type 0 where
+pub record IsFinished (p : ProgramTerms) (budget : ℕ) (book : BookKept) : Type 0 where
   pub program : book.program ≡ p
   pub within : length book.journal ≤ budget
   pub ends : IsStuck book ⊎ (length book.journal ≡ budget)
@@ -46,7 +46,7 @@ pub record GoesOnAlone (p : ProgramTerms) (budget events : ℕ) (journal : List 
   pub rest : List Event
   pub journal_is : journal ≡ first ++ rest
   pub as_many : length first ≡ events
-  pub schedule : OnSolution (record { program = p; journal = first })
+  pub schedule : OnItsSolution (record { program = p; journal = first })
       (λ n. IsSchedule (budget - events) n 0 rest)
 
 -- the report's rows don't agree with the book that the workers made, by a cause that is true, in

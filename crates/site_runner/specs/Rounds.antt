@@ -2,8 +2,8 @@
 use Rattle.std.specs.Prelude.{◌≡◌, ℕ, ◌-◌, ◌≤◌, ◌++◌, ◌⊎◌, List, length}
 use Rattle.chem_model.specs.declared.event.Event.{Event}
 use Rattle.chem_model.specs.ProgramFacts.{ProgramTerms}
-use Rattle.trace_history.specs.Kept.{Kept}
-use Rattle.trace_history.specs.Book.{OnSolution, IsStuck}
+use Rattle.trace_history.specs.Kept.{BookKept}
+use Rattle.trace_history.specs.Book.{OnItsSolution, IsStuck}
 use Rattle.env_store.specs.CodeParts.{CodeParts}
 use Rattle.env_store.specs.CodeFacts.{IsCode}
 use Rattle.env_store.specs.Reading.{IsCodeOf}
@@ -15,9 +15,9 @@ use Rattle.net_core.specs.Whole.{NetParts}
 
 -- the network runs the code of the book's program and stands for the solution of its journal, after
 -- as many events as are in it
-pub record StandForOne (book : Kept) (net : NetParts) : Type 0 where
+pub record StandForOne (book : BookKept) (net : NetParts) : Type 0 where
   pub of_program : IsCodeOf book.program net.code
-  pub stand : OnSolution book (λ n. Stands (rules_of_group book.program) net.net n)
+  pub stand : OnItsSolution book (λ n. Stands (rules_of_group book.program) net.net n)
   pub runs : RunsCode book.program net.code net.net
   pub counted : net.events ≡ length book.journal
 
@@ -25,13 +25,13 @@ pub record StandForOne (book : Kept) (net : NetParts) : Type 0 where
 -- at most as many events as the budget leaves, and the network that it leaves stands for the
 -- solution of the book; the journal has at most as many events as the budget, and at the end no
 -- event is possible or it has exactly that many
-pub record RunsInRounds (net : NetParts) (old : Kept) (budget : ℕ) (new : Kept) : Type 0 where
+pub record RunsInRounds (net : NetParts) (old : BookKept) (budget : ℕ) (new : BookKept) : Type 0 where
   pub program : new.program ≡ old.program
   pub added : List Event
   pub end : Net
   pub journal : new.journal ≡ old.journal ++ added
   pub schedule : AreRounds net.code (budget - length old.journal) net.net added end
-  pub stand : OnSolution new (λ n. Stands (rules_of_group new.program) end n)
+  pub stand : OnItsSolution new (λ n. Stands (rules_of_group new.program) end n)
   pub within : length new.journal ≤ budget
   pub ends : IsStuck new ⊎ (length new.journal ≡ budget)
 

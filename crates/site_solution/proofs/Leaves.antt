@@ -28,7 +28,7 @@ use Rattle.code_run.specs.declared.made.Post.{Post}
 use Rattle.code_run.specs.declared.made.Post.TheVariants as post
 use Rattle.code_run.specs.declared.made.Run.{Run}
 use Rattle.code_run.specs.Posts.{all_posted}
-use Rattle.code_run.specs.RunFacts.{AreBorn, AreNumbered, IsLaid, IsHere, IsPlaced, IsRun}
+use Rattle.code_run.specs.RunFacts.{AreBorn, AreNumbered, IsLaid, IsHere, IsPlaced, HasRunFacts}
 use Rattle.site_solution.specs.CanLay.{HasNumbers}
 use Rattle.site_solution.specs.Counted.{over_queue, over_queues, over_groups, over_stuck, is_id, id_of, over_requests, times}
 use Rattle.site_solution.specs.Draws.{is_drawn, are_drawn, message_drawn, told_drawn, queues_drawn, group_drawn, all_drawn}
@@ -233,7 +233,7 @@ once-all s n ps i once drawn numbered = go ((i.site == s.number) && not (nat_lt 
 
 -- ---- all of it
 
-pub run-leaves : (c : CodeParts) (s : Site) (l : Loc) (env : List Name) (r : Run) → IsRun c s.number l env s.made r → among s.locs l ≡ true → IsKept s → ((i : AtomId) → times i s ≤ 1) → all_drawn s ≡ true → r.next ≤ 2 ^ 64 → CanLeave r.births (all_told (told_by c) r.groups) (all_posted r.posts) s
+pub run-leaves : (c : CodeParts) (s : Site) (l : Loc) (env : List Name) (r : Run) → HasRunFacts c s.number l env s.made r → among s.locs l ≡ true → IsKept s → ((i : AtomId) → times i s ≤ 1) → all_drawn s ≡ true → r.next ≤ 2 ^ 64 → CanLeave r.births (all_told (told_by c) r.groups) (all_posted r.posts) s
 run-leaves c s l env r run here kept once all few =
     let drawn = drawn-parts s all in
     record {

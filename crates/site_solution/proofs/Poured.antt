@@ -32,7 +32,7 @@ use Rattle.code_run.specs.declared.made.Post.{Post}
 use Rattle.code_run.specs.declared.made.Post.TheVariants as post
 use Rattle.code_run.specs.declared.made.Run.{Run}
 use Rattle.code_run.specs.Posts.{all_posted}
-use Rattle.code_run.specs.RunFacts.{AreBorn, AreNumbered, IsLaid, IsHere, IsOfRun, AskNames, PostNames, GroupNames, IsRun}
+use Rattle.code_run.specs.RunFacts.{AreBorn, AreNumbered, IsLaid, IsHere, IsOfRun, AskNames, PostNames, GroupNames, HasRunFacts}
 use Rattle.site_solution.specs.InCode.{same_pairs, same_counts, is_level_of, is_told_by, is_in_code}
 use Rattle.site_solution.specs.Named.{name_in, names_in, message_in, group_in, ask_in, request_in, all_in, in_tree, in_reach}
 use Rattle.site_solution.specs.Draws.{is_drawn, are_drawn, message_drawn, told_drawn, all_drawn}
@@ -226,7 +226,7 @@ named-in_run c t l births env there later env_named tops weaker own top (name.Ch
 
 -- ---- a run that was left at a site
 
-pub run-holds : (c : CodeParts) (t : Tree) (s : Site) (l : Loc) (env : List Name) (r : Run) (gs : List Group) (ls : List Loc) (new : Site) → IsRun c s.number l env s.made r → among s.locs l ≡ true → all_drawn s ≡ true → IsFresh t s.number s.made → names_in (in_reach t s.locs) env ≡ true → all_in (in_reach t s.locs) s ≡ true → list_all (in_tree t) c.tops ≡ true → AreGone s gs → HasCome r.next r.births (all_told (told_by c) r.groups) (waits_in ls (all_posted r.posts)) (asked_in (all_posted r.posts)) (record s { groups = gs }) new
+pub run-holds : (c : CodeParts) (t : Tree) (s : Site) (l : Loc) (env : List Name) (r : Run) (gs : List Group) (ls : List Loc) (new : Site) → HasRunFacts c s.number l env s.made r → among s.locs l ≡ true → all_drawn s ≡ true → IsFresh t s.number s.made → names_in (in_reach t s.locs) env ≡ true → all_in (in_reach t s.locs) s ≡ true → list_all (in_tree t) c.tops ≡ true → AreGone s gs → HasCome r.next r.births (all_told (told_by c) r.groups) (waits_in ls (all_posted r.posts)) (asked_in (all_posted r.posts)) (record s { groups = gs }) new
     → (all_drawn new ≡ true) × IsFresh (with_births t s.number r.births) new.number new.made × (all_in (in_reach (with_births t s.number r.births) new.locs) new ≡ true)
 run-holds c t s l env r gs ls new run here drawn fresh env_named named tops gone come =
     let t' = with_births t s.number r.births in
@@ -262,7 +262,7 @@ run-holds c t s l env r gs ls new run here drawn fresh env_named named tops gone
 -- ---- the clauses of the calls
 
 -- the site that results, where a run was left at it
-pub run-comes : (c : CodeParts) (t : Tree) (s new : Site) (l : Loc) (env : List Name) (r : Run) (j : ℕ) (cs : List ℕ) → IsRun c s.number l env s.made r → among s.locs l ≡ true → IsKept s → ((i : AtomId) → times i s ≤ 1) → all_drawn s ≡ true → r.next ≤ 2 ^ 64 → new ≡ (pour_here t r.next r.births (all_told (told_by c) r.groups) (all_posted r.posts) (taken_at j cs s)).site
+pub run-comes : (c : CodeParts) (t : Tree) (s new : Site) (l : Loc) (env : List Name) (r : Run) (j : ℕ) (cs : List ℕ) → HasRunFacts c s.number l env s.made r → among s.locs l ≡ true → IsKept s → ((i : AtomId) → times i s ≤ 1) → all_drawn s ≡ true → r.next ≤ 2 ^ 64 → new ≡ (pour_here t r.next r.births (all_told (told_by c) r.groups) (all_posted r.posts) (taken_at j cs s)).site
     → HasCome r.next r.births (all_told (told_by c) r.groups) (waits_in (s.locs ++ r.births) (all_posted r.posts)) (asked_in (all_posted r.posts)) (record s { groups = gone_at j cs s.groups }) new
 run-comes c t s new l env r j cs run here kept once drawn few is =
     let can = run-leaves c s l env r run here kept once drawn few in
@@ -284,7 +284,7 @@ run-comes c t s new l env r j cs run here kept once drawn few is =
 tops-in : (c : CodeParts) (t : Tree) (s : Site) → is_in_code c t s ≡ true → list_all (in_tree t) c.tops ≡ true
 tops-in c t s in_code = (and_parts (list_all (is_told_by c) (told_in s.groups)) (list_all (in_tree t) c.tops) in_code).1
 
-pub poured-keeps : (c : CodeParts) (t : Tree) (s new : Site) (l : Loc) (env : List Name) (r : Run) (j : ℕ) (cs : List ℕ) → IsRun c s.number l env s.made r → among s.locs l ≡ true → IsKept s → ((i : AtomId) → times i s ≤ 1) → CanPour c t env s → new ≡ (pour_here t r.next r.births (all_told (told_by c) r.groups) (all_posted r.posts) (taken_at j cs s)).site → HasPoured c (with_births t s.number r.births) new
+pub poured-keeps : (c : CodeParts) (t : Tree) (s new : Site) (l : Loc) (env : List Name) (r : Run) (j : ℕ) (cs : List ℕ) → HasRunFacts c s.number l env s.made r → among s.locs l ≡ true → IsKept s → ((i : AtomId) → times i s ≤ 1) → CanPour c t env s → new ≡ (pour_here t r.next r.births (all_told (told_by c) r.groups) (all_posted r.posts) (taken_at j cs s)).site → HasPoured c (with_births t s.number r.births) new
 poured-keeps c t s new l env r j cs run here kept once can is =
     let few : r.next ≤ 2 ^ 64 = omega (arith, run.below, can.can_draw.few) in
     let come = run-comes c t s new l env r j cs run here kept once can.can_draw.drawn few is in
@@ -349,7 +349,7 @@ members-in front [] = refl
 members-in front (l ∷ ls) = true_both (among (front ++ l ∷ ls) l) (list_all (among (front ++ l ∷ ls)) ls) (among_append front (l ∷ ls) l ∙ or_right (among front l) (among (l ∷ ls) l) (ap (λ u. u || among ls l) (same_loc_refl l))) (subst (λ (xs : List Loc). list_all (among xs) ls ≡ true) (append-one front l ls) (members-in (front ++ l ∷ []) ls))
 
 -- where all here is in the tree with the number of the site, it is so again with the births
-pub poured-in_tree : (c : CodeParts) (t : Tree) (s new : Site) (l : Loc) (env : List Name) (r : Run) → IsRun c s.number l env s.made r → IsFresh t s.number s.made → is_in_tree t s ≡ true → new.number ≡ s.number → new.locs ≡ s.locs ++ r.births → all_in (in_reach (with_births t s.number r.births) new.locs) new ≡ true → is_in_tree (with_births t s.number r.births) new ≡ true
+pub poured-in_tree : (c : CodeParts) (t : Tree) (s new : Site) (l : Loc) (env : List Name) (r : Run) → HasRunFacts c s.number l env s.made r → IsFresh t s.number s.made → is_in_tree t s ≡ true → new.number ≡ s.number → new.locs ≡ s.locs ++ r.births → all_in (in_reach (with_births t s.number r.births) new.locs) new ≡ true → is_in_tree (with_births t s.number r.births) new ≡ true
 poured-in_tree c t s new l env r run fresh old number locs named =
     let t' = with_births t s.number r.births in
     let all = and_parts (list_all (has_number t s.number) s.locs && among s.locs (root_of s.number)) (all_in (in_tree t) s) old in
@@ -365,7 +365,7 @@ poured-in_tree c t s new l env r run fresh old number locs named =
     by_birth a true is e = ap (λ o. is_number (number_in o) s.number) is ∙ eq-eqb s.number s.number refl
     by_birth a false is e = ap (λ o. is_number (number_in o) s.number) is ∙ e
 
-pub poured-there : (c : CodeParts) (t : Tree) (s new : Site) (l : Loc) (env : List Name) (r : Run) (j : ℕ) (cs : List ℕ) → IsRun c s.number l env s.made r → among s.locs l ≡ true → IsKept s → ((i : AtomId) → times i s ≤ 1) → CanPour c t env s → new ≡ (pour_here t r.next r.births (all_told (told_by c) r.groups) (all_posted r.posts) (taken_at j cs s)).site → is_in_tree t s ≡ true → is_in_tree (with_births t s.number r.births) new ≡ true
+pub poured-there : (c : CodeParts) (t : Tree) (s new : Site) (l : Loc) (env : List Name) (r : Run) (j : ℕ) (cs : List ℕ) → HasRunFacts c s.number l env s.made r → among s.locs l ≡ true → IsKept s → ((i : AtomId) → times i s ≤ 1) → CanPour c t env s → new ≡ (pour_here t r.next r.births (all_told (told_by c) r.groups) (all_posted r.posts) (taken_at j cs s)).site → is_in_tree t s ≡ true → is_in_tree (with_births t s.number r.births) new ≡ true
 poured-there c t s new l env r j cs run here kept once can is old =
     let few : r.next ≤ 2 ^ 64 = omega (arith, run.below, can.can_draw.few) in
     let come = run-comes c t s new l env r j cs run here kept once can.can_draw.drawn few is in
@@ -376,7 +376,7 @@ poured-there c t s new l env r j cs run here kept once can is old =
 abbrev pub no_code : CodeParts
 no_code = record { guards = []; levels = []; blocks = []; bodies = []; seen = []; tops = []; sites = [] }
 
-pub emitted-keeps : (t : Tree) (s new : Site) (l : Loc) (on : Name) (args : List Name) (r : Run) → ((c : CodeParts) → IsRun c s.number l (on ∷ args) s.made r) → r.births ≡ [] → r.groups ≡ [] → among s.locs l ≡ true → IsKept s → ((i : AtomId) → times i s ≤ 1) → CanEmit t on args s → new ≡ (pour_here t r.next r.births [] (all_posted r.posts) (taken_at 0 [] s)).site → HasEmitted t new
+pub emitted-keeps : (t : Tree) (s new : Site) (l : Loc) (on : Name) (args : List Name) (r : Run) → ((c : CodeParts) → HasRunFacts c s.number l (on ∷ args) s.made r) → r.births ≡ [] → r.groups ≡ [] → among s.locs l ≡ true → IsKept s → ((i : AtomId) → times i s ≤ 1) → CanEmit t on args s → new ≡ (pour_here t r.next r.births [] (all_posted r.posts) (taken_at 0 [] s)).site → HasEmitted t new
 emitted-keeps t s new l on args r runs none empty here kept once can is =
     let run = runs no_code in
     let few : r.next ≤ 2 ^ 64 = omega (arith, run.below, can.can_draw.few) in

@@ -1,6 +1,6 @@
 -- Keys that are looked at one after another.
 use Rattle.std.proofs.Common.{◌≡◌, List, [], ◌∷◌, ◌⊎◌, inl, inr, subst}
-use Rattle.trace_history.specs.inside.Search.{IsIn}
+use Rattle.chem_model.specs.Each.{IsIn}
 use Rattle.trace_history.specs.inside.Older.{Key}
 
 pub one_along : (P Q : Key → Type 0) (keys left rest : List Key) (key : Key) → left ≡ key ∷ rest → ((k : Key) → P k → Q k) → Q key → ((k : Key) → IsIn k keys → P k ⊎ IsIn k left) → (k : Key) → IsIn k keys → Q k ⊎ IsIn k rest

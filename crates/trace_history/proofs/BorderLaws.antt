@@ -15,7 +15,7 @@ use Rattle.chem_laws.proofs.Bags.{one_is}
 use Rattle.chem_laws.proofs.Lists.{above, zero_or_above, Each-weaker}
 use Rattle.chem_laws.proofs.Taking.{atom_found, atom_pair_found, same_atom_refl}
 use Rattle.trace_history.specs.First.{site_of, site_of_atom, IsFirst}
-use Rattle.trace_history.specs.inside.Search.{IsIn}
+use Rattle.chem_model.specs.Each.{IsIn}
 use Rattle.trace_history.proofs.Least.{AtomsDiffer, member_found}
 use Rattle.trace_history.specs.inside.Alike.{AreAlike}
 use Rattle.trace_history.proofs.Alike.{AreAlikeIf}

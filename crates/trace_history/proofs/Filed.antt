@@ -12,7 +12,7 @@ use Rattle.chem_model.specs.declared.name.Ref.TheVariants.{Binder, Known}
 use Rattle.chem_model.specs.declared.name.Pat.{Pat}
 use Rattle.chem_model.specs.declared.numbered.NumberedRule.{NumberedRule}
 use Rattle.trace_history.specs.inside.Heard.{slot_of}
-use Rattle.trace_history.specs.inside.Search.{IsIn}
+use Rattle.chem_model.specs.Each.{IsIn}
 use Rattle.trace_history.specs.inside.Waiting.{IsAt, Reaches, WaitsAt, IsSlotOf, AreFiled, Chains}
 
 -- ---- members

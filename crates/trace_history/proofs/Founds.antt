@@ -19,7 +19,8 @@ use Rattle.chem_model.specs.Apply.{atom_at, rule_at, received_at, received_all, 
 use Rattle.chem_model.specs.Sound.{IsSound}
 use Rattle.chem_laws.proofs.Taking.{atom_found, rule_found}
 use Rattle.trace_history.specs.First.{turns, atom_less, rule_less, atoms_less, request_of, requests_less, event_less, site_of, site_of_rule, site_of_atom, IsFirst}
-use Rattle.trace_history.specs.inside.Search.{IsIn, IsFirstOf, AreLeast, receives, atom_before}
+use Rattle.chem_model.specs.Each.{IsIn}
+use Rattle.trace_history.specs.inside.Search.{IsFirstOf, AreLeast, receives, atom_before}
 use Rattle.trace_history.specs.inside.Search.{is_met, is_ready, turn, rule_before, can_act}
 use Rattle.trace_history.specs.inside.Search.{request_before, event_of}
 use Rattle.trace_history.proofs.Replays.{same_some}

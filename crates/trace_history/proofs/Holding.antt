@@ -14,7 +14,7 @@ use Rattle.trace_history.specs.First.{IsFirst}
 use Rattle.trace_history.specs.inside.Search.{IsFound}
 use Rattle.trace_history.proofs.Alike.{AreAlikeIf}
 use Rattle.trace_history.specs.inside.Older.{whole, Keeps, Holds, takes}
-use Rattle.trace_history.specs.Kept.{Kept, solution, is_enabled}
+use Rattle.trace_history.specs.Kept.{BookKept, solution, is_enabled}
 use Rattle.trace_history.specs.declared.book.Commit.TheVariants.{Place, NotEnabled}
 use Rattle.trace_history.specs.Book.{Finds, Commits}
 use Rattle.chem_model.specs.ProgramFacts.{ProgramTerms}
@@ -140,25 +140,25 @@ module _ (o : Option Numbered) (old : List NumberedAtom) (n : Numbered) (h : Hol
 
 -- ---- the answers of a book
 
-pub finds_of : (b : Kept) (n : Numbered) → solution b ≡ Some n → (from : ℕ) (f : Option Found) → IsFound n from f → Finds b from f
+pub finds_of : (b : BookKept) (n : Numbered) → solution b ≡ Some n → (from : ℕ) (f : Option Found) → IsFound n from f → Finds b from f
 finds_of b n leads from None is = λ e. ap (λ o. is_some (apply_if o e)) leads ∙ is e
 finds_of b n leads from (Some f) is = λ m e. subst (λ (x : Numbered). IsFirst x from f.site f.event) (same_some n m (sym leads ∙ e)) is.0
 
-abbrev kept_of : ProgramTerms → List Event → Kept
+abbrev kept_of : ProgramTerms → List Event → BookKept
 kept_of p journal = record { program = p; journal = journal }
 
 -- what is said of the parts of a book is said of the book
-pub commits_place : (b : Kept) (p : ProgramTerms) (journal new : List Event) (e made : Event) (k : ℕ) → record { program = p; journal = journal } ≡ b → is_enabled b e ≡ true → new ≡ journal ++ made ∷ [] → made ≡ e → k ≡ length journal → Commits b e (Place k) (record { program = p; journal = new })
+pub commits_place : (b : BookKept) (p : ProgramTerms) (journal new : List Event) (e made : Event) (k : ℕ) → record { program = p; journal = journal } ≡ b → is_enabled b e ≡ true → new ≡ journal ++ made ∷ [] → made ≡ e → k ≡ length journal → Commits b e (Place k) (record { program = p; journal = new })
 commits_place b p journal new e made k view enabled pushed same count =
-    subst (λ (x : Kept). is_enabled x e ≡ true → Commits x e (Place k) (kept_of p new)) view
+    subst (λ (x : BookKept). is_enabled x e ≡ true → Commits x e (Place k) (kept_of p new)) view
     (λ is. (is, count, ap (kept_of p) (pushed ∙ ap (λ (x : Event). journal ++ x ∷ []) same))) enabled
 
-pub commits_none : (b : Kept) (p : ProgramTerms) (journal new : List Event) (e : Event) → record { program = p; journal = journal } ≡ b → is_enabled b e ≡ false → new ≡ journal → Commits b e NotEnabled (record { program = p; journal = new })
+pub commits_none : (b : BookKept) (p : ProgramTerms) (journal new : List Event) (e : Event) → record { program = p; journal = journal } ≡ b → is_enabled b e ≡ false → new ≡ journal → Commits b e NotEnabled (record { program = p; journal = new })
 commits_none b p journal new e view not same = (not, ap (kept_of p) same ∙ view)
 
 pub not_replaced : (o : Option Numbered) (n m : Numbered) (made : Bool) → Replaces o n made m → made ≡ false → o ≡ None
 not_replaced None n m made h is = refl
 not_replaced (Some after) n m made h is = let wrong : false ≡ true = sym is ∙ h.0 in cc
 
-pub enabled_in : (b : Kept) (n : Numbered) (e : Event) → solution b ≡ Some n → is_enabled b e ≡ is_some (apply n e)
+pub enabled_in : (b : BookKept) (n : Numbered) (e : Event) → solution b ≡ Some n → is_enabled b e ≡ is_some (apply n e)
 enabled_in b n e leads = ap (λ o. is_some (apply_if o e)) leads

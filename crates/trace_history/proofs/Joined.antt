@@ -15,7 +15,8 @@ use Rattle.chem_model.specs.Reduction.{continuation}
 use Rattle.chem_model.specs.Pour.{pour_at}
 use Rattle.chem_model.specs.Apply.{atom_at, without, with_hosts, with_marks, can_go, can_detect}
 use Rattle.trace_history.specs.inside.Walk.{or_else}
-use Rattle.trace_history.specs.inside.Search.{IsIn, IsFirstOf, receives, is_met, can_act, first_of}
+use Rattle.chem_model.specs.Each.{IsIn}
+use Rattle.trace_history.specs.inside.Search.{IsFirstOf, receives, is_met, can_act, first_of}
 use Rattle.trace_history.specs.inside.Older.{Key, channel_of, AreQueued, whole}
 use Rattle.trace_history.proofs.AlikeLaws.{atom_at-append}
 use Rattle.trace_history.proofs.FirstOf.{IsOrder, Ends, ends, stays}

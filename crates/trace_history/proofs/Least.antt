@@ -18,7 +18,8 @@ use Rattle.chem_model.specs.Apply.{same_atom, same_rule, atom_at, rule_at, recei
 use Rattle.chem_laws.proofs.Bags.{one_self}
 use Rattle.chem_laws.proofs.Taking.{same_atom_is, same_atom_refl, same_rule_is, same_rule_refl, atom_found, atom_pair_found, rule_pair_found}
 use Rattle.trace_history.specs.First.{atom_less, atoms_less}
-use Rattle.trace_history.specs.inside.Search.{IsIn, IsFirstOf, receives, atom_before, is_met}
+use Rattle.chem_model.specs.Each.{IsIn}
+use Rattle.trace_history.specs.inside.Search.{IsFirstOf, receives, atom_before, is_met}
 use Rattle.trace_history.specs.inside.Search.{IsLeast, AreLeast}
 
 -- ---- what is found by a number has it, and a member is found by its number where all are different

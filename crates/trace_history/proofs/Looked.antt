@@ -20,7 +20,8 @@ use Rattle.chem_model.specs.Apply.{same_ref, received}
 use Rattle.chem_laws.proofs.Lists.{either_true}
 use Rattle.chem_laws.proofs.Taking.{same_ref_is}
 use Rattle.trace_history.specs.inside.Heard.{slot_of}
-use Rattle.trace_history.specs.inside.Search.{IsIn, IsFirstOf, beats, receives, is_met, is_ready}
+use Rattle.chem_model.specs.Each.{IsIn}
+use Rattle.trace_history.specs.inside.Search.{IsFirstOf, beats, receives, is_met, is_ready}
 use Rattle.trace_history.specs.inside.Search.{rule_before}
 use Rattle.trace_history.specs.inside.Waiting.{IsAt, Reaches, WaitsAt, AreFiled, Beaten, IsOne}
 use Rattle.trace_history.specs.inside.Waiting.{Betters, IsLookedAt, IsSlotLookedAt, LooksAtNewest}

@@ -20,7 +20,8 @@ use Rattle.chem_model.specs.Pour.{known}
 use Rattle.chem_model.specs.Apply.{same_atom, same_ref, received, atom_at}
 use Rattle.chem_laws.proofs.Taking.{same_ref_is}
 use Rattle.trace_history.specs.First.{less}
-use Rattle.trace_history.specs.inside.Search.{IsIn, IsFirstOf, receives, atom_before}
+use Rattle.chem_model.specs.Each.{IsIn}
+use Rattle.trace_history.specs.inside.Search.{IsFirstOf, receives, atom_before}
 use Rattle.trace_history.specs.inside.Walk.{walk}
 use Rattle.trace_history.specs.inside.Older.{Key, number_of, channel_of, AreQueued, passing}
 use Rattle.trace_history.specs.inside.Older.{find_at}

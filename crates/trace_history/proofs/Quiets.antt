@@ -9,7 +9,7 @@ use Rattle.chem_model.specs.Numbered.{erase}
 use Rattle.chem_model.specs.Sound.{IsSound}
 use Rattle.chem_model.specs.Laws.{EventIsAReduction, IsReduction, StuckIsQuiet}
 use Rattle.trace_history.specs.declared.book.Found.{Found}
-use Rattle.trace_history.specs.Kept.{Kept, solution, is_enabled}
+use Rattle.trace_history.specs.Kept.{BookKept, solution, is_enabled}
 use Rattle.trace_history.specs.Book.{IsStuck, IsQuiet}
 use Rattle.trace_history.specs.inside.Search.{IsFound}
 use Rattle.trace_history.proofs.Replays.{same_some, replay_sites}
@@ -29,7 +29,7 @@ one_reduction law o q before after e leads leads_on made sound n is =
           subst (IsReduction e n) to (subst (λ (x : Numbered). IsReduction e x after) from (law before after e sound made)),
     )
 
-module _ (b : Kept) (n : Numbered) (leads : solution b ≡ Some n) where
+module _ (b : BookKept) (n : Numbered) (leads : solution b ≡ Some n) where
   enabled_is : (e : Event) → is_enabled b e ≡ is_some (apply n e)
   enabled_is e = ap (λ o. is_some (apply_if o e)) leads
 

@@ -10,46 +10,46 @@ use Rattle.chem_model.specs.Laws.{IsReduction}
 use Rattle.trace_history.specs.declared.book.Commit.{Commit}
 use Rattle.trace_history.specs.declared.book.Commit.TheVariants.{Place, NotEnabled}
 use Rattle.trace_history.specs.declared.book.Found.{Found}
-use Rattle.trace_history.specs.Kept.{Kept, solution, is_enabled}
+use Rattle.trace_history.specs.Kept.{BookKept, solution, is_enabled}
 use Rattle.trace_history.specs.First.{IsFirst}
 
 -- the event was made and stands last in the journal, exactly where it is possible; else nothing
 -- changed
-abbrev pub Commits : Kept → Event → Commit → Kept → Type 0
+abbrev pub Commits : BookKept → Event → Commit → BookKept → Type 0
 Commits old e (Place k) new =
     (is_enabled old e ≡ true) × (k ≡ length old.journal)
     × (new ≡ record { program = old.program; journal = old.journal ++ e ∷ [] })
 Commits old e NotEnabled new = (is_enabled old e ≡ false) × (new ≡ old)
 
 -- what holds of the solution to which the journal leads
-abbrev pub OnSolution : Kept → (Numbered → Type 0) → Type 0
-OnSolution b P = (n : Numbered) → solution b ≡ Some n → P n
+abbrev pub OnItsSolution : BookKept → (Numbered → Type 0) → Type 0
+OnItsSolution b P = (n : Numbered) → solution b ≡ Some n → P n
 
 -- the book stands for a start of its program: its solution is sound, and is reached from a start by
 -- heating, Comm and Out alone
-abbrev pub IsAStart : Kept → Type 0
-IsAStart b = OnSolution b (λ n. IsSound n × IsOpened b.program (erase n))
+abbrev pub IsAStart : BookKept → Type 0
+IsAStart b = OnItsSolution b (λ n. IsSound n × IsOpened b.program (erase n))
 
 -- where the event was made, the book went from a sound solution to one that is a reduction away, as
 -- the event names it
-abbrev pub IsAReduction : Kept → Event → Commit → Kept → Type 0
+abbrev pub IsAReduction : BookKept → Event → Commit → BookKept → Type 0
 IsAReduction old e (Place k) new =
-    OnSolution old (λ n. IsSound n × OnSolution new (λ m. IsReduction e n m))
+    OnItsSolution old (λ n. IsSound n × OnItsSolution new (λ m. IsReduction e n m))
 IsAReduction old e NotEnabled new = Unit {0}
 
 -- no event is possible
-abbrev pub IsStuck : Kept → Type 0
+abbrev pub IsStuck : BookKept → Type 0
 IsStuck b = (e : Event) → is_enabled b e ≡ false
 
 -- the machine is quiet on what the solution stands for
-abbrev pub IsQuiet : Kept → Type 0
-IsQuiet b = OnSolution b (λ n. Quiet n.seen (erase n))
+abbrev pub IsQuiet : BookKept → Type 0
+IsQuiet b = OnItsSolution b (λ n. Quiet n.seen (erase n))
 
 -- the first event, where one is possible
-abbrev pub Finds : Kept → ℕ → Option Found → Type 0
+abbrev pub Finds : BookKept → ℕ → Option Found → Type 0
 Finds b from None = IsStuck b
-Finds b from (Some f) = OnSolution b (λ n. IsFirst n from f.site f.event)
+Finds b from (Some f) = OnItsSolution b (λ n. IsFirst n from f.site f.event)
 
 -- the journal leads to a solution
-abbrev pub Replays : Kept → Type 0
+abbrev pub Replays : BookKept → Type 0
 Replays b = (n : Numbered) × (solution b ≡ Some n)

@@ -7,7 +7,7 @@ ghost use Rattle.chem_model.specs.Runs.{IsRun};
 ghost use Rattle.chem_model.specs.Laws.{erase_all};
 ghost use Rattle.chem_model.specs.Apply.{states};
 ghost use Rattle.trace_history.specs.Kept.{is_enabled};
-ghost use Rattle.trace_history.specs.Book.{Commits, IsAStart, IsAReduction, OnSolution};
+ghost use Rattle.trace_history.specs.Book.{Commits, IsAStart, IsAReduction, OnItsSolution};
 ghost use Rattle.trace_history.specs.Book.{IsStuck, IsQuiet, Finds, Replays};
 
 use crate::older::{Older, ready};
@@ -73,9 +73,9 @@ pub struct Book {
 
 impl Model for Book {
     ghost use Rattle.chem_model.specs.Apply.{replay};
-    ghost use Rattle.trace_history.specs.Kept.{Kept, kept_code};
+    ghost use Rattle.trace_history.specs.Kept.{BookKept, kept_code};
 
-    ghost Value = { Kept };
+    ghost Value = { BookKept };
 
     ghost coded = { kept_code };
 
@@ -193,7 +193,7 @@ impl Book {
 
     /// The observables so far.
     pub fn trace(&self) -> &Outs
-        ensures { OnSolution self.now (λ n. result.now ≡ n.trace) }
+        ensures { OnItsSolution self.now (λ n. result.now ≡ n.trace) }
     {
         &self.solution.trace
     }
@@ -207,14 +207,14 @@ impl Book {
     /// The binder for which a location or a channel was made. None where this book made no such
     /// name.
     pub fn binder_of(&self, name: &Name) -> Option<u32>
-        ensures { OnSolution self.now (λ n. result ≡ binder_in n.named name.now) }
+        ensures { OnItsSolution self.now (λ n. result ≡ binder_in n.named name.now) }
     {
         self.solution.binder_of(name)
     }
 
     /// The names that were given in the run, each with the binder for which it was made.
     pub fn names(&self) -> &Naming
-        ensures { OnSolution self.now (λ n. result.now ≡ n.named) }
+        ensures { OnItsSolution self.now (λ n. result.now ≡ n.named) }
     {
         &self.solution.named
     }
@@ -246,7 +246,7 @@ impl Book {
 
     /// The solution is sound. It does nothing.
     fn is_sound(&self)
-        ensures { OnSolution self.now IsSound }
+        ensures { OnItsSolution self.now IsSound }
     {
         let program = &self.program;
         let _ = &program.tops;

@@ -1,6 +1,6 @@
 // Keys of messages, in order.
 ghost use Rattle.std.specs.Prelude.{◌≡◌, ◌⊎◌, OnOk, OnErr};
-ghost use Rattle.trace_history.specs.inside.Search.{IsIn};
+ghost use Rattle.chem_model.specs.Each.{IsIn};
 ghost use Rattle.trace_history.specs.inside.Older.{Key, KeepsKeys};
 
 use chem_model::Memory;

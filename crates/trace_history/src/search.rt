@@ -10,7 +10,8 @@ ghost use Rattle.trace_history.specs.inside.Search.{IsFirstOf, first_of, beats, 
 ghost use Rattle.trace_history.specs.inside.Search.{atom_before};
 ghost use Rattle.trace_history.specs.inside.Search.{is_met, AreLeast, is_ready, turn};
 ghost use Rattle.trace_history.specs.inside.Search.{rule_before, can_act, request_before};
-ghost use Rattle.trace_history.specs.inside.Search.{event_of, IsReaction, IsMeeting, IsFound, IsIn};
+ghost use Rattle.trace_history.specs.inside.Search.{event_of, IsReaction, IsMeeting, IsFound};
+ghost use Rattle.chem_model.specs.Each.{IsIn};
 ghost use Rattle.trace_history.specs.inside.Older.{Key, AreQueued, whole};
 ghost use Rattle.trace_history.specs.inside.Waiting.{AreFiled, Reaches, Betters, IsLookedAt};
 ghost use Rattle.trace_history.specs.inside.Waiting.{IsSlotLookedAt, LooksAtNewest};

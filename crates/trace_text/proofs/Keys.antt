@@ -15,7 +15,7 @@ use Rattle.chem_model.specs.NewNames.{Pair}
 use Rattle.chem_model.specs.Solution.{same_loc}
 use Rattle.chem_model.specs.Numbered.{same_name, binder_in}
 use Rattle.chem_laws.proofs.Taking.{same_name_is, same_name_refl}
-use Rattle.trace_text.specs.TraceText.{is_in, place_in}
+use Rattle.trace_text.specs.TraceText.{is_among, place_in}
 use Rattle.trace_text.specs.inside.Tables.{Key, key_of, AreKeyed}
 
 -- ---- keys
@@ -107,7 +107,7 @@ one_earlier x items left i d old now next within told put =
 
 -- ---- ranks
 
-pub values_insert : (x : Name) (es : List (Key × Name)) → AreKeyed (λ y. y) es → values_of (insert_entry same_key es (key_of x) x) ≡ cond (not (is_in x (values_of es))) (values_of es ++ x ∷ []) (values_of es)
+pub values_insert : (x : Name) (es : List (Key × Name)) → AreKeyed (λ y. y) es → values_of (insert_entry same_key es (key_of x) x) ≡ cond (not (is_among (values_of es) x)) (values_of es ++ x ∷ []) (values_of es)
 values_insert x [] h = refl
 values_insert x (e ∷ es) h =
     ap (λ t. values_of (if t then (e.0, x) ∷ es else e ∷ insert_entry same_key es (key_of x) x)) (at_entry (λ (y : Name). y) x e h.0)
@@ -117,10 +117,10 @@ values_insert x (e ∷ es) h =
     behind true xs ys = refl
     behind false xs ys = refl
 
-    go : (t : Bool) → same_name e.1 x ≡ t → values_of (insert_entry same_key es (key_of x) x) ≡ cond (not (is_in x (values_of es))) (values_of es ++ x ∷ []) (values_of es)
-        → values_of (if t then (e.0, x) ∷ es else e ∷ insert_entry same_key es (key_of x) x) ≡ cond (not (cond t true (is_in x (values_of es)))) (e.1 ∷ (values_of es ++ x ∷ [])) (e.1 ∷ values_of es)
+    go : (t : Bool) → same_name e.1 x ≡ t → values_of (insert_entry same_key es (key_of x) x) ≡ cond (not (is_among (values_of es) x)) (values_of es ++ x ∷ []) (values_of es)
+        → values_of (if t then (e.0, x) ∷ es else e ∷ insert_entry same_key es (key_of x) x) ≡ cond (not (cond t true (is_among (values_of es) x))) (e.1 ∷ (values_of es ++ x ∷ [])) (e.1 ∷ values_of es)
     go true c ih = ap (λ y. y ∷ values_of es) (sym (same_name_is e.1 x c))
-    go false c ih = ap (λ ys. e.1 ∷ ys) ih ∙ behind (not (is_in x (values_of es))) (values_of es ++ x ∷ []) (values_of es)
+    go false c ih = ap (λ ys. e.1 ∷ ys) ih ∙ behind (not (is_among (values_of es) x)) (values_of es ++ x ∷ []) (values_of es)
 
 placed : (x : Name) (es : List (Key × Name)) → AreKeyed (λ y. y) es → position_or_len (same_key (key_of x)) (keys_of es) ≡ place_in x (values_of es)
 placed x [] h = refl

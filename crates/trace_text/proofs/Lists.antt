@@ -5,7 +5,7 @@ use Rattle.chem_model.specs.declared.name.Name.{Name}
 use Rattle.chem_model.specs.declared.event.Out.{Out}
 use Rattle.chem_model.specs.ProgramFacts.{ProgramTerms}
 use Rattle.chem_model.specs.Fill.{Naming}
-use Rattle.trace_text.specs.TraceText.{is_ranked, is_in, ranked_after, arguments, name_text, names_text}
+use Rattle.trace_text.specs.TraceText.{is_ranked, is_among, ranked_after, arguments, name_text, names_text}
 use Rattle.trace_text.specs.inside.Later.{later_text}
 
 names_first : (p : ProgramTerms) (named : Naming) (ranks : List Name) (x : Name) (xs : List Name) → names_text p named ranks (x ∷ xs) ≡ name_text p named ranks x ++ later_text p named ranks xs
@@ -28,7 +28,7 @@ names_open p named ranks (x ∷ xs) names d start mid end same some one more =
 -- ranks go on where they stopped
 pub ranked_more : (p : ProgramTerms) (named : Naming) (before xs ys : List Name) → ranked_after p named before (xs ++ ys) ≡ ranked_after p named (ranked_after p named before xs) ys
 ranked_more p named before [] ys = refl
-ranked_more p named before (x ∷ xs) ys = ranked_more p named (cond (is_ranked p named x && not (is_in x before)) (before ++ x ∷ []) before) xs ys
+ranked_more p named before (x ∷ xs) ys = ranked_more p named (cond (is_ranked p named x && not (is_among before x)) (before ++ x ∷ []) before) xs ys
 
 -- one observable less is left
 pub ranked_step : (p : ProgramTerms) (named : Naming) (outs : List Out) (before now : List Name) (o : Out) (i : ℕ) → i < length outs → o ≡ get_or outs i o → now ≡ ranked_after p named before o.args → ranked_after p named now (arguments (drop (i + 1) outs)) ≡ ranked_after p named before (arguments (drop i outs))

@@ -7,7 +7,7 @@ use Rattle.chem_model.specs.ProgramFacts.{ProgramTerms}
 use Rattle.chem_model.specs.Fill.{Naming}
 use Rattle.chem_model.specs.Numbered.{binder_in}
 use Rattle.trace_text.specs.declared.text.Ending.{Ending}
-use Rattle.trace_text.specs.TraceText.{binder_spelling, seen_spelling, is_inner, is_ranked, is_in, place_in, ranked_after, ranked, arguments, made_text, name_text, names_text, out_text, outs_text, ending_text, trace_text}
+use Rattle.trace_text.specs.TraceText.{binder_spelling, seen_spelling, is_inner, is_ranked, is_among, place_in, ranked_after, ranked, arguments, made_text, name_text, names_text, out_text, outs_text, ending_text, trace_text}
 use Rattle.trace_text.specs.inside.Tables.{TellTheSame}
 
 module _ (p : ProgramTerms) (a b : Naming) (h : TellTheSame a b) where
@@ -19,8 +19,8 @@ module _ (p : ProgramTerms) (a b : Naming) (h : TellTheSame a b) where
   ranks_alike : (before xs : List Name) → ranked_after p a before xs ≡ ranked_after p b before xs
   ranks_alike before [] = refl
   ranks_alike before (x ∷ xs) =
-      ap (λ t. ranked_after p a (cond (t && not (is_in x before)) (before ++ x ∷ []) before) xs) (ranked_alike x)
-      ∙ ranks_alike (cond (is_ranked p b x && not (is_in x before)) (before ++ x ∷ []) before) xs
+      ap (λ t. ranked_after p a (cond (t && not (is_among before x)) (before ++ x ∷ []) before) xs) (ranked_alike x)
+      ∙ ranks_alike (cond (is_ranked p b x && not (is_among before x)) (before ++ x ∷ []) before) xs
 
   made_alike : (ranks : List Name) (x : Name) → made_text p a ranks x ≡ made_text p b ranks x
   made_alike ranks x =

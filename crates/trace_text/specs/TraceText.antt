@@ -38,16 +38,17 @@ is_ranked p named (name.Seen i) = false
 is_ranked p named (name.Place a) = is_inner p (binder_in named (name.Place a))
 is_ranked p named (name.Chan s k h) = is_inner p (binder_in named (name.Chan s k h))
 
-abbrev pub is_in : Name → List Name → Bool
-is_in x [] = false
-is_in x (y ∷ ys) = cond (same_name y x) true (is_in x ys)
+-- whether a name is among these
+abbrev pub is_among : List Name → Name → Bool
+is_among [] x = false
+is_among (y ∷ ys) x = cond (same_name y x) true (is_among ys x)
 
 -- the ranked names in order of first appearance, after these
 abbrev pub ranked_after : ProgramTerms → Naming → List Name → List Name → List Name
 ranked_after p named before [] = before
 ranked_after p named before (x ∷ xs) =
     ranked_after p named
-    (cond (is_ranked p named x && not (is_in x before)) (before ++ x ∷ []) before) xs
+    (cond (is_ranked p named x && not (is_among before x)) (before ++ x ∷ []) before) xs
 
 -- the arguments of a trace, in order and from left to right
 abbrev pub arguments : List Out → List Name

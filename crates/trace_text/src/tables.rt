@@ -2,7 +2,7 @@
 ghost use Rattle.std.specs.Prelude.{◌≡◌, ◌++◌, ◌<◌, ◌^◌, [], ◌∷◌, Some, not, cond, IfOk, OnOk};
 ghost use Rattle.chem_model.specs.declared.name.Name.{Name as AnyName};
 ghost use Rattle.chem_model.specs.Numbered.{same_name, binder_in};
-ghost use Rattle.trace_text.specs.TraceText.{is_in, place_in};
+ghost use Rattle.trace_text.specs.TraceText.{is_among, place_in};
 ghost use Rattle.trace_text.specs.inside.Tables.{key_of, TellTheSame};
 
 use chem_model::{Memory, Name, Named, Naming};
@@ -113,7 +113,7 @@ impl Ranks {
     /// Appends a name that doesn't stand there yet.
     pub(crate) fn add(&mut self, name: Name) -> Result<(), Memory>
         ensures { OnOk result (self.new
-            ≡ cond (not (is_in name self.old)) (self.old ++ name ∷ []) self.old) }
+            ≡ cond (not (is_among self.old name)) (self.old ++ name ∷ []) self.old) }
     {
         self.map.insert(key_of(name), name)?;
         Ok(())

@@ -20,11 +20,11 @@ two m t = let lt = ltb-true _ _ t in omega (arith, lt)
 
 module _ {A : Type 0} where
   -- a part of a format spells x, and reading goes on behind it
-  abbrev pub Begins : {X : Type 0} → (X → List ℕ) → (X → Format A) → A → List ℕ → X → Type 0
-  Begins text next y bytes x = (rest : List ℕ) × (bytes ≡ text x ++ rest) × Spells (next x) y rest
+  abbrev pub BeginsFormat : {X : Type 0} → (X → List ℕ) → (X → Format A) → A → List ℕ → X → Type 0
+  BeginsFormat text next y bytes x = (rest : List ℕ) × (bytes ≡ text x ++ rest) × Spells (next x) y rest
 
   pub name_spelt : (home : Option Loc) (next : Name → Format A) (y : A) (bytes : List ℕ) → Spells (one_name home next) y bytes
-      → (x : Name) × IsName x × AtHome home x × Begins name_bytes next y bytes x
+      → (x : Name) × IsName x × AtHome home x × BeginsFormat name_bytes next y bytes x
   name_spelt home next y bytes (zero, rest, lt, e, t, (i, r1, lt1, e1, t1, h)) =
       (name.Seen i, lt1, tt, (r1, e ∙ ap (λ (r : List ℕ). 0 ∷ r) e1, h))
   name_spelt home next y bytes (suc zero, rest, lt, e, t, (s, r1, lt1, e1, t1, (k, r2, lt2, e2, t2, h))) =
@@ -66,7 +66,7 @@ module _ {A : Type 0} where
 
 module _ {A X : Type 0} (member : List X → (X → Format A) → Format A) (p : List X → X → Type 0) (text : X → List ℕ) where
   pub members_spelt : (y : A) (next : List X → Format A)
-      → ((front : List X) (follows : X → Format A) (bytes : List ℕ) → Spells (member front follows) y bytes → (x : X) × p front x × Begins text follows y bytes x)
+      → ((front : List X) (follows : X → Format A) (bytes : List ℕ) → Spells (member front follows) y bytes → (x : X) × p front x × BeginsFormat text follows y bytes x)
       → (n : ℕ) (front : List X) (bytes : List ℕ) → Spells (members member front n next) y bytes
       → (xs : List X) × (length xs ≡ n) × EachFrom p front xs × (rest : List ℕ) × (bytes ≡ flat_map text xs ++ rest) × Spells (next (front ++ xs)) y rest
   unfolding members
@@ -135,7 +135,7 @@ module _ {A : Type 0} where
       (λ front follows some x p s. name_spells None follows y some x p.0 p.1 s) xs [] rest (name_each [] xs all) h
 
   pub after_spelt : (home : Option Loc) (y : A) (next : Name × List Name → Format A) (bytes : List ℕ) → Spells (message_after home next) y bytes
-      → (b : Name × List Name) × (IsName b.0 × AtHome home b.0 × Each IsName b.1 × (length b.1 < 2 ^ 8)) × Begins behind next y bytes b
+      → (b : Name × List Name) × (IsName b.0 × AtHome home b.0 × Each IsName b.1 × (length b.1 < 2 ^ 8)) × BeginsFormat behind next y bytes b
   after_spelt home y next bytes h =
       let on = name_spelt home (λ on. arguments on next) y bytes h in
       let n = on.3.2 in
@@ -160,7 +160,7 @@ module _ {A : Type 0} where
       (name_spells home (λ x. arguments x next) y (length args ∷ (flat_map name_bytes args ++ rest)) on is at all_of)
 
   pub body_spelt : (y : A) (next : MessageParts → Format A) (bytes : List ℕ) → Spells (message_body next) y bytes
-      → (m : MessageParts) × IsMessageValue m × Begins message next y bytes m
+      → (m : MessageParts) × IsMessageValue m × BeginsFormat message next y bytes m
   body_spelt y next bytes (s, r1, lt1, e1, t1, (k, r2, lt2, e2, t2, h)) =
       let b = after_spelt None y (λ x. next (made s k x)) r2 h in (
         made s k b.0,

@@ -20,7 +20,7 @@ use Rattle.wire_packet.specs.Allowed.{IsName}
 use Rattle.wire_packet.proofs.InOrder.{GroupAt, Waits, Asks, ParcelInOrder, PacketInOrder}
 use Rattle.wire_packet.specs.Allowed.{IsAskValue}
 use Rattle.wire_packet.specs.Packets.{made, waits, group_member, waiting_member, request_member, is_waiting, second, two_names, go, fail, one_ask, requested, full, then_requests, then_waiting, parcel_body, is_ask, is_kind, packets}
-use Rattle.wire_packet.proofs.Messages.{Begins, name_spelt, names_spelt, members_spelt, after_spelt, body_spelt}
+use Rattle.wire_packet.proofs.Messages.{BeginsFormat, name_spelt, names_spelt, members_spelt, after_spelt, body_spelt}
 
 right : (a b : Bool) → (a && b) ≡ true → b ≡ true
 right true b e = e
@@ -55,7 +55,7 @@ counted n m bytes rest after e f g = f ∙ ap (λ (k : ℕ). digits four k ++ re
 
 module _ {A : Type 0} where
   group_spelt : (l : Loc) (y : A) (front : List GroupInst) (next : GroupInst → Format A) (bytes : List ℕ) → Spells (group_member l front next) y bytes
-      → (g : GroupInst) × GroupAt l g × Begins group next y bytes g
+      → (g : GroupInst) × GroupAt l g × BeginsFormat group next y bytes g
   group_spelt l y front next bytes (level, r1, lt1, e1, t1, (cs, r2, lt2, e2, t2, (ck, r3, lt3, e3, t3, (rs, r4, lt4, e4, t4, (rk, r5, lt5, e5, t5, (n, r6, lt6, e6, t6, h)))))) =
       let make : List Name → GroupInst = λ env. record { loc = l; level = level; chans = record { site = cs; k = ck }; rules = record { site = rs; k = rk }; env = env } in
       let env = names_spelt y n (λ env. next (make env)) r6 h in (
@@ -71,7 +71,7 @@ module _ {A : Type 0} where
       )
 
   waiting_spelt : (l : Loc) (y : A) (front : List Waiting) (next : Waiting → Format A) (bytes : List ℕ) → Spells (waiting_member l front next) y bytes
-      → (w : Waiting) × Waits l front w × Begins waiting_message next y bytes w
+      → (w : Waiting) × Waits l front w × BeginsFormat waiting_message next y bytes w
   waiting_spelt l y front next bytes (s, r1, lt1, e1, t1, (k, r2, lt2, e2, t2, h)) =
       let b = after_spelt (Some l) y (waits l s k next) r2 h in (
         record { loc = l; msg = made s k b.0 },
@@ -80,13 +80,13 @@ module _ {A : Type 0} where
       )
 
   two_spelt : (y : A) (next : Name × Name → Format A) (bytes : List ℕ) → Spells (two_names next) y bytes
-      → (p : Name × Name) × (IsName p.0 × IsName p.1) × Begins (λ p. name_bytes p.0 ++ name_bytes p.1) next y bytes p
+      → (p : Name × Name) × (IsName p.0 × IsName p.1) × BeginsFormat (λ p. name_bytes p.0 ++ name_bytes p.1) next y bytes p
   two_spelt y next bytes h =
       let a = name_spelt None (λ x. second x next) y bytes h in
       let b = name_spelt None (λ x. next (a.0, x)) y a.3.0 a.3.2 in
       ((a.0, b.0), (a.1, b.1), (b.3.0, a.3.1 ∙ ap (λ (t : List ℕ). name_bytes a.0 ++ t) b.3.1 ∙ sym (append_assoc (name_bytes a.0) (name_bytes b.0) b.3.0), b.3.2))
 
-  ask_spelt : (y : A) (next : Ask → Format A) (bytes : List ℕ) → Spells (one_ask next) y bytes → (a : Ask) × IsAskValue a × Begins ask_bytes next y bytes a
+  ask_spelt : (y : A) (next : Ask → Format A) (bytes : List ℕ) → Spells (one_ask next) y bytes → (a : Ask) × IsAskValue a × BeginsFormat ask_bytes next y bytes a
   ask_spelt y next bytes (zero, rest, lt, e, t, h) = absurd cc
   ask_spelt y next bytes (suc zero, rest, lt, e, t, h) =
       let p = two_spelt y (go next) rest h in
@@ -97,7 +97,7 @@ module _ {A : Type 0} where
       (ask.Fail p.0.0 p.0.1, p.1, (p.2.0, e ∙ ap (λ (n : ℕ). n ∷ rest) (three m t) ∙ ap (λ (r : List ℕ). 3 ∷ r) p.2.1, p.2.2))
 
   request_spelt : (l : Loc) (ws : List Waiting) (y : A) (front : List Request) (next : Request → Format A) (bytes : List ℕ)
-      → Spells (request_member l (is_waiting ws) front next) y bytes → (r : Request) × Asks l ws front r × Begins request next y bytes r
+      → Spells (request_member l (is_waiting ws) front next) y bytes → (r : Request) × Asks l ws front r × BeginsFormat request next y bytes r
   request_spelt l ws y front next bytes (s, r1, lt1, e1, t1, (k, r2, lt2, e2, t2, h)) =
       let a = ask_spelt y (requested l s k next) r2 h in (
         record { id = record { site = s; k = k }; loc = l; ask = a.0 },
@@ -106,7 +106,7 @@ module _ {A : Type 0} where
       )
 
   body_of : (y : A) (next : ParcelParts → Format A) (bytes : List ℕ) → Spells (parcel_body next) y bytes
-      → (p : ParcelParts) × ParcelInOrder p × Begins parcel next y bytes p
+      → (p : ParcelParts) × ParcelInOrder p × BeginsFormat parcel next y bytes p
   body_of y next bytes (s, r1, lt1, e1, t1, (k, r2, lt2, e2, t2, (n, r3, lt3, e3, t3, h))) =
       let l : Loc = record { site = s; k = k } in
       let g = members_spelt (group_member l) (λ front g. GroupAt l g) group y (then_waiting l next) (λ front follows some x. group_spelt l y front follows some x) n [] r3 h in

@@ -4,14 +4,14 @@ use Rattle.std.specs.Prelude.{Err}
 use Rattle.join_base.specs.declared.fault.Front.{Front}
 use Rattle.join_lex.specs.declared.token.Token.{Token}
 use Rattle.join_lex.specs.Spelling.{Version}
-use Rattle.join_lex.specs.Lexical.{Piece, Begins, IsSmall, tokens_at, bytes_of}
+use Rattle.join_lex.specs.Lexical.{Piece, BeginsWith, IsSmall, tokens_at, bytes_of}
 use Rattle.join_lex.specs.inside.Scan.{ScanFails}
 
 -- one piece further
 pub record StepsTo (version : Version) (text : List ℕ) (place upto : ℕ)
     (old new : List Token) : Type 0 where
   pub piece : Piece
-  pub begins : Begins version piece (drop place text) (drop upto text)
+  pub begins : BeginsWith version piece (drop place text) (drop upto text)
   pub small : IsSmall version piece
   pub moved : upto ≡ place + length (bytes_of piece)
   pub further : place < upto

@@ -102,15 +102,15 @@ pub record Reads (b : Bounds) (P : ℕ → Type 0) (ts : List Token) (at : ℕ) 
   pub within : upto ≤ length ts
 
 -- The reading of these symbols stops so, whatever is expected behind them.
-abbrev pub Halts : Bounds → (ℕ → Type 0) → List Token → ℕ → List Symbol → Front → Type 0
-Halts b P ts at ss (Refused kind place) =
+abbrev pub StopsSo : Bounds → (ℕ → Type 0) → List Token → ℕ → List Symbol → Front → Type 0
+StopsSo b P ts at ss (Refused kind place) =
     (stack : List Symbol) → P (level stack) → outcome b (drop at ts) (ss ++ stack) ≡ Stop kind place
-Halts b P ts at ss Memory = Unit {0}
+StopsSo b P ts at ss Memory = Unit {0}
 
 abbrev pub Fails : {T : Type 0} → Bounds → (ℕ → Type 0) → List Token → ℕ → List Symbol
     → Result T Front → Type 0
 Fails b P ts at ss (Ok x) = Unit {0}
-Fails b P ts at ss (Err e) = Halts b P ts at ss e
+Fails b P ts at ss (Err e) = StopsSo b P ts at ss e
 
 -- The reading of a whole text stops so.
 abbrev pub IsStop : Bounds → List Token → Front → Type 0

@@ -4,7 +4,7 @@ use Rattle.chem_model.specs.declared.numbered.Numbered.{Numbered}
 use Rattle.chem_model.specs.ProgramFacts.{ProgramTerms}
 use Rattle.join_base.specs.Bytes.{TakesAtMost}
 use Rattle.trace_history.specs.Kept as book
-use Rattle.trace_history.specs.Book.{OnSolution, IsStuck}
+use Rattle.trace_history.specs.Book.{OnItsSolution, IsStuck}
 use Rattle.site_runner.specs.declared.outcome.Done.{Done}
 use Rattle.trace_text.specs.declared.text.Ending.{Ending}
 use Rattle.trace_text.specs.declared.text.Ending.TheVariants.{Quiescent, Stopped}
@@ -44,9 +44,9 @@ ending_of true = Quiescent
 ending_of false = Stopped
 
 -- the whole text of a book's run of this source, which has ended so
-abbrev pub IsWholeOfBook : Asked → (source : List ℕ) → book.Kept → Ending → (text : List ℕ) → Type 0
+abbrev pub IsWholeOfBook : Asked → (source : List ℕ) → book.BookKept → Ending → (text : List ℕ) → Type 0
 IsWholeOfBook a source b ending text =
-    OnSolution b (λ n. IsWhole a source b.program b.journal n ending text)
+    OnItsSolution b (λ n. IsWhole a source b.program b.journal n ending text)
 
 -- a run that was asked for of the program of this source, which has ended so, and its whole text
 pub record IsEnded (a : Asked) (source : List ℕ) (kept : Kept) (text : List ℕ)

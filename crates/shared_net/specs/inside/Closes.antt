@@ -1,6 +1,6 @@
 -- What the comparison of all receipts with the journal settles.
 use Rattle.std.specs.Prelude.{◌≡◌, List, Some}
-use Rattle.trace_history.specs.Kept.{Kept}
+use Rattle.trace_history.specs.Kept.{BookKept}
 use Rattle.shared_net.specs.declared.report.Worked.{Worked}
 use Rattle.shared_net.specs.declared.differs.Differs.{Differs as Cause}
 use Rattle.shared_net.specs.declared.closing.Closed.{Closed}
@@ -10,7 +10,7 @@ use Rattle.shared_net.specs.inside.Causes.{Compares}
 
 -- which of the two comes, said of the book behind the lock: that very book where the receipts
 -- agree with it, and else a cause that is true
-abbrev pub Settles : Kept → List Worked → Closed → Type 0
+abbrev pub Settles : BookKept → List Worked → Closed → Type 0
 Settles kept rows (Agreed book report) =
     (book ≡ kept) × Agrees kept.journal (all_receipts rows)
 Settles kept rows (Differs report) =

@@ -23,7 +23,7 @@ use Rattle.failure.specs.Halts.{IsHalt}
 use Rattle.failure.specs.Detects.{IsDetection}
 use Rattle.migration.specs.Within.{leads_into, IsMoveWithin}
 use Rattle.migration.specs.Across.{can_join, IsMoveBetween}
-use Rattle.trace_history.specs.Kept.{Kept}
+use Rattle.trace_history.specs.Kept.{BookKept}
 use Rattle.shared_net.specs.declared.choosing.Chosen.{Chosen}
 use Rattle.shared_net.specs.declared.choosing.Chosen.TheVariants as chosen
 use Rattle.shared_net.specs.declared.making.Made.{Made}
@@ -105,8 +105,8 @@ StaysFitAt c t i Passed new e = Unit {0}
 abbrev pub BearsNone : CodeParts → Site → Effects → Type 0
 BearsNone c s e = (q : ProgramTerms) → RunsProgram q c s → e.births ≡ []
 
-pub record MakesHere (c : CodeParts) (t : Tree) (s : Site) (p : Pick) (book : Kept)
-    (held : PassKept) (made : Made) (new : Site) (after : Kept) (holds : PassKept) : Type 0 where
+pub record MakesHere (c : CodeParts) (t : Tree) (s : Site) (p : Pick) (book : BookKept)
+    (held : PassKept) (made : Made) (new : Site) (after : BookKept) (holds : PassKept) : Type 0 where
   pub event : Event
   pub event_is : IsEventOf c s (chosen.Pick p) event
   pub proposes : Proposes book held event made.turn after holds
@@ -142,8 +142,8 @@ AfterChosen c t s (chosen.Ask a) turn u new e =
     → AfterAsk turn q.ask c.seen t s a u new e
 AfterChosen c t s chosen.Nothing turn u new e = ⊥
 
-pub record MakesWide (c : CodeParts) (t : Tree) (s : Site) (x : Chosen) (book : Kept)
-    (held : PassKept) (made : Made) (u : Tree) (new : Site) (after : Kept)
+pub record MakesWide (c : CodeParts) (t : Tree) (s : Site) (x : Chosen) (book : BookKept)
+    (held : PassKept) (made : Made) (u : Tree) (new : Site) (after : BookKept)
     (holds : PassKept) : Type 0 where
   pub event : Event
   pub event_is : IsEventOf c s x event
@@ -165,8 +165,8 @@ AfterCrossing Full seen t from into a u left new e =
 AfterCrossing Passed seen t from into a u left new e =
     IsLeft from left e × (new ≡ into) × (u ≡ t)
 
-pub record MakesAcross (c : CodeParts) (t : Tree) (from into : Site) (a : AtomId) (book : Kept)
-    (held : PassKept) (made : Made) (u : Tree) (left new : Site) (after : Kept)
+pub record MakesAcross (c : CodeParts) (t : Tree) (from into : Site) (a : AtomId) (book : BookKept)
+    (held : PassKept) (made : Made) (u : Tree) (left new : Site) (after : BookKept)
     (holds : PassKept) : Type 0 where
   pub offers : Offers (FitsAcross c t from into a) book held (event.Move a) made.turn after holds
   pub does : AfterCrossing made.turn c.seen t from into a u left new made.effects

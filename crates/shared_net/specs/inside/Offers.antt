@@ -1,7 +1,7 @@
 -- What an offer of an event to the book answers, and what becomes of the worker's turn.
 use Rattle.std.specs.Prelude.{◌≡◌, ◌<◌, ◌⊎◌, true, false, length}
 use Rattle.chem_model.specs.declared.event.Event.{Event}
-use Rattle.trace_history.specs.Kept.{Kept, is_enabled}
+use Rattle.trace_history.specs.Kept.{BookKept, is_enabled}
 use Rattle.shared_net.specs.declared.turn.Turn.{Turn}
 use Rattle.shared_net.specs.declared.turn.Turn.TheVariants.{Did, Passed, Nothing, NotEnabled, Full}
 use Rattle.shared_net.specs.Passes.{PassKept}
@@ -10,13 +10,13 @@ use Rattle.shared_net.specs.inside.Proposes.{with_event}
 use Rattle.shared_net.specs.Proposes.{with_receipt}
 
 -- the budget leaves an event, the pass can take its receipt, and the event fits
-pub record IsOpen (Fits : Type 0) (book : Kept) (pass : PassKept) : Type 0 where
+pub record IsOpen (Fits : Type 0) (book : BookKept) (pass : PassKept) : Type 0 where
   pub room : HasRoom book pass
   pub fits : Fits
 
 -- when each answer comes, where the event can be made exactly if `Fits` holds; no two of these
 -- cases hold together
-abbrev pub IsOfferAnswer : Type 0 → Kept → PassKept → Event → Turn → Type 0
+abbrev pub IsOfferAnswer : Type 0 → BookKept → PassKept → Event → Turn → Type 0
 IsOfferAnswer Fits book pass e Full = IsFull book pass
 IsOfferAnswer Fits book pass e Nothing =
     (length book.journal < pass.budget) × (IsBehind book pass ⊎ (Fits → ⊥))
@@ -26,8 +26,8 @@ IsOfferAnswer Fits book pass e (Did place) =
 IsOfferAnswer Fits book pass e Passed = ⊥
 
 -- the answer, and what the book and the pass are then
-pub record Offers (Fits : Type 0) (old : Kept) (held : PassKept) (e : Event) (turn : Turn)
-    (new : Kept) (after : PassKept) : Type 0 where
+pub record Offers (Fits : Type 0) (old : BookKept) (held : PassKept) (e : Event) (turn : Turn)
+    (new : BookKept) (after : PassKept) : Type 0 where
   pub answer : IsOfferAnswer Fits old held e turn
   pub book : new ≡ book_after old e turn
   pub pass : after ≡ pass_after held e turn
@@ -45,12 +45,12 @@ Turned old Full new = new ≡ old
 -- ---- and on want of memory
 
 -- book and pass are as they were
-pub record IsUntouched (old : Kept) (held : PassKept) (new : Kept) (after : PassKept) : Type 0 where
+pub record IsUntouched (old : BookKept) (held : PassKept) (new : BookKept) (after : PassKept) : Type 0 where
   pub book : new ≡ old
   pub pass : after ≡ held
 
 -- such an event was made, and the pass has exactly its receipt
-pub record HasCommitted (Is : Event → Type 0) (old : Kept) (held : PassKept) (new : Kept)
+pub record HasCommitted (Is : Event → Type 0) (old : BookKept) (held : PassKept) (new : BookKept)
     (after : PassKept) : Type 0 where
   pub event : Event
   pub event_is : Is event
@@ -59,6 +59,6 @@ pub record HasCommitted (Is : Event → Type 0) (old : Kept) (held : PassKept) (
 
 -- no event was made, or one
 abbrev pub MayHaveCommitted :
-    (Event → Type 0) → Kept → PassKept → Kept → PassKept → Type 0
+    (Event → Type 0) → BookKept → PassKept → BookKept → PassKept → Type 0
 MayHaveCommitted Is old held new after =
     IsUntouched old held new after ⊎ HasCommitted Is old held new after

@@ -4,7 +4,7 @@ use Rattle.chem_model.specs.declared.event.Event.{Event}
 use Rattle.chem_model.specs.declared.numbered.Numbered.{Numbered}
 use Rattle.chem_model.specs.ProgramFacts.{IsProgram}
 use Rattle.chem_model.specs.Apply.{replay_from}
-use Rattle.trace_history.specs.Kept.{Kept, solution}
+use Rattle.trace_history.specs.Kept.{BookKept, solution}
 use Rattle.env_store.specs.CodeFacts.{IsCode}
 use Rattle.env_store.specs.Reading.{IsCodeOf}
 use Rattle.env_store.specs.Laws.{rules_of_group}
@@ -22,11 +22,11 @@ events_of None = []
 events_of (Some e) = e ∷ []
 
 -- the book with these events behind its own
-abbrev pub and_then : Kept → List Event → Kept
+abbrev pub and_then : BookKept → List Event → BookKept
 and_then book es = record { program = book.program; journal = book.journal ++ es }
 
 -- book and network stand for one solution, with what their types keep
-pub record AreOne (book : Kept) (net : NetParts) : Type 0 where
+pub record AreOne (book : BookKept) (net : NetParts) : Type 0 where
   pub is_program : IsProgram book.program
   pub is_code : IsCode net.code
   pub of_program : IsCodeOf book.program net.code
@@ -37,7 +37,7 @@ pub record AreOne (book : Kept) (net : NetParts) : Type 0 where
   pub counted : net.events ≡ length book.journal
 
 -- the choice is made, and its event is in the book
-pub record IsMade (old : NetParts) (book : Kept) (x : Choice) (new : NetParts) (after : Kept)
+pub record IsMade (old : NetParts) (book : BookKept) (x : Choice) (new : NetParts) (after : BookKept)
     : Type 0 where
   pub event : Option Event
   pub acts : Acts old.code old.net x event new.net
@@ -48,8 +48,8 @@ pub record IsMade (old : NetParts) (book : Kept) (x : Choice) (new : NetParts) (
   pub one : AreOne after new
 
 -- events are made and are in the book; they and the network that they leave are as R says
-pub record HaveRun (R : List Event → Net → Type 0) (old : NetParts) (book : Kept) (new : NetParts)
-    (after : Kept) : Type 0 where
+pub record HaveRun (R : List Event → Net → Type 0) (old : NetParts) (book : BookKept) (new : NetParts)
+    (after : BookKept) : Type 0 where
   pub added : List Event
   pub runs : R added new.net
   pub code : new.code ≡ old.code
@@ -71,6 +71,6 @@ MeetsRequest (choice.Halt a) = Unit {0}
 MeetsRequest (choice.Detect a) = Unit {0}
 
 -- the events are possible in the book, one after another
-pub record CanFollow (book : Kept) (es : List Event) : Type 0 where
+pub record CanFollow (book : BookKept) (es : List Event) : Type 0 where
   pub after : Numbered
   pub replays : replay_from (solution book) es ≡ Some after

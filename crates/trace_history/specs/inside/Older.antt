@@ -15,7 +15,8 @@ use Rattle.chem_model.specs.declared.numbered.Numbered.{Numbered}
 use Rattle.chem_model.specs.Process.{Process, Msg, Par, Def, Go, Fail, Halt}
 use Rattle.chem_model.specs.Apply.{atom_at}
 use Rattle.chem_commit.specs.inside.Differ.{AtomsDiffer}
-use Rattle.trace_history.specs.inside.Search.{IsIn, receives}
+use Rattle.chem_model.specs.Each.{IsIn}
+use Rattle.trace_history.specs.inside.Search.{receives}
 use Rattle.trace_history.specs.inside.Alike.{AreAlike}
 
 -- the number of a channel, whose remainder is its slot in a table; and then the number of a message

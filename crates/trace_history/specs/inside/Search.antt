@@ -12,16 +12,12 @@ use Rattle.chem_model.specs.declared.numbered.NumberedRule.{NumberedRule}
 use Rattle.chem_model.specs.declared.numbered.NumberedAtom.{NumberedAtom}
 use Rattle.chem_model.specs.declared.numbered.Numbered.{Numbered}
 use Rattle.chem_model.specs.Process.{Process, Msg, Par, Def, Go, Fail, Halt}
-use Rattle.chem_model.specs.Each.{Each}
+use Rattle.chem_model.specs.Each.{Each, IsIn}
 use Rattle.chem_model.specs.Solution.{live, root}
 use Rattle.chem_model.specs.Numbered.{standing}
 use Rattle.chem_model.specs.Apply.{received_at, move_atom, halt_atom, detect_atom, apply}
 use Rattle.trace_history.specs.declared.book.Found.{Found}
 use Rattle.trace_history.specs.First.{turns, atom_less, rule_less, IsFirst}
-
-abbrev pub IsIn : {X : Type 0} → X → List X → Type 0
-IsIn x [] = ⊥
-IsIn x (y ∷ ys) = (y ≡ x) ⊎ IsIn x ys
 
 -- among the members that pass a test, one before which none comes; or there is none
 abbrev pub IsFirstOf : {X : Type 0} → (X → Bool) → (X → X → Bool) → List X → Option X → Type 0

@@ -9,7 +9,8 @@ use Rattle.chem_model.specs.declared.numbered.NumberedAtom.{NumberedAtom}
 use Rattle.chem_model.specs.Each.{Each}
 use Rattle.chem_model.specs.Process.{Process, Msg, Par, Def, Go, Fail, Halt}
 use Rattle.trace_history.specs.inside.Heard.{slot_of}
-use Rattle.trace_history.specs.inside.Search.{IsIn, is_ready, rule_before}
+use Rattle.chem_model.specs.Each.{IsIn}
+use Rattle.trace_history.specs.inside.Search.{is_ready, rule_before}
 
 -- the member of a list at this place
 abbrev pub IsAt : {X : Type 0} → List X → ℕ → X → Type 0

@@ -5,7 +5,7 @@ use Rattle.env_store.specs.CodeParts.{CodeParts}
 use Rattle.env_store.specs.CodeFacts.{IsLevelAt, IsBodyAt, AreBelow}
 use Rattle.env_store.specs.Running.{loc_at, numbered_levels, code_made}
 use Rattle.code_run.specs.inside.Steps.{Adds, levels_laid}
-use Rattle.code_run.specs.RunFacts.{IsRun}
+use Rattle.code_run.specs.RunFacts.{HasRunFacts}
 use Rattle.code_run.proofs.Facts.{opening_facts}
 use Rattle.code_run.proofs.Opened.{bodies_below, site_levels, opened}
 use Rattle.code_run.proofs.running.open.Goals as goal
@@ -47,4 +47,4 @@ pub returns-clause-facts : goal.returns-clause-facts
 returns-clause-facts c =
     let kept = c.site_at-site.ensures.kept in
     let whole = returns-clause-run c c.site_at-site.result c.site_at-site.ensures.there in
-    subst (IsRun c.args.code.now c.args.number (loc_at c.args.number 0) [] 1) (sym whole) (opening_facts c.args.code.now kept c.args.number c.site_at-site.result c.site_at-site.ensures.there)
+    subst (HasRunFacts c.args.code.now c.args.number (loc_at c.args.number 0) [] 1) (sym whole) (opening_facts c.args.code.now kept c.args.number c.site_at-site.result c.site_at-site.ensures.there)

@@ -2,7 +2,7 @@ use Rattle.std.proofs.Common.{ℕ, List, sym, subst}
 use Rattle.chem_model.specs.declared.name.Name.{Name}
 use Rattle.env_store.specs.CodeFacts.{IsCode}
 use Rattle.env_store.specs.Running.{code_made}
-use Rattle.code_run.specs.RunFacts.{IsRun}
+use Rattle.code_run.specs.RunFacts.{HasRunFacts}
 use Rattle.code_run.proofs.Runs.{body_run}
 use Rattle.code_run.proofs.Facts.{body_facts}
 use Rattle.code_run.proofs.running.run.Goals as goal
@@ -14,4 +14,4 @@ returns-clause-run c =
 pub returns-clause-facts : goal.returns-clause-facts
 returns-clause-facts c =
     let kept : IsCode c.args.code.now = subst IsCode c.code.view_is c.code.invariant in
-    subst (IsRun c.args.code.now c.args.number c.args.loc.now c.args.env.now c.args.from) (sym (returns-clause-run c)) (body_facts c.args.code.now kept c.args.number c.args.body c.args.env.now c.args.loc.now c.args.from c.requires)
+    subst (HasRunFacts c.args.code.now c.args.number c.args.loc.now c.args.env.now c.args.from) (sym (returns-clause-run c)) (body_facts c.args.code.now kept c.args.number c.args.body c.args.env.now c.args.loc.now c.args.from c.requires)

@@ -2,7 +2,7 @@
 use Rattle.std.proofs.Common.{◌≡◌, ℕ, List, length, take, drop, ◌++◌, map, ◌∙◌, subst, arith}
 use Rattle.chem_model.specs.Each.{Each}
 use Rattle.chem_model.specs.ProgramFacts.{ProgramTerms}
-use Rattle.trace_history.specs.Kept.{Kept}
+use Rattle.trace_history.specs.Kept.{BookKept}
 use Rattle.shared_net.specs.declared.closing.Closed.{Closed}
 use Rattle.shared_net.specs.declared.closing.Closed.TheVariants.{Agreed, Differs}
 use Rattle.shared_net.specs.Agrees.{row_of}
@@ -46,7 +46,7 @@ returns-in-Ok-Agreed-clause-how g c =
     let same : HaveSameOwners old w = rw c.as_mut_slice.ensures.passes at c.work_all.ensures in
     let whole = lent_whole old w (same_length old w same) in
     let ended = ended_of_all old w c.args.net.sites c.sites.result whole c.sites.ensures.count (c.have_ended.ensures c.if-not-have_ended.false) in
-    let book : Kept = c.in-Ok-Agreed.book in
+    let book : BookKept = c.in-Ok-Agreed.book in
     let report : Reported = c.in-Ok-Agreed.report in
     let closes = closes_of_all old w c.args.net.program c.args.program.now c.args.net.budget c.args.budget (Agreed book report) whole c.requires.program c.requires.budget (rw c.in-Ok-Agreed.field-0-is at c.in-Ok-Agreed.ensures.closed) in
     shared_is_free c.args.net.sites old w c.args.program.now c.args.budget same ended book report closes c.shared.result c.shared.ensures.how

@@ -1,6 +1,6 @@
 use Rattle.std.proofs.Common.{◌≡◌, ◌%◌, ◌⊎◌, get_or, true}
 use Rattle.trace_history.specs.inside.Heard.{Grows}
-use Rattle.trace_history.specs.inside.Search.{IsIn}
+use Rattle.chem_model.specs.Each.{IsIn}
 use Rattle.trace_history.specs.inside.Older.{Key}
 use Rattle.trace_history.proofs.heard.hear_older.Given as goal
 

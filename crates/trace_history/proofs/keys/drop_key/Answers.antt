@@ -1,5 +1,5 @@
 use Rattle.std.proofs.Common.{◌≡◌, sym, subst, ◌⊎◌, List}
-use Rattle.trace_history.specs.inside.Search.{IsIn}
+use Rattle.chem_model.specs.Each.{IsIn}
 use Rattle.trace_history.specs.inside.Older.{Key}
 use Rattle.trace_history.proofs.KeyLaws.{others_stay}
 use Rattle.trace_history.proofs.keys.drop_key.Goals as goal

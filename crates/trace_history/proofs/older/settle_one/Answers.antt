@@ -2,7 +2,7 @@
 use Rattle.std.proofs.Common.{◌≡◌, List, [], ap, sym, ◌∙◌, subst}
 use Rattle.chem_model.specs.declared.numbered.NumberedAtom.{NumberedAtom}
 use Rattle.chem_model.specs.Apply.{atom_at}
-use Rattle.trace_history.specs.inside.Search.{IsIn}
+use Rattle.chem_model.specs.Each.{IsIn}
 use Rattle.trace_history.specs.inside.Table.{Adds}
 use Rattle.trace_history.specs.inside.Older.{Key, channel_of, AreQueued, Keeps}
 use Rattle.trace_history.proofs.Apart.{new_there, settled, queued_more, queued_added}

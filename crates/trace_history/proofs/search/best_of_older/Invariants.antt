@@ -1,6 +1,6 @@
 use Rattle.std.proofs.Common.{◌%◌, ◌⊎◌, length, Some}
 use Rattle.std.specs.Option.{option_copied}
-use Rattle.trace_history.specs.inside.Search.{IsIn}
+use Rattle.chem_model.specs.Each.{IsIn}
 use Rattle.trace_history.specs.inside.Waiting.{Betters, IsSlotLookedAt}
 use Rattle.trace_history.specs.inside.Older.{Key, whole}
 use Rattle.trace_history.proofs.search.best_of_older.Given as goal

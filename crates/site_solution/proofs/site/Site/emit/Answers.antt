@@ -13,7 +13,7 @@ use Rattle.net_laws.specs.Parcels.{all_told}
 use Rattle.net_laws.specs.ByCode.{told_by}
 use Rattle.net_laws.specs.Posting.{pour_here}
 use Rattle.code_run.specs.declared.made.Run.{Run}
-use Rattle.code_run.specs.RunFacts.{IsRun}
+use Rattle.code_run.specs.RunFacts.{HasRunFacts}
 use Rattle.code_run.specs.Posts.{run_of, all_posted}
 use Rattle.site_solution.specs.Commit.{CanLeave}
 use Rattle.site_solution.specs.Held.{taken_at}
@@ -31,7 +31,7 @@ pub leave-requires-clause-can : goal.leave-requires-clause-can
 leave-requires-clause-can c =
     let s = c.args.self.now in
     let r = c.in_ok-made.made in
-    let facts : IsRun no_code s.number c.args.loc.now (c.args.on ∷ c.args.args) s.made r = subst (λ (i : ℕ). IsRun no_code i c.args.loc.now (c.args.on ∷ c.args.args) s.made r) c.number.ensures (subst (λ (k : ℕ). IsRun no_code c.number.result c.args.loc.now (c.args.on ∷ c.args.args) k r) c.made.ensures (c.in_ok-made.ensures.facts no_code)) in
+    let facts : HasRunFacts no_code s.number c.args.loc.now (c.args.on ∷ c.args.args) s.made r = subst (λ (i : ℕ). HasRunFacts no_code i c.args.loc.now (c.args.on ∷ c.args.args) s.made r) c.number.ensures (subst (λ (k : ℕ). HasRunFacts no_code c.number.result c.args.loc.now (c.args.on ∷ c.args.args) k r) c.made.ensures (c.in_ok-made.ensures.facts no_code)) in
     let can = run-leaves no_code s c.args.loc.now (c.args.on ∷ c.args.args) r facts c.requires.here c.site_is_kept.ensures.kept c.site_is_kept.ensures.once c.requires.can.can_draw.drawn (omega (arith, facts.below, c.requires.can.can_draw.few)) in
     let empty : r.groups ≡ [] = ap (λ (x : Run). x.groups) c.in_ok-made.ensures.run in
     let told : all_told (told_by no_code) r.groups ≡ told_of_new c.new.result.items = ap (all_told (told_by no_code)) empty ∙ sym (ap told_of_new c.new.ensures.items) in
@@ -50,6 +50,6 @@ pub returns-clause-keeps : goal.returns-clause-keeps
 returns-clause-keeps c =
     let s = c.args.self.now in
     let r = c.in_ok-made.made in
-    let facts : (d : CodeParts) → IsRun d s.number c.args.loc.now (c.args.on ∷ c.args.args) s.made r = λ d. subst (λ (i : ℕ). IsRun d i c.args.loc.now (c.args.on ∷ c.args.args) s.made r) c.number.ensures (subst (λ (k : ℕ). IsRun d c.number.result c.args.loc.now (c.args.on ∷ c.args.args) k r) c.made.ensures (c.in_ok-made.ensures.facts d)) in
+    let facts : (d : CodeParts) → HasRunFacts d s.number c.args.loc.now (c.args.on ∷ c.args.args) s.made r = λ d. subst (λ (i : ℕ). HasRunFacts d i c.args.loc.now (c.args.on ∷ c.args.args) s.made r) c.number.ensures (subst (λ (k : ℕ). HasRunFacts d c.number.result c.args.loc.now (c.args.on ∷ c.args.args) k r) c.made.ensures (c.in_ok-made.ensures.facts d)) in
     let left : IsLeft (pour_here c.args.tree.now r.next r.births [] (all_posted r.posts) (taken_at 0 [] s)) c.leave.new.self c.in_ok-sends.sends = subst (λ (ds : List Told). IsLeft (pour_here c.args.tree.now r.next r.births ds (all_posted r.posts) (taken_at 0 [] s)) c.leave.new.self c.in_ok-sends.sends) (ap told_of_new c.new.ensures.items) c.in_ok-sends.ensures.ok in
     emitted-keeps c.args.tree.now s c.leave.new.self c.args.loc.now c.args.on c.args.args r facts (ap (λ (x : Run). x.births) c.in_ok-made.ensures.run) (ap (λ (x : Run). x.groups) c.in_ok-made.ensures.run) c.requires.here c.site_is_kept.ensures.kept c.site_is_kept.ensures.once c.requires.can left.site

@@ -5,7 +5,7 @@ use Rattle.chem_model.specs.declared.event.Event.{Event}
 use Rattle.chem_model.specs.declared.numbered.Numbered.{Numbered}
 use Rattle.chem_model.specs.Sound.{IsSound}
 use Rattle.chem_model.specs.Apply.{apply, replay}
-use Rattle.trace_history.specs.Kept.{Kept, solution}
+use Rattle.trace_history.specs.Kept.{BookKept, solution}
 use Rattle.trace_history.specs.inside.Older.{Holds}
 use Rattle.trace_history.specs.inside.Waiting.{AreFiled}
 use Rattle.trace_history.proofs.Replays.{replaced, replay_pushed, unchanged}
@@ -17,7 +17,7 @@ use Rattle.trace_history.proofs.book.Book.commit.Goals as goal
 pub make_event-requires : goal.make_event-requires
 make_event-requires c =
     let sound : (m : Numbered) → replay c.self.inside.program c.self.inside.journal ≡ Some m → IsSound m =
-    subst (λ (b : Kept). (m : Numbered) → solution b ≡ Some m → IsSound m) (sym c.self.view_is) c.is_sound.ensures in
+    subst (λ (b : BookKept). (m : Numbered) → solution b ≡ Some m → IsSound m) (sym c.self.view_is) c.is_sound.ensures in
     let o = replay c.self.inside.program c.self.inside.journal in
     let old = c.ready.new.older.table in
     let n : Numbered = record c.self.inside.solution { atoms = c.ready.new.atoms } in
@@ -27,7 +27,7 @@ make_event-requires c =
 pub invariant_of-self-in-Ok-true : goal.invariant_of-self-in-Ok-true
 invariant_of-self-in-Ok-true c =
     let sound : (m : Numbered) → replay c.self.inside.program c.self.inside.journal ≡ Some m → IsSound m =
-    subst (λ (b : Kept). (m : Numbered) → solution b ≡ Some m → IsSound m) (sym c.self.view_is) c.is_sound.ensures in
+    subst (λ (b : BookKept). (m : Numbered) → solution b ≡ Some m → IsSound m) (sym c.self.view_is) c.is_sound.ensures in
     let o = replay c.self.inside.program c.self.inside.journal in
     let old = c.ready.new.older.table in
     let n : Numbered = record c.self.inside.solution { atoms = c.ready.new.atoms } in
@@ -46,7 +46,7 @@ invariant_of-self-in-Ok-true c =
 pub returns-in-Ok-true-clause-done : goal.returns-in-Ok-true-clause-done
 returns-in-Ok-true-clause-done c =
     let sound : (m : Numbered) → replay c.self.inside.program c.self.inside.journal ≡ Some m → IsSound m =
-    subst (λ (b : Kept). (m : Numbered) → solution b ≡ Some m → IsSound m) (sym c.self.view_is) c.is_sound.ensures in
+    subst (λ (b : BookKept). (m : Numbered) → solution b ≡ Some m → IsSound m) (sym c.self.view_is) c.is_sound.ensures in
     let o = replay c.self.inside.program c.self.inside.journal in
     let old = c.ready.new.older.table in
     let n : Numbered = record c.self.inside.solution { atoms = c.ready.new.atoms } in
@@ -62,7 +62,7 @@ returns-in-Ok-true-clause-done c =
 pub returns-in-Ok-true-clause-reduction : goal.returns-in-Ok-true-clause-reduction
 returns-in-Ok-true-clause-reduction c =
     let sound : (m : Numbered) → replay c.self.inside.program c.self.inside.journal ≡ Some m → IsSound m =
-    subst (λ (b : Kept). (m : Numbered) → solution b ≡ Some m → IsSound m) (sym c.self.view_is) c.is_sound.ensures in
+    subst (λ (b : BookKept). (m : Numbered) → solution b ≡ Some m → IsSound m) (sym c.self.view_is) c.is_sound.ensures in
     let o = replay c.self.inside.program c.self.inside.journal in
     let old = c.ready.new.older.table in
     let n : Numbered = record c.self.inside.solution { atoms = c.ready.new.atoms } in
@@ -93,7 +93,7 @@ invariant_of-self-in-Ok-false c =
 pub returns-in-Ok-false-clause-done : goal.returns-in-Ok-false-clause-done
 returns-in-Ok-false-clause-done c =
     let sound : (m : Numbered) → replay c.self.inside.program c.self.inside.journal ≡ Some m → IsSound m =
-    subst (λ (b : Kept). (m : Numbered) → solution b ≡ Some m → IsSound m) (sym c.self.view_is) c.is_sound.ensures in
+    subst (λ (b : BookKept). (m : Numbered) → solution b ≡ Some m → IsSound m) (sym c.self.view_is) c.is_sound.ensures in
     let o = replay c.self.inside.program c.self.inside.journal in
     let old = c.ready.new.older.table in
     let n : Numbered = record c.self.inside.solution { atoms = c.ready.new.atoms } in

@@ -3,14 +3,14 @@ use Rattle.std.proofs.Common.{◌≡◌, Some, sym, ◌∙◌, subst}
 use Rattle.chem_model.specs.declared.numbered.Numbered.{Numbered}
 use Rattle.chem_model.specs.Sound.{IsSound}
 use Rattle.chem_model.specs.Apply.{replay}
-use Rattle.trace_history.specs.Kept.{Kept, solution}
+use Rattle.trace_history.specs.Kept.{BookKept, solution}
 use Rattle.trace_history.proofs.Holding.{possible_whole, enabled_in}
 use Rattle.trace_history.proofs.book.Book.enabled.Goals as goal
 
 pub returns : goal.returns
 returns c =
     let sound : (m : Numbered) → replay c.self.inside.program c.self.inside.journal ≡ Some m → IsSound m =
-    subst (λ (b : Kept). (m : Numbered) → solution b ≡ Some m → IsSound m) (sym c.self.view_is) c.is_sound.ensures in
+    subst (λ (b : BookKept). (m : Numbered) → solution b ≡ Some m → IsSound m) (sym c.self.view_is) c.is_sound.ensures in
     let o = replay c.self.inside.program c.self.inside.journal in
     let old = c.self.inside.older.table in
     let n = c.self.inside.solution in

@@ -5,7 +5,7 @@ use Rattle.std.proofs.lemmas.Result.{IfOk-weaker, IfErr-weaker}
 use Rattle.chem_model.specs.declared.numbered.Numbered.{Numbered}
 use Rattle.chem_model.specs.Sound.{IsSound}
 use Rattle.chem_model.specs.Apply.{replay}
-use Rattle.trace_history.specs.Kept.{Kept, solution}
+use Rattle.trace_history.specs.Kept.{BookKept, solution}
 use Rattle.trace_history.specs.Book.{IsStuck, Finds}
 use Rattle.trace_history.specs.inside.Search.{IsFound}
 use Rattle.trace_history.specs.inside.Older.{whole}
@@ -16,7 +16,7 @@ use Rattle.trace_history.proofs.book.Book.first_enabled.Goals as goal
 pub first_event-requires-clause-all : goal.first_event-requires-clause-all
 first_event-requires-clause-all c =
     let sound : (m : Numbered) → replay c.self.inside.program c.self.inside.journal ≡ Some m → IsSound m =
-    subst (λ (b : Kept). (m : Numbered) → solution b ≡ Some m → IsSound m) (sym c.self.view_is) c.is_sound.ensures in
+    subst (λ (b : BookKept). (m : Numbered) → solution b ≡ Some m → IsSound m) (sym c.self.view_is) c.is_sound.ensures in
     let o = replay c.self.inside.program c.self.inside.journal in
     let old = c.self.inside.older.table in
     let n = c.self.inside.solution in
@@ -26,7 +26,7 @@ first_event-requires-clause-all c =
 pub first_event-requires-clause-sound : goal.first_event-requires-clause-sound
 first_event-requires-clause-sound c =
     let sound : (m : Numbered) → replay c.self.inside.program c.self.inside.journal ≡ Some m → IsSound m =
-    subst (λ (b : Kept). (m : Numbered) → solution b ≡ Some m → IsSound m) (sym c.self.view_is) c.is_sound.ensures in
+    subst (λ (b : BookKept). (m : Numbered) → solution b ≡ Some m → IsSound m) (sym c.self.view_is) c.is_sound.ensures in
     let o = replay c.self.inside.program c.self.inside.journal in
     let old = c.self.inside.older.table in
     let n = c.self.inside.solution in
@@ -36,7 +36,7 @@ first_event-requires-clause-sound c =
 pub returns-clause-first : goal.returns-clause-first
 returns-clause-first c =
     let sound : (m : Numbered) → replay c.self.inside.program c.self.inside.journal ≡ Some m → IsSound m =
-    subst (λ (b : Kept). (m : Numbered) → solution b ≡ Some m → IsSound m) (sym c.self.view_is) c.is_sound.ensures in
+    subst (λ (b : BookKept). (m : Numbered) → solution b ≡ Some m → IsSound m) (sym c.self.view_is) c.is_sound.ensures in
     let o = replay c.self.inside.program c.self.inside.journal in
     let old = c.self.inside.older.table in
     let n = c.self.inside.solution in
@@ -48,7 +48,7 @@ returns-clause-first c =
 pub returns-clause-site : goal.returns-clause-site
 returns-clause-site c =
     let sound : (m : Numbered) → replay c.self.inside.program c.self.inside.journal ≡ Some m → IsSound m =
-    subst (λ (b : Kept). (m : Numbered) → solution b ≡ Some m → IsSound m) (sym c.self.view_is) c.is_sound.ensures in
+    subst (λ (b : BookKept). (m : Numbered) → solution b ≡ Some m → IsSound m) (sym c.self.view_is) c.is_sound.ensures in
     let o = replay c.self.inside.program c.self.inside.journal in
     let old = c.self.inside.older.table in
     let n = c.self.inside.solution in
@@ -60,7 +60,7 @@ returns-clause-site c =
 pub returns-clause-memory : goal.returns-clause-memory
 returns-clause-memory c =
     let sound : (m : Numbered) → replay c.self.inside.program c.self.inside.journal ≡ Some m → IsSound m =
-    subst (λ (b : Kept). (m : Numbered) → solution b ≡ Some m → IsSound m) (sym c.self.view_is) c.is_sound.ensures in
+    subst (λ (b : BookKept). (m : Numbered) → solution b ≡ Some m → IsSound m) (sym c.self.view_is) c.is_sound.ensures in
     let o = replay c.self.inside.program c.self.inside.journal in
     let old = c.self.inside.older.table in
     let n = c.self.inside.solution in

@@ -4,7 +4,7 @@ use Rattle.chem_model.specs.declared.event.Event.{Event}
 use Rattle.chem_model.specs.declared.numbered.Numbered.{Numbered}
 use Rattle.chem_model.specs.Sound.{IsSound}
 use Rattle.chem_model.specs.Apply.{apply, replay}
-use Rattle.trace_history.specs.Kept.{Kept, solution}
+use Rattle.trace_history.specs.Kept.{BookKept, solution}
 use Rattle.trace_history.proofs.Quiets.{stuck_book, quiet_book}
 use Rattle.trace_history.proofs.Holding.{whole_sound, base_sound, left_sound, found_left, stuck_whole}
 use Rattle.trace_history.proofs.book.Book.quiet.Goals as goal
@@ -12,7 +12,7 @@ use Rattle.trace_history.proofs.book.Book.quiet.Goals as goal
 pub is_stuck-requires-clause-all : goal.is_stuck-requires-clause-all
 is_stuck-requires-clause-all c =
     let sound : (m : Numbered) → replay c.self.inside.program c.self.inside.journal ≡ Some m → IsSound m =
-    subst (λ (b : Kept). (m : Numbered) → solution b ≡ Some m → IsSound m) (sym c.self.view_is) c.is_sound.ensures in
+    subst (λ (b : BookKept). (m : Numbered) → solution b ≡ Some m → IsSound m) (sym c.self.view_is) c.is_sound.ensures in
     let o = replay c.self.inside.program c.self.inside.journal in
     let old = c.self.inside.older.table in
     let n = c.self.inside.solution in
@@ -22,7 +22,7 @@ is_stuck-requires-clause-all c =
 pub is_stuck-requires-clause-sound : goal.is_stuck-requires-clause-sound
 is_stuck-requires-clause-sound c =
     let sound : (m : Numbered) → replay c.self.inside.program c.self.inside.journal ≡ Some m → IsSound m =
-    subst (λ (b : Kept). (m : Numbered) → solution b ≡ Some m → IsSound m) (sym c.self.view_is) c.is_sound.ensures in
+    subst (λ (b : BookKept). (m : Numbered) → solution b ≡ Some m → IsSound m) (sym c.self.view_is) c.is_sound.ensures in
     let o = replay c.self.inside.program c.self.inside.journal in
     let old = c.self.inside.older.table in
     let n = c.self.inside.solution in
@@ -32,7 +32,7 @@ is_stuck-requires-clause-sound c =
 pub returns-clause-stuck : goal.returns-clause-stuck
 returns-clause-stuck c =
     let sound : (m : Numbered) → replay c.self.inside.program c.self.inside.journal ≡ Some m → IsSound m =
-    subst (λ (b : Kept). (m : Numbered) → solution b ≡ Some m → IsSound m) (sym c.self.view_is) c.is_sound.ensures in
+    subst (λ (b : BookKept). (m : Numbered) → solution b ≡ Some m → IsSound m) (sym c.self.view_is) c.is_sound.ensures in
     let o = replay c.self.inside.program c.self.inside.journal in
     let old = c.self.inside.older.table in
     let n = c.self.inside.solution in
@@ -45,7 +45,7 @@ returns-clause-stuck c =
 pub returns-clause-machine : goal.returns-clause-machine
 returns-clause-machine c =
     let sound : (m : Numbered) → replay c.self.inside.program c.self.inside.journal ≡ Some m → IsSound m =
-    subst (λ (b : Kept). (m : Numbered) → solution b ≡ Some m → IsSound m) (sym c.self.view_is) c.is_sound.ensures in
+    subst (λ (b : BookKept). (m : Numbered) → solution b ≡ Some m → IsSound m) (sym c.self.view_is) c.is_sound.ensures in
     let o = replay c.self.inside.program c.self.inside.journal in
     let old = c.self.inside.older.table in
     let n = c.self.inside.solution in

@@ -3,7 +3,7 @@ use Rattle.std.proofs.Common.{List, [], ◌∷◌, ◌++◌, ap, ◌∙◌, cond
 use Rattle.std.specs.Map.{values_of}
 use Rattle.indexmap.specs.IndexMap.{insert_entry}
 use Rattle.chem_model.specs.declared.name.Name.{Name}
-use Rattle.trace_text.specs.TraceText.{is_in}
+use Rattle.trace_text.specs.TraceText.{is_among}
 use Rattle.trace_text.proofs.Keys.{same_key, keyed_after, values_insert}
 use Rattle.trace_text.proofs.tables.Ranks.add.Goals as goal
 
@@ -15,4 +15,4 @@ returns c =
     ap values_of c.in_ok-insert.ensures.entries
     ∙ (ap (λ k. values_of (insert_entry same_key c.self.inside.map.entries k c.args.name)) c.key_of.ensures
     ∙ (values_insert c.args.name c.self.inside.map.entries c.self.invariant
-    ∙ ap (λ (names : List Name). cond (not (is_in c.args.name names)) (names ++ c.args.name ∷ []) names) c.self.view_is))
+    ∙ ap (λ (names : List Name). cond (not (is_among names c.args.name)) (names ++ c.args.name ∷ []) names) c.self.view_is))
