@@ -11,7 +11,7 @@ use Rattle.chem_model.specs.Solution.{Solution, Defs, Procs, coded_located_proce
 use Rattle.chem_model.specs.Solution.{coded_located_definition, root, live, born, at}
 use Rattle.chem_model.specs.NewNames.{NewNames}
 
--- one step of heating, from s to t (cooling is the converse relation, and no run needs it)
+-- one step of heating, from s to t
 pub data Heats (s t : Solution) : Type 0 where
   -- a parallel composition is replaced by its members: P | Q becomes P and Q, and 0 vanishes
   par : (l : Loc) (ps : Processes) (rest : Procs)
@@ -39,3 +39,7 @@ pub data Heats (s t : Solution) : Type 0 where
         procs = one coded_located_process (a, p) ⊕ s.procs;
       }
       → Heats s t
+
+-- one step of cooling, the converse; no run needs it
+abbrev pub Cools : Solution → Solution → Type 0
+Cools s t = Heats t s

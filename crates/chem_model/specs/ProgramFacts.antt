@@ -1,11 +1,11 @@
 -- A program, and the facts that its type keeps.
 use Rattle.std.specs.Prelude.{◌≡◌, ℕ, ◌+◌, ◌≤◌, ◌<◌, ◌↔◌, List, [], ◌∷◌, length, true}
-use Rattle.std.specs.List.{All}
 use Rattle.chem_model.specs.declared.name.Name.{Name}
 use Rattle.chem_model.specs.declared.name.Name.TheVariants as name
 use Rattle.chem_model.specs.declared.name.Ref.TheVariants.{Binder}
 use Rattle.chem_model.specs.declared.program.SeenDecl.{SeenDecl}
 use Rattle.chem_model.specs.declared.program.SiteTerm.{SiteTerm}
+use Rattle.chem_model.specs.Each.{Each}
 use Rattle.chem_model.specs.Process.{Place, Definitions, no_definition, and_also, definitions}
 use Rattle.chem_model.specs.Binders.{block, once, is_among, bound_in_definitions, definition_nodes}
 use Rattle.chem_model.specs.Scope.{IsBlock, AreRulesAndPlaces, AreDefinitions}
@@ -45,7 +45,7 @@ pub record IsProgram (p : ProgramTerms) : Type 0 where
   pub site_level : (b : ℕ) → (b < p.tops) ↔ (is_among (block (places p.sites)) b ≡ true)
   -- the sites are one block of rules and places of rules
   pub one_block : IsBlock (places p.sites)
-  pub levels : All (λ s. AreRulesAndPlaces (definitions s.defs)) p.sites
+  pub levels : Each (λ s. AreRulesAndPlaces (definitions s.defs)) p.sites
   -- patterns, blocks within and scopes are right, and each known name is a declared observed name
   pub terms : AreDefinitions (IsDeclared (length p.seen)) (block (places p.sites)) (places p.sites)
-  pub counts : All (λ d. d.count ≤ 255) p.seen
+  pub counts : Each (λ d. d.count ≤ 255) p.seen

@@ -1,10 +1,11 @@
 -- What every term of a program keeps: its patterns, its blocks, and the scope of its binders.
 use Rattle.std.specs.Prelude.{◌≡◌, ◌≢◌, ℕ, ◌≤◌, ◌<◌, List, ◌++◌, length, true, false, Option, None}
-use Rattle.std.specs.List.{All, AllPairs}
+use Rattle.std.specs.List.{AllPairs}
 use Rattle.chem_model.specs.declared.name.Name.{Name}
 use Rattle.chem_model.specs.declared.name.Ref.{Ref}
 use Rattle.chem_model.specs.declared.name.Ref.TheVariants.{Binder, Known}
 use Rattle.chem_model.specs.declared.name.Pat.{Pat}
+use Rattle.chem_model.specs.Each.{Each}
 use Rattle.chem_model.specs.Process.{Process, Msg, Par, Def, Go, Fail, Halt, Processes, none}
 use Rattle.chem_model.specs.Process.{one_more, Definition, Rule, Place, Definitions, no_definition}
 use Rattle.chem_model.specs.Process.{and_also}
@@ -20,7 +21,7 @@ pub record IsPattern (ps : List Pat) : Type 0 where
   pub some : 0 < length ps
   pub channels : AllPairs (λ p q. p.on ≢ q.on) ps
   pub params : (b : ℕ) → times (params_of ps) b ≤ 1
-  pub short : All (λ p. length p.params ≤ 255) ps
+  pub short : Each (λ p. length p.params ≤ 255) ps
 
 -- definitions that are rules alone
 abbrev pub AreRules : Definitions → Type 0
@@ -50,9 +51,9 @@ Agree x y = x.1.on ≡ y.1.on → (x.0 ≡ y.0) × (length x.1.params ≡ length
 
 -- a block defines binders: channels, each at one location with one count, and locations, each once
 pub record IsBlock (ds : Definitions) : Type 0 where
-  pub channels : All (λ x. IsBinder x.1.on) (patterns_of None ds)
+  pub channels : Each (λ x. IsBinder x.1.on) (patterns_of None ds)
   pub places : AreNamed ds
-  pub apart : All (λ x. (b : ℕ) → x.1.on ≡ Binder b → is_among (places_of ds) b ≡ false)
+  pub apart : Each (λ x. (b : ℕ) → x.1.on ≡ Binder b → is_among (places_of ds) b ≡ false)
       (patterns_of None ds)
   pub one_place : (b : ℕ) → times (places_of ds) b ≤ 1
   pub agree : AllPairs Agree (patterns_of None ds)
@@ -67,7 +68,7 @@ IsInScope known scope (Known n) = known n
 abbrev mutual
   pub IsTerm : (Name → Type 0) → List ℕ → Process → Type 0
   IsTerm known scope (Msg x vs) =
-      IsInScope known scope x × All (IsInScope known scope) vs × (length vs ≤ 255)
+      IsInScope known scope x × Each (IsInScope known scope) vs × (length vs ≤ 255)
   IsTerm known scope (Par ps) = AreTerms known scope ps
   IsTerm known scope (Def ds p) =
       IsBlock ds × AreRulesAndPlaces ds × AreDefinitions known (block ds ++ scope) ds

@@ -1,12 +1,11 @@
 -- What tokens stand for a text, and what its first lexical fault is.
 use Rattle.std.specs.Prelude.{◌≡◌, ◌≢◌, ◌⊎◌, ℕ, ◌+◌, ◌-◌, ◌≤◌, ◌<◌, Bool, false, IsTrue}
 use Rattle.std.specs.Prelude.{List, [], ◌∷◌, ◌++◌, length, take, drop, Result, Ok, Err}
-use Rattle.std.specs.List.{All}
 use Rattle.join_base.specs.declared.fault.Kind.{Kind}
 use Rattle.join_base.specs.declared.fault.Kind.TheVariants as fault_kind
 use Rattle.join_base.specs.declared.fault.Front.{Front}
 use Rattle.join_base.specs.declared.fault.Front.TheVariants as front
-use Rattle.chem_model.specs.Each.{IsIn}
+use Rattle.chem_model.specs.Each.{Each, IsIn}
 use Rattle.join_lex.specs.declared.token.Kind2.{Kind2}
 use Rattle.join_lex.specs.declared.token.Kind2.TheVariants as kind
 use Rattle.join_lex.specs.declared.token.Token.{Token}
@@ -96,7 +95,7 @@ IsSpelledAt version text token =
 
 -- Where these are the tokens of the text, each span holds its token's spelling.
 abbrev pub HoldSpellings : Version → List ℕ → TokensOfText → Type 0
-HoldSpellings version text t = AreTokensOf version t text → All (IsSpelledAt version text) t.list
+HoldSpellings version text t = AreTokensOf version t text → Each (IsSpelledAt version text) t.list
 
 -- At the front of the rest stands a byte that begins neither blank, comment nor token.
 abbrev pub NoToken : Version → List ℕ → Type 0

@@ -1,7 +1,8 @@
 -- The tokens of a text as contracts see them, and the facts that their type keeps.
 use Rattle.std.specs.Prelude.{ℕ, ◌≤◌, ◌<◌, List, length}
-use Rattle.std.specs.List.{All, AllPairs}
+use Rattle.std.specs.List.{AllPairs}
 use Rattle.join_lex.specs.declared.token.Token.{Token}
+use Rattle.chem_model.specs.Each.{Each}
 use Rattle.join_lex.specs.Spelling.{first_version, IsOfVersion}
 
 -- the tokens in order, and how many bytes the text has
@@ -12,8 +13,8 @@ pub record TokensOfText : Type 0 where
 pub record AreTokens (t : TokensOfText) : Type 0 where
   pub few : length t.list ≤ 1048576
   -- the spans rise and end within the text
-  pub spans : All (λ token. token.span.from < token.span.upto) t.list
+  pub spans : Each (λ token. token.span.from < token.span.upto) t.list
   pub rise : AllPairs (λ one later. one.span.upto ≤ later.span.from) t.list
-  pub within : All (λ token. token.span.upto ≤ t.length) t.list
+  pub within : Each (λ token. token.span.upto ≤ t.length) t.list
   -- identifiers are identifiers, and numbers are at most 255
-  pub words : All (λ token. IsOfVersion first_version token.kind) t.list
+  pub words : Each (λ token. IsOfVersion first_version token.kind) t.list
