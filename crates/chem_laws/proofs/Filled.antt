@@ -1,5 +1,5 @@
 -- Filling by a map that names none of a block's binders leaves the block.
-use Rattle.std.proofs.Common.{◌≡◌, ℕ, ◌≤◌, List, [], ◌∷◌, ◌++◌, Option, Some, None, false, refl, sym, ap, ◌∙◌, subst, All, AllPairs}
+use Rattle.std.proofs.Common.{◌≡◌, ℕ, ◌≤◌, List, [], ◌∷◌, ◌++◌, Option, Some, None, false, refl, sym, ap, ◌∙◌, subst, AllPairs}
 use Rattle.chem_model.specs.declared.name.Loc.{Loc}
 use Rattle.chem_model.specs.declared.name.Name.{Name}
 use Rattle.chem_model.specs.declared.name.Ref.{Ref}
@@ -106,10 +106,10 @@ module _ (m : Naming) where
       let same = sym (patterns_left None ds h) in
       let names = sym (places_left ds h) in
       record {
-        channels = subst (λ xs. All (λ x. IsBinder x.1.on) xs) same is.channels;
+        channels = subst (λ xs. Each (λ x. IsBinder x.1.on) xs) same is.channels;
         places = are_named_left ds h is.places;
-        apart = subst (λ bs. All (λ x. (b : ℕ) → x.1.on ≡ Binder b → is_among bs b ≡ false) (patterns_of None (fill_definitions m ds))) names
-            (subst (λ xs. All (λ x. (b : ℕ) → x.1.on ≡ Binder b → is_among (places_of ds) b ≡ false) xs) same is.apart);
+        apart = subst (λ bs. Each (λ x. (b : ℕ) → x.1.on ≡ Binder b → is_among bs b ≡ false) (patterns_of None (fill_definitions m ds))) names
+            (subst (λ xs. Each (λ x. (b : ℕ) → x.1.on ≡ Binder b → is_among (places_of ds) b ≡ false) xs) same is.apart);
         one_place = subst (λ bs. (b : ℕ) → times bs b ≤ 1) names is.one_place;
         agree = subst (λ xs. AllPairs Agree xs) same is.agree;
       }

@@ -1,7 +1,7 @@
 -- A term that is filled keeps what a program's terms keep.
 use Rattle.std.proofs.Common.{◌≡◌, ◌≢◌, ℕ, ◌+◌, ◌≤◌, List, [], ◌∷◌, ◌++◌, length, Option, Some, None, Bool, true, false, cond, refl, sym, ap, ◌∙◌, subst, arith, ◌==◌, ◌⊎◌, inl, inr, All, AllPairs}
+use Rattle.std.proofs.lemmas.List.Elements.{All-nil, All-cons}
 use Rattle.std.specs.Prelude.{is_some}
-use Rattle.std.proofs.lemmas.List.Elements.{All-nil, All-cons, All-head, All-tail}
 use Rattle.std.proofs.lemmas.List.Kept.{AllPairs-cons}
 use Rattle.chem_model.specs.declared.name.Name.{Name}
 use Rattle.chem_model.specs.declared.name.Ref.{Ref}
@@ -98,11 +98,10 @@ module _ (Q : Name → Type 0) (m : Naming) (names : Each (λ (e : Named). Q e.n
       go None e (inr f) = f
   ref_closed scope rest reach (Known n) h = h
 
-  pub refs_closed : (scope rest : List ℕ) → Reaches m scope rest → (vs : List Ref) → All (IsInScope Q scope) vs → All (IsInScope Q rest) (fill_refs m vs)
-  refs_closed scope rest reach [] h = All-nil (IsInScope Q rest)
+  pub refs_closed : (scope rest : List ℕ) → Reaches m scope rest → (vs : List Ref) → Each (IsInScope Q scope) vs → Each (IsInScope Q rest) (fill_refs m vs)
+  refs_closed scope rest reach [] h = tt
   refs_closed scope rest reach (v ∷ vs) h =
-      All-cons (IsInScope Q rest) (fill_ref m v) (fill_refs m vs) (ref_closed scope rest reach v (All-head (IsInScope Q scope) v vs h))
-      (refs_closed scope rest reach vs (All-tail (IsInScope Q scope) v vs h))
+      (ref_closed scope rest reach v h.0, refs_closed scope rest reach vs h.1)
 
   pub refs_long : (vs : List Ref) → length (fill_refs m vs) ≡ length vs
   refs_long [] = refl
@@ -158,11 +157,9 @@ module _ (m : Naming) where
   pats_long [] = refl
   pats_long (p ∷ ps) = omega (arith, pats_long ps)
 
-  pats_short : (ps : List Pat) → All (λ (p : Pat). length p.params ≤ 255) ps → All (λ (p : Pat). length p.params ≤ 255) (fill_pats m ps)
-  pats_short [] h = All-nil (λ (p : Pat). length p.params ≤ 255)
-  pats_short (p ∷ ps) h =
-      All-cons (λ (q : Pat). length q.params ≤ 255) (record { on = fill_ref m p.on; params = p.params }) (fill_pats m ps) (All-head (λ (q : Pat). length q.params ≤ 255) p ps h)
-      (pats_short ps (All-tail (λ (q : Pat). length q.params ≤ 255) p ps h))
+  pats_short : (ps : List Pat) → Each (λ (p : Pat). length p.params ≤ 255) ps → Each (λ (p : Pat). length p.params ≤ 255) (fill_pats m ps)
+  pats_short [] h = tt
+  pats_short (p ∷ ps) h = (h.0, pats_short ps h.1)
 
   others_differ : (r : Ref) (ps : List Pat) → Each (λ (q : Pat). r ≡ fill_ref m q.on → ⊥) ps → All (λ (q : Pat). r ≢ q.on) (fill_pats m ps)
   others_differ r [] h = All-nil (λ (q : Pat). r ≢ q.on)

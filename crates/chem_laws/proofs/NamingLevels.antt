@@ -1,6 +1,5 @@
 -- The levels of a block: its own channels, and of each place its name and its channels, all apart.
-use Rattle.std.proofs.Common.{◌≡◌, ℕ, ◌+◌, ◌<◌, ◌≤◌, List, [], ◌∷◌, ◌++◌, Option, Some, None, Bool, true, false, cond, refl, sym, ap, ◌∙◌, subst, suc, zero, arith, ◌==◌, ◌||◌, ◌⊎◌, inl, inr, eq-eqb, eqb-true, All, AllPairs}
-use Rattle.std.proofs.lemmas.List.Elements.{All-head, All-tail}
+use Rattle.std.proofs.Common.{◌≡◌, ℕ, ◌+◌, ◌<◌, ◌≤◌, List, [], ◌∷◌, ◌++◌, Option, Some, None, Bool, true, false, cond, refl, sym, ap, ◌∙◌, subst, suc, zero, arith, ◌==◌, ◌||◌, ◌⊎◌, inl, inr, eq-eqb, eqb-true, AllPairs}
 use Rattle.chem_model.specs.declared.name.Ref.{Ref}
 use Rattle.chem_model.specs.declared.name.Ref.TheVariants.{Binder, Known}
 use Rattle.chem_model.specs.declared.name.Pat.{Pat}
@@ -8,7 +7,7 @@ use Rattle.chem_model.specs.Process.{Rule, Place, Definitions, no_definition, an
 use Rattle.chem_model.specs.Binders.{binder_of, channels_of, block, places_of, at, patterns_of, is_among, times}
 use Rattle.chem_model.specs.Scope.{IsBinder, AreRules, AreRulesAndPlaces, AreNamed, Agree, IsBlock}
 use Rattle.chem_model.specs.Each.{Each, IsIn}
-use Rattle.chem_laws.proofs.Lists.{either_true, is_false}
+use Rattle.chem_laws.proofs.Lists.{either_true, is_false, all_each}
 use Rattle.chem_laws.proofs.Terms.{among-append, times-cons, times-append}
 
 -- ---- how often a binder stands in a list
@@ -36,20 +35,20 @@ module _ {X : Type 0} where
   in_right x [] ys h = h
   in_right x (z ∷ xs) ys h = inr (in_right x xs ys h)
 
-  pub all_in : (P : X → Type 0) (xs : List X) → All P xs → (x : X) → IsIn x xs → P x
+  pub all_in : (P : X → Type 0) (xs : List X) → Each P xs → (x : X) → IsIn x xs → P x
   all_in P [] h x i = absurd i
-  all_in P (y ∷ ys) h x (inl e) = subst P (sym e) (All-head P y ys h)
-  all_in P (y ∷ ys) h x (inr i) = all_in P ys (All-tail P y ys h) x i
+  all_in P (y ∷ ys) h x (inl e) = subst P (sym e) h.0
+  all_in P (y ∷ ys) h x (inr i) = all_in P ys h.1 x i
 
 -- two patterns of one channel stand at one location
 pub same_place : (xs : List (Option Ref × Pat)) → AllPairs Agree xs → (x y : Option Ref × Pat) → IsIn x xs → IsIn y xs → x.1.on ≡ y.1.on → x.0 ≡ y.0
 same_place [] h x y i j e = absurd i
 same_place (z ∷ zs) h x y (inl e) (inl f) g = ap (λ w. w.0) (e ∙ sym f)
 same_place (z ∷ zs) h x y (inl e) (inr j) g =
-    let first : All (Agree z) zs = λ k d within. h zero (suc k) d (omega arith) (omega arith) in
+    let first : Each (Agree z) zs = all_each (Agree z) zs (λ k d within. h zero (suc k) d (omega arith) (omega arith)) in
     ap (λ w. w.0) e ∙ (all_in (Agree z) zs first y j (ap (λ w. w.1.on) (sym e) ∙ g)).0
 same_place (z ∷ zs) h x y (inr i) (inl f) g =
-    let first : All (Agree z) zs = λ k d within. h zero (suc k) d (omega arith) (omega arith) in
+    let first : Each (Agree z) zs = all_each (Agree z) zs (λ k d within. h zero (suc k) d (omega arith) (omega arith)) in
     sym (ap (λ w. w.0) f ∙ (all_in (Agree z) zs first x i (ap (λ w. w.1.on) (sym f) ∙ sym g)).0)
 same_place (z ∷ zs) h x y (inr i) (inr j) g = same_place zs (λ k n d below within. h (suc k) (suc n) d (omega arith) (omega arith)) x y i j g
 

@@ -28,7 +28,7 @@ use Rattle.chem_model.specs.Opening.{counts_of, root_of, roots, level_births, si
 use Rattle.chem_model.specs.Sound.{IsSound, IsNameOf}
 use Rattle.chem_model.specs.Runs.{only_roots, definitions_at, processes_at}
 use Rattle.chem_model.specs.Laws.{OpeningIsAStart}
-use Rattle.chem_laws.proofs.Lists.{Each-weaker, Each-left, Each-right, above, all_each}
+use Rattle.chem_laws.proofs.Lists.{Each-weaker, Each-left, Each-right, above}
 use Rattle.chem_laws.proofs.Terms.{OnEntries, definitions_on}
 use Rattle.chem_laws.proofs.Places.{standing_left, name_more, definitions_scope_weaker, term_weaker, place_below, name_below}
 use Rattle.chem_laws.proofs.Parts.{is_named, NamingIs, PourSound, LaySound, PourReached, LayReached, PlacesReached, IsPourable, IsLayable, IsBelow, PlacesStand, Others, beside, bodies_left, born_all}
@@ -214,7 +214,7 @@ module _ (naming_is : NamingIs) (pour_sound : PourSound) (lay_sound : LaySound) 
       let m = site_names ts in
       let scope = block (places ts) in
       let whole = of_block (places ts) prog.one_block in
-      let levels = all_each HasLevel ts prog.levels in
+      let levels : Each HasLevel ts = prog.levels in
       let are = sites_are naming_is ts 0 m whole levels (λ b e. refl) in
       let domain : HasDomain scope m = rest_found naming_is ts 0 whole levels in
       let n = named_sites seen ts in

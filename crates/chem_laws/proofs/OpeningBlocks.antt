@@ -8,7 +8,7 @@ use Rattle.chem_model.specs.Process.{Process, Definition, Rule, Place, Definitio
 use Rattle.chem_model.specs.Binders.{binder_of, channels_of, block, defined, places_of, place_of, at, patterns_of, patterns_in, is_among, times}
 use Rattle.chem_model.specs.Scope.{IsBinder, IsBlock, AreNamed, IsNamed, Agree}
 use Rattle.chem_model.specs.Each.{Each}
-use Rattle.chem_laws.proofs.Lists.{Each-weaker, Each-append, Each-left, Each-right, all_each, each_all, EachPair, pairs_each, is_false}
+use Rattle.chem_laws.proofs.Lists.{Each-weaker, Each-append, Each-left, Each-right, EachPair, pairs_each, is_false}
 use Rattle.chem_laws.proofs.OpeningLists.{each_map, all_pairs, pairs_left, pairs_right, pairs_across, pairs_map, among_either, not_among, once_apart}
 use Rattle.chem_laws.proofs.Terms.{among_left, among_right, among_first, times-append, times-cons}
 
@@ -29,18 +29,18 @@ pub record IsBlockAt (l : Option Ref) (ds : Definitions) : Type 0 where
 
 pub of_block : (ds : Definitions) → IsBlock ds → IsBlockAt None ds
 of_block ds h = record {
-  channels = all_each (λ (x : Item). IsBinder x.1.on) (patterns_of None ds) h.channels;
+  channels = h.channels;
   named = h.places;
-  apart = all_each (IsApart (places_of ds)) (patterns_of None ds) h.apart;
+  apart = h.apart;
   one_place = h.one_place;
   agree = pairs_each Agree (patterns_of None ds) h.agree;
 }
 
 pub to_block : (ds : Definitions) → IsBlockAt None ds → IsBlock ds
 to_block ds h = record {
-  channels = each_all (λ (x : Item). IsBinder x.1.on) (patterns_of None ds) h.channels;
+  channels = h.channels;
   places = h.named;
-  apart = each_all (IsApart (places_of ds)) (patterns_of None ds) h.apart;
+  apart = h.apart;
   one_place = h.one_place;
   agree = all_pairs Agree (patterns_of None ds) h.agree;
 }

@@ -1,8 +1,7 @@
 -- Locations and names of a numbered solution, and facts on names in terms.
 use Rattle.std.proofs.Common.{◌≡◌, ℕ, ◌+◌, List, [], ◌∷◌, ◌++◌, Option, Some, None, Bool, true, false, cond, refl, sym, ap, ◌∙◌, subst, arith, ◌&&◌, ◌||◌, ◌<◌, inl, inr, ◌==◌}
 use Rattle.std.proofs.lemmas.Bool.{and_parts, or_left, or_right}
-use Rattle.std.specs.Prelude.{not, slice_index_or, is_some}
-use Rattle.std.specs.List.{All}
+use Rattle.std.specs.Prelude.{not, is_some}
 use Rattle.chem_model.specs.declared.name.Loc.{Loc}
 use Rattle.chem_model.specs.declared.name.Name.{Name}
 use Rattle.chem_model.specs.declared.name.Name.TheVariants as name
@@ -181,8 +180,9 @@ module _ (Q R : Name → Type 0) (f : (n : Name) → Q n → R n) where
   in_scope_weaker scope (Binder b) h = h
   in_scope_weaker scope (Known n) h = f n h
 
-  pub all_in_scope : (scope : List ℕ) (rs : List Ref) → All (IsInScope Q scope) rs → All (IsInScope R scope) rs
-  all_in_scope scope rs h = λ i d lt. in_scope_weaker scope (slice_index_or rs i d) (h i d lt)
+  pub all_in_scope : (scope : List ℕ) (rs : List Ref) → Each (IsInScope Q scope) rs → Each (IsInScope R scope) rs
+  all_in_scope scope [] h = tt
+  all_in_scope scope (r ∷ rs) h = (in_scope_weaker scope r h.0, all_in_scope scope rs h.1)
 
   mutual
     pub term_weaker : (scope : List ℕ) (p : Process) → IsTerm Q scope p → IsTerm R scope p

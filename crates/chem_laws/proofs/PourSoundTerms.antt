@@ -21,7 +21,7 @@ use Rattle.chem_model.specs.NewNames.{IsLocation, OnBinder, NamesBlock}
 use Rattle.chem_model.specs.Numbered.{standing}
 use Rattle.chem_model.specs.Pour.{Drawn, nothing_made, then_made, naming, loc_or, births_of, names_made, lay_rules, rules_made, pour, pour_all, lay_places, lay}
 use Rattle.chem_model.specs.Sound.{IsNameOf, IsKnown, names_in}
-use Rattle.chem_laws.proofs.Lists.{Each-left, Each-right, all_each}
+use Rattle.chem_laws.proofs.Lists.{Each-left, Each-right}
 use Rattle.chem_laws.proofs.Terms.{named_more, def_names_none, none_agrees}
 use Rattle.chem_laws.proofs.Parts.{Closes, is_named, IsGivenAt, IsNaming, NamingIs}
 use Rattle.chem_laws.proofs.Places.{placed_found, closes_more, found_known, ref_known, refs_known}
@@ -92,7 +92,7 @@ module _ (naming_is : NamingIs) (n : Numbered) (s : ℕ) (r : Loc) (rule_filled 
   mutual
     pub pour_is : (p : Process) (scope : List ℕ) (m : Naming) (l : Loc) (k : ℕ) → IsTerm (IsNameOf n) scope p → Closes (IsNameOf n) scope m → ((b : ℕ) → is_named m b + bound_in p b ≤ 1)
         → is_there (standing n.places l) ≡ true → Fits n (pour n.seen s r m l k p) → IsMade n s r k (pour n.seen s r m l k p)
-    pour_is (Msg x vs) scope m l k h c o t f = message_is n s r l k (fill_ref m x) (fill_refs m vs) t (ref_known (IsNameOf n) scope m c x h.0) (refs_known (IsNameOf n) scope m c vs (all_each (IsInScope (IsNameOf n) scope) vs h.1))
+    pour_is (Msg x vs) scope m l k h c o t f = message_is n s r l k (fill_ref m x) (fill_refs m vs) t (ref_known (IsNameOf n) scope m c x h.0) (refs_known (IsNameOf n) scope m c vs h.1)
     pour_is (Par ps) scope m l k h c o t f = pour_all_is ps scope m l k h c o t f
     pour_is (Def ds p) scope m l k h c o t f =
         let d = naming s l ds k in

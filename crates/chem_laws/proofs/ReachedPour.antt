@@ -23,7 +23,7 @@ use Rattle.chem_model.specs.Reduction.{all_known, IsReached, heats, communicates
 use Rattle.chem_model.specs.Numbered.{standing, defs_of, procs_of}
 use Rattle.chem_model.specs.Pour.{naming, births_of, loc_or, nothing_made, then_made, atom_made, out_made, rules_made, lay_rules, known, is_count, message_made, pour, pour_all, lay_places, lay}
 use Rattle.chem_model.specs.Sound.{IsKnown}
-use Rattle.chem_laws.proofs.Lists.{Each-append, all_each, above, append_nil}
+use Rattle.chem_laws.proofs.Lists.{Each-append, above, append_nil}
 use Rattle.chem_laws.proofs.Bags.{one_is}
 use Rattle.chem_laws.proofs.Terms.{fill-twice, fill_definitions-twice, process_weaker, processes_weaker, definitions_weaker, def_names_none, none_agrees, known_again, length_all_known}
 use Rattle.chem_laws.proofs.Within.{same_loc_is}
@@ -206,7 +206,7 @@ module _ (seen : List ℕ) (s : ℕ) (r : Loc) where
       pub pour_leads : (p : Process) (pl : Places) (scope : List ℕ) (m : Naming) (l : Loc) (k : ℕ) → Stands pl k l → IsTerm (Fits pl) scope p → Closes (Fits pl) scope m → IsOnce m p → OnProcess (Under s k) (fill m p)
           → Leads pl k nothing (one coded_located_process (l, fill m p)) (pour seen s r m l k p)
       pour_leads (Msg x vs) pl scope m l k st t c o u =
-          message_leads pl l k (fill_ref m x) (fill_refs m vs) st.is_live (ref_known (Fits pl) scope m c x t.0) (known_again (Fits pl) (fill_refs m vs) (refs_known (Fits pl) scope m c vs (all_each (IsInScope (Fits pl) scope) vs t.1)))
+          message_leads pl l k (fill_ref m x) (fill_refs m vs) st.is_live (ref_known (Fits pl) scope m c x t.0) (known_again (Fits pl) (fill_refs m vs) (refs_known (Fits pl) scope m c vs t.1))
       pour_leads (Par ps) pl scope m l k st t c o u = λ e q tr h.
           let parts = bag coded_located_process (at l (members (fill_all m ps))) in
           let h1 = subst (λ (os : List Out). OnSolution (IsUnder s k) (state pl (nothing ⊕ e) (parts ⊕ q) os)) (append_nil tr)

@@ -83,7 +83,7 @@ module _ (pour_sound : PourSound) (pour_reached : PourReached) where
   continues n l k lives h = record {
     scope = [];
     is_live = lives;
-    term = (known_in_scope (IsNameOf n) k h, λ i d lt. absurd (omega arith), omega arith);
+    term = (known_in_scope (IsNameOf n) k h, tt, omega arith);
     closes = record { covers = λ b e. cc; names = tt };
     once = λ b. omega arith;
   }

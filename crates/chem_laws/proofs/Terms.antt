@@ -19,7 +19,7 @@ use Rattle.chem_model.specs.Reduction.{all_known}
 use Rattle.chem_model.specs.NewNames.{HasDomain}
 use Rattle.chem_model.specs.Pour.{known}
 use Rattle.chem_model.specs.Sound.{IsKnown}
-use Rattle.chem_laws.proofs.Lists.{or_assoc, cond_either, Each-left, Each-right, all_each}
+use Rattle.chem_laws.proofs.Lists.{or_assoc, cond_either, Each-left, Each-right}
 use Rattle.chem_laws.proofs.Parts.{is_named, NamesNone, Agree}
 
 -- ---- a weaker fact
@@ -81,9 +81,9 @@ module _ (Q R : Name → Type 0) (f : (x : Name) → Q x → R x) where
 
   mutual
     pub term_on : (scope : List ℕ) (p : Process) → IsTerm Q scope p → OnProcess R p
-    term_on scope (Msg x vs) h = (ref_on scope x h.0, refs_on scope vs (all_each (IsInScope Q scope) vs h.1))
+    term_on scope (Msg x vs) h = (ref_on scope x h.0, refs_on scope vs h.1)
     term_on scope (Par ps) h = terms_on scope ps h
-    term_on scope (Def ds p) h = (definitions_on (block ds ++ scope) None ds (all_each (λ (x : Option Ref × Pat). IsBinder x.1.on) (patterns_of None ds) h.0.channels) h.0.places h.2, term_on (block ds ++ scope) p h.3)
+    term_on scope (Def ds p) h = (definitions_on (block ds ++ scope) None ds h.0.channels h.0.places h.2, term_on (block ds ++ scope) p h.3)
     term_on scope (Go b k) h = (ref_on scope b h.0, ref_on scope k h.1)
     term_on scope (Fail b k) h = (ref_on scope b h.0, ref_on scope k h.1)
     term_on scope Halt h = tt

@@ -1,5 +1,5 @@
 -- What each level of a program keeps: no binder of its rules has a name of its environment, and each pattern has its channel's count.
-use Rattle.std.proofs.Common.{◌≡◌, ℕ, zero, suc, ◌+◌, ◌≤◌, List, [], ◌∷◌, ◌++◌, ◌==◌, length, Option, Some, None, Bool, true, false, cond, refl, sym, ap, ◌∙◌, subst, arith, inl, inr, All, AllPairs, eqb-true}
+use Rattle.std.proofs.Common.{◌≡◌, ℕ, zero, suc, ◌+◌, ◌≤◌, List, [], ◌∷◌, ◌++◌, ◌==◌, length, Option, Some, None, Bool, true, false, cond, refl, sym, ap, ◌∙◌, subst, arith, inl, inr, AllPairs, eqb-true}
 use Rattle.std.specs.Prelude.{is_some, slice_get}
 use Rattle.chem_model.specs.declared.name.Name.{Name}
 use Rattle.chem_model.specs.declared.name.Ref.{Ref}
@@ -9,17 +9,16 @@ use Rattle.chem_model.specs.declared.program.SiteTerm.{SiteTerm}
 use Rattle.chem_model.specs.Process.{Process, Msg, Par, Def, Go, Fail, Halt, Processes, none, one_more, Rule, Place, Definitions, no_definition, and_also, definitions}
 use Rattle.chem_model.specs.Binders.{at, patterns_of, params_of, block, binder_of, is_among, once, bound_in, bound_in_all, bound_in_definitions}
 use Rattle.chem_model.specs.Scope.{Agree, IsTerm, AreTerms, AreDefinitions}
-use Rattle.chem_model.specs.Each.{Each}
+use Rattle.chem_model.specs.Each.{Each, IsIn}
 use Rattle.chem_model.specs.ProgramFacts.{ProgramTerms, IsProgram, IsDeclared, places}
 use Rattle.chem_model.specs.Fill.{Naming, name_at}
 use Rattle.chem_model.specs.Opening.{site_names}
 use Rattle.chem_laws.proofs.Lists.{Each-append, all_each}
 use Rattle.chem_laws.proofs.Parts.{is_named}
 use Rattle.chem_laws.proofs.Naming.{naming_is}
-use Rattle.chem_model.specs.Each.{IsIn}
 use Rattle.chem_laws.proofs.NamingLevels.{in_left, in_right, all_in}
 use Rattle.chem_laws.proofs.OpeningBlocks.{IsBlockAt, of_block, own_block, other_block}
-use Rattle.chem_laws.proofs.OpeningNames.{HasLevel, rest_found}
+use Rattle.chem_laws.proofs.OpeningNames.{rest_found}
 use Rattle.env_store.specs.Layout.{new_ref, new_in, new_channels, count_ref, counts_in, new_counts, place_order, order, LevelTerm, level_term, levels_of, levels_of_all, levels_of_defs, levels_of_def, levels_of_site, levels_of_sites, levels_of_program}
 use Rattle.env_store.specs.Reading.{position_from, position}
 use Rattle.env_store.proofs.Scoped.{once_least, once-append, order_among}
@@ -37,10 +36,10 @@ same_count : (xs : List (Option Ref × Pat)) → AllPairs Agree xs → (x y : Op
 same_count [] h x y i j e = absurd i
 same_count (z ∷ zs) h x y (inl e) (inl f) g = ap (λ w. length w.1.params) (e ∙ sym f)
 same_count (z ∷ zs) h x y (inl e) (inr j) g =
-    let first : All (Agree z) zs = λ k d within. h zero (suc k) d (omega arith) (omega arith) in
+    let first : Each (Agree z) zs = all_each (Agree z) zs (λ k d within. h zero (suc k) d (omega arith) (omega arith)) in
     ap (λ w. length w.1.params) e ∙ (all_in (Agree z) zs first y j (ap (λ w. w.1.on) (sym e) ∙ g)).1
 same_count (z ∷ zs) h x y (inr i) (inl f) g =
-    let first : All (Agree z) zs = λ k d within. h zero (suc k) d (omega arith) (omega arith) in
+    let first : Each (Agree z) zs = all_each (Agree z) zs (λ k d within. h zero (suc k) d (omega arith) (omega arith)) in
     sym (ap (λ w. length w.1.params) f ∙ (all_in (Agree z) zs first x i (ap (λ w. w.1.on) (sym f) ∙ sym g)).1)
 same_count (z ∷ zs) h x y (inr i) (inr j) g = same_count zs (λ k n d below within. h (suc k) (suc n) d (omega arith) (omega arith)) x y i j g
 
@@ -187,6 +186,6 @@ each_at P (y ∷ xs) (suc n) x h e = each_at P xs n x h.1 e
 pub program_levels : (p : ProgramTerms) → IsProgram p → (n : ℕ) (t : LevelTerm) → slice_get (levels_of_program p) n ≡ Some t → IsLevelTerm (site_names p.sites) t
 program_levels p is n t e =
     let whole = of_block (places p.sites) is.one_block in
-    let domain : (b : ℕ) → is_some (name_at (site_names p.sites) b) ≡ is_among (block (places p.sites)) b = rest_found naming_is p.sites 0 whole (all_each HasLevel p.sites is.levels) in
+    let domain : (b : ℕ) → is_some (name_at (site_names p.sites) b) ≡ is_among (block (places p.sites)) b = rest_found naming_is p.sites 0 whole is.levels in
     let all = sites_levels (site_names p.sites) (IsDeclared (length p.seen)) (block (places p.sites)) p.sites whole is.terms (λ b. omega (arith, is.bound_once b, ap {B = ℕ} (λ t. cond t 1 0) (domain b))) in
     each_at (IsLevelTerm (site_names p.sites)) (levels_of_program p) n t all e

@@ -5,7 +5,6 @@ use Rattle.chem_model.specs.declared.program.SiteTerm.{SiteTerm}
 use Rattle.chem_model.specs.ProgramFacts.{ProgramTerms, IsProgram, places}
 use Rattle.chem_model.specs.Opening.{site_names}
 use Rattle.chem_model.specs.Each.{Each}
-use Rattle.chem_laws.proofs.Lists.{all_each}
 use Rattle.chem_laws.proofs.Naming.{naming_is}
 use Rattle.chem_laws.proofs.OpeningBlocks.{IsBlockAt, of_block, own_block, other_block}
 use Rattle.chem_laws.proofs.OpeningNames.{HasLevel, rest_names, here, later}
@@ -92,4 +91,4 @@ site_levels (t ∷ ts) i m h g same (suc j) u e =
 pub program_sites : (p : ProgramTerms) → IsProgram p → (i : ℕ) (t : SiteTerm) → slice_get p.sites i ≡ Some t → SiteLevel (site_names p.sites) i t
 program_sites p ok i t e =
     let zero_more : 0 + i ≡ i = omega arith in
-    subst (λ k. SiteLevel (site_names p.sites) k t) zero_more (site_levels p.sites 0 (site_names p.sites) (of_block (places p.sites) ok.one_block) (all_each HasLevel p.sites ok.levels) (λ b f. refl) i t e)
+    subst (λ k. SiteLevel (site_names p.sites) k t) zero_more (site_levels p.sites 0 (site_names p.sites) (of_block (places p.sites) ok.one_block) ok.levels (λ b f. refl) i t e)

@@ -9,7 +9,6 @@ use Rattle.chem_model.specs.Binders.{binder_of}
 use Rattle.chem_model.specs.Each.{Each}
 use Rattle.chem_model.specs.Scope.{IsInScope, IsTerm, AreTerms}
 use Rattle.chem_model.specs.Binders.{block}
-use Rattle.chem_laws.proofs.Lists.{all_each}
 use Rattle.chem_model.specs.Fill.{Naming, name_at}
 use Rattle.env_store.specs.declared.code.Slot.{Slot}
 use Rattle.env_store.specs.declared.code.Slot.TheVariants as slot
@@ -63,7 +62,7 @@ module _ (c : CodeParts) (levels : List LevelTerm) (Q : Name → Type 0) (tops :
   mutual
     pub reads_fit : (p : Process) (y scope : List ℕ) (is rest : List Instr) (blocks : List ℕ) → IsTerm Q scope p → Reads c levels tops y p is rest → Fits c (length y) blocks rest → Fits c (length y) blocks is
     reads_fit (Msg x vs) y scope is rest blocks o h f =
-        let args = slots_in c Q tops known known_top y scope vs h.args (all_each (IsInScope Q scope) vs o.1) h.args_are in
+        let args = slots_in c Q tops known known_top y scope vs h.args o.1 h.args_are in
         let few = o.2 in
         subst (Fits c (length y) blocks) (sym h.sends) (slot_in c Q tops known known_top y scope x h.on o.0 h.on_is, args.0, omega (arith, args.1), f)
     reads_fit (Par ps) y scope is rest blocks o h f = all_fit ps y scope is rest blocks o h f

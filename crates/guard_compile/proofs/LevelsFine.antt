@@ -11,7 +11,7 @@ use Rattle.chem_model.specs.Binders.{binder_of, params_of, block, is_among, at, 
 use Rattle.chem_model.specs.Scope.{Agree, AreRules, AreRulesAndPlaces, IsBlock, IsTerm, AreTerms, AreDefinitions}
 use Rattle.chem_model.specs.Each.{Each}
 use Rattle.chem_model.specs.ProgramFacts.{ProgramTerms, IsProgram, IsDeclared, places}
-use Rattle.chem_laws.proofs.Lists.{Each-append, Each-left, Each-right, EachPair, pairs_each, all_each}
+use Rattle.chem_laws.proofs.Lists.{Each-append, Each-left, Each-right, EachPair, pairs_each}
 use Rattle.chem_laws.proofs.Terms.{among_first}
 use Rattle.chem_laws.proofs.OpeningBlocks.{IsBlockAt, of_block, own_block, other_block}
 use Rattle.chem_laws.proofs.OpeningNames.{HasLevel}
@@ -207,4 +207,4 @@ module _ (Q : Name → Type 0) (most : ℕ) where
       (sites_fine ts scope (other_block None (Place (Binder t.name) ds t.body) (places ts) h) g.1 e.1 (omega arith))
 
 pub program_fine : (p : ProgramTerms) → IsProgram p → Each (FineLevel (IsDeclared (length p.seen)) 1048576) (levels_of_program p)
-program_fine p is = sites_fine (IsDeclared (length p.seen)) 1048576 p.sites (block (places p.sites)) (of_block (places p.sites) is.one_block) (all_each HasLevel p.sites is.levels) is.terms is.small
+program_fine p is = sites_fine (IsDeclared (length p.seen)) 1048576 p.sites (block (places p.sites)) (of_block (places p.sites) is.one_block) is.levels is.terms is.small

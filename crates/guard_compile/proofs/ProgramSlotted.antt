@@ -12,7 +12,6 @@ use Rattle.chem_model.specs.Each.{Each}
 use Rattle.chem_model.specs.ProgramFacts.{ProgramTerms, IsProgram, IsDeclared, places}
 use Rattle.chem_model.specs.Fill.{Naming, name_at}
 use Rattle.chem_model.specs.Opening.{site_names}
-use Rattle.chem_laws.proofs.Lists.{all_each}
 use Rattle.chem_laws.proofs.Parts.{is_named}
 use Rattle.chem_laws.proofs.Naming.{naming_is}
 use Rattle.chem_laws.proofs.NamingLevels.{top_channels, block_channels, block_fresh}
@@ -40,12 +39,12 @@ module _ (tops : Naming) (Q : Name → Type 0) (scope : List ℕ) (covers : Cove
 
 -- which binders have a name
 pub top_domain : (p : ProgramTerms) → IsProgram p → (b : ℕ) → is_some (name_at (site_names p.sites) b) ≡ is_among (block (places p.sites)) b
-top_domain p is b = rest_found naming_is p.sites 0 (of_block (places p.sites) is.one_block) (all_each HasLevel p.sites is.levels) b
+top_domain p is b = rest_found naming_is p.sites 0 (of_block (places p.sites) is.one_block) is.levels b
 
 pub program_slotted : (p : ProgramTerms) → IsProgram p → SitesSlotted (site_names p.sites) p.sites
 program_slotted p is =
     let whole = of_block (places p.sites) is.one_block in
-    let levels = all_each HasLevel p.sites is.levels in
+    let levels : Each HasLevel p.sites = is.levels in
     let domain = top_domain p is in
     sites_slotted (site_names p.sites) (IsDeclared (length p.seen)) (block (places p.sites)) (λ b e. inl (domain b ∙ e)) p.sites whole levels is.terms
     (λ b. omega (arith, is.bound_once b, ap {B = ℕ} (λ t. cond t 1 0) (domain b)))

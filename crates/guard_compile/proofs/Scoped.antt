@@ -10,7 +10,7 @@ use Rattle.chem_model.specs.Binders.{binder_of, channels_of, params_of, block, i
 use Rattle.chem_model.specs.Scope.{IsBinder, AreRules, AreRulesAndPlaces, IsInScope, IsTerm, AreTerms, AreDefinitions}
 use Rattle.chem_model.specs.Each.{Each}
 use Rattle.chem_model.specs.Fill.{Naming, name_at}
-use Rattle.chem_laws.proofs.Lists.{append_nil, either_true, all_each}
+use Rattle.chem_laws.proofs.Lists.{append_nil, either_true}
 use Rattle.chem_laws.proofs.Terms.{among-append, among_left, among_right, among_first}
 use Rattle.chem_laws.proofs.Parts.{is_named}
 use Rattle.chem_laws.proofs.NamingLevels.{top_channels, rules_block, block_channels, Fresh, block_fresh}
@@ -74,7 +74,7 @@ module _ (tops : Naming) (Q : Name → Type 0) where
 
   mutual
     pub slotted : (p : Process) (y scope : List ℕ) → Covers y scope → ((b : ℕ) → is_named tops b + once y b + bound_in p b ≤ 1) → IsTerm Q scope p → Slotted tops y p
-    slotted (Msg x vs) y scope h o e = (has_slot y scope h x e.0, have_slots y scope h vs (all_each (IsInScope Q scope) vs e.1))
+    slotted (Msg x vs) y scope h o e = (has_slot y scope h x e.0, have_slots y scope h vs e.1)
     slotted (Par ps) y scope h o e = all_slotted ps y scope h o e
     slotted (Def ds p) y scope h o e =
         let z = y ++ order ds in

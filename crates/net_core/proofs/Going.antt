@@ -9,7 +9,6 @@ use Rattle.chem_model.specs.declared.name.Name.TheVariants as name
 use Rattle.chem_model.specs.declared.event.AtomId.{AtomId}
 use Rattle.chem_model.specs.declared.event.Out.{Out}
 use Rattle.chem_model.specs.declared.numbered.Made.{Made}
-use Rattle.chem_model.specs.Each.{Each}
 use Rattle.wire_packet.specs.declared.packet.Ask.{Ask}
 use Rattle.wire_packet.specs.declared.packet.Ask.TheVariants as request
 use Rattle.wire_packet.specs.declared.packet.Request.{Request}

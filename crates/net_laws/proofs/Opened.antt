@@ -21,13 +21,13 @@ use Rattle.chem_model.specs.Numbered.{standing, place_pairs}
 use Rattle.chem_model.specs.Pour.{lay, pour, add_made, lay_at, pour_at, births_of}
 use Rattle.chem_model.specs.Opening.{root_of, counts_of, site_names, named_sites, open_sites, opening, level_counts}
 use Rattle.chem_model.specs.Sound.{IsSound, IsAtom, IsSettled, IsNameOf}
-use Rattle.chem_laws.proofs.Lists.{Each-left, Each-right, Each-weaker, Each-all, all_each, append_nil}
+use Rattle.chem_laws.proofs.Lists.{Each-left, Each-right, Each-weaker, Each-all, append_nil}
 use Rattle.chem_laws.proofs.Places.{place_pairs-append, standing_left}
 use Rattle.chem_laws.proofs.Bags.{one_self}
 use Rattle.chem_laws.proofs.Within.{same_loc_is, same_loc_refl}
 use Rattle.chem_laws.proofs.Naming.{naming_is}
 use Rattle.chem_laws.proofs.OpeningBlocks.{of_block}
-use Rattle.chem_laws.proofs.OpeningNames.{HasLevel, SitesAre, sites_are}
+use Rattle.chem_laws.proofs.OpeningNames.{SitesAre, sites_are}
 use Rattle.chem_laws.proofs.OpeningSound.{start_sound}
 use Rattle.chem_laws.proofs.Tied.{opening_is_a_start}
 use Rattle.wire_packet.specs.declared.packet.GroupInst.{GroupInst}
@@ -427,7 +427,7 @@ module _ (p : ProgramTerms) (c : CodeParts) (ok : IsProgram p) (kept : IsCode c)
   bare = whole 0 p.sites (unopened c)
 
   are : SitesAre m 0 p.sites
-  are = sites_are naming_is p.sites 0 m (of_block (places p.sites) ok.one_block) (all_each HasLevel p.sites ok.levels) (λ b e. refl)
+  are = sites_are naming_is p.sites 0 m (of_block (places p.sites) ok.one_block) ok.levels (λ b e. refl)
 
   is_bare : IsBare bare (named_sites seen p.sites)
   is_bare = record {
@@ -500,6 +500,6 @@ module _ (p : ProgramTerms) (c : CodeParts) (ok : IsProgram p) (kept : IsCode c)
 pub tops_are_of_sites : TopsAreOfSites
 tops_are_of_sites p c ok is =
     let ts = p.sites in
-    let are = sites_are naming_is ts 0 (site_names ts) (of_block (places ts) ok.one_block) (all_each HasLevel ts ok.levels) (λ b e. refl) in
+    let are = sites_are naming_is ts 0 (site_names ts) (of_block (places ts) ok.one_block) ok.levels (λ b e. refl) in
     let at : Each (λ (l : Loc). l.site < length c.sites) (locs_in (site_names ts)) = subst (λ (n : ℕ). Each (λ (l : Loc). l.site < n) (locs_in (site_names ts))) (sym is.no_other_sites) (tops_of_sites ts are) in
     subst (Each (λ (l : Loc). l.site < length c.sites)) (sym is.tops) at

@@ -22,7 +22,6 @@ use Rattle.chem_model.specs.Pour.{then_made, lay, pour, add_made, lay_at, pour_a
 use Rattle.chem_model.specs.Opening.{root_of, counts_of, site_names, named_sites, open_sites}
 use Rattle.chem_model.specs.Sound.{IsSound}
 use Rattle.chem_laws.proofs.Places.{place_pairs-append, standing_left}
-use Rattle.chem_laws.proofs.Lists.{all_each}
 use Rattle.chem_laws.proofs.Naming.{naming_is}
 use Rattle.chem_laws.proofs.OpeningBlocks.{of_block}
 use Rattle.chem_laws.proofs.OpeningNames.{HasLevel, sites_are}
@@ -140,7 +139,7 @@ module _ (rules_of : GroupInst → List NumberedRule) where
       let seen = counts_of p.seen in
       let m = site_names ts in
       let whole = of_block (places ts) prog.one_block in
-      let levels = all_each HasLevel ts prog.levels in
+      let levels : Each HasLevel ts = prog.levels in
       let are = sites_are naming_is ts 0 m whole levels (λ b e. refl) in
       let sound = start_sound seen ts are in
       let agrees = bare_stands rules_of first (named_sites seen ts) refl refl refl bare in

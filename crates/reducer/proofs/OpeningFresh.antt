@@ -9,17 +9,15 @@ use Rattle.chem_model.specs.declared.program.SiteTerm.{SiteTerm}
 use Rattle.chem_model.specs.Process.{Process, Rule, Place, Definition, Definitions, no_definition, and_also, definitions}
 use Rattle.chem_model.specs.ProgramFacts.{ProgramTerms, IsProgram, places}
 use Rattle.chem_model.specs.Bag.{one, bag}
-use Rattle.chem_model.specs.Each.{Each}
 use Rattle.chem_model.specs.Fill.{Naming, fill_ref}
 use Rattle.chem_model.specs.NewNames.{Pair, coded_pair, pair_of, pairs_of}
 use Rattle.chem_model.specs.Opening.{root_of, counts_of, root_names, level_names, level_counts, site_names}
 use Rattle.chem_model.specs.Pour.{naming, loc_or, lay_rules, rules_made, lay_places, lay_place, lay, pour}
-use Rattle.chem_laws.proofs.Lists.{all_each}
 use Rattle.chem_laws.proofs.Bags.{one_self}
 use Rattle.chem_laws.proofs.Naming.{naming_is}
 use Rattle.chem_laws.proofs.NamingRange.{pairs_of-append}
 use Rattle.chem_laws.proofs.OpeningBlocks.{of_block}
-use Rattle.chem_laws.proofs.OpeningNames.{HasLevel, SitesAre, sites_are, own_naming, pairs_once}
+use Rattle.chem_laws.proofs.OpeningNames.{SitesAre, sites_are, own_naming, pairs_once}
 use Rattle.chem_laws.proofs.PourNumbers.{pour_draws}
 use Rattle.env_store.specs.declared.code.SiteCode.{SiteCode}
 use Rattle.env_store.specs.CodeParts.{CodeParts}
@@ -98,7 +96,7 @@ top_below : (p : ProgramTerms) (c : CodeParts) → IsProgram p → IsCodeOf p c 
 top_below p c ok is i t at l site h =
     let ts = p.sites in
     let q : Pair = (l.site, l.k) in
-    let are : SitesAre (site_names ts) 0 ts = sites_are naming_is ts 0 (site_names ts) (of_block (places ts) ok.one_block) (all_each HasLevel ts ok.levels) (λ b e. refl) in
+    let are : SitesAre (site_names ts) 0 ts = sites_are naming_is ts 0 (site_names ts) (of_block (places ts) ok.one_block) ok.levels (λ b e. refl) in
     let found = top_pairs (site_names ts) l (subst (λ (ls : List Loc). Contains ls l) is.tops h) in
     let once = pairs_once (site_names ts) ts 0 q are in
     let below = once.below (omega (arith, found, pairs_of-append (root_names 0 ts) (level_names 0 ts) q)) in

@@ -6,7 +6,6 @@ use Rattle.std.proofs.lemmas.Bool.Decides.{nat_tests}
 use Rattle.std.proofs.lemmas.List.{take_more_set, drop-set-lt, take_all, drop_all}
 use Rattle.std.proofs.lemmas.List.Folds.{list_any_more}
 use Rattle.chem_model.specs.declared.name.Loc.{Loc}
-use Rattle.chem_model.specs.Each.{Each}
 use Rattle.chem_model.specs.Solution.{same_loc}
 use Rattle.wire_packet.specs.MessageFacts.{MessageParts}
 use Rattle.queue_cells.specs.Grouped.{Queued, but_where}

@@ -4,7 +4,6 @@ use Rattle.std.specs.Prelude.{not, filter, nat_eq, ◌||◌}
 use Rattle.std.proofs.lemmas.Bool.Decides.{nat_tests}
 use Rattle.chem_model.specs.declared.name.Loc.{Loc}
 use Rattle.chem_model.specs.declared.event.AtomId.{AtomId}
-use Rattle.chem_model.specs.Each.{Each}
 use Rattle.chem_model.specs.Solution.{same_loc}
 use Rattle.wire_packet.specs.MessageFacts.{MessageParts}
 use Rattle.wire_packet.specs.declared.packet.Waiting.{Waiting}

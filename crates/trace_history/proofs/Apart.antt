@@ -5,10 +5,9 @@ use Rattle.chem_model.specs.declared.numbered.NumberedAtom.{NumberedAtom}
 use Rattle.chem_model.specs.Bag.{one, bag}
 use Rattle.chem_model.specs.NewNames.{Pair, coded_pair}
 use Rattle.chem_model.specs.Numbered.{atom_pairs}
-use Rattle.chem_model.specs.Each.{Each}
+use Rattle.chem_model.specs.Each.{Each, IsIn}
 use Rattle.chem_model.specs.Apply.{same_atom, atom_at, without}
 use Rattle.chem_laws.proofs.Taking.{same_atom_is, same_atom_refl, atom_pair_found}
-use Rattle.chem_model.specs.Each.{IsIn}
 use Rattle.trace_history.specs.inside.Table.{Adds}
 use Rattle.trace_history.specs.inside.Walk.{or_else}
 use Rattle.trace_history.specs.inside.Older.{Key, channel_of, IsQueued, AreQueued, KeepsKeys, Keeps}

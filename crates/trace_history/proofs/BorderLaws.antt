@@ -5,7 +5,7 @@ use Rattle.chem_model.specs.declared.event.Event.{Event}
 use Rattle.chem_model.specs.declared.event.Event.TheVariants as event
 use Rattle.chem_model.specs.declared.numbered.NumberedAtom.{NumberedAtom}
 use Rattle.chem_model.specs.declared.numbered.Numbered.{Numbered}
-use Rattle.chem_model.specs.Each.{Each}
+use Rattle.chem_model.specs.Each.{Each, IsIn}
 use Rattle.chem_model.specs.Bag.{one, bag}
 use Rattle.chem_model.specs.NewNames.{Pair, coded_pair}
 use Rattle.chem_model.specs.Numbered.{atom_pairs}
@@ -15,7 +15,6 @@ use Rattle.chem_laws.proofs.Bags.{one_is}
 use Rattle.chem_laws.proofs.Lists.{above, zero_or_above, Each-weaker}
 use Rattle.chem_laws.proofs.Taking.{atom_found, atom_pair_found, same_atom_refl}
 use Rattle.trace_history.specs.First.{site_of, site_of_atom, IsFirst}
-use Rattle.chem_model.specs.Each.{IsIn}
 use Rattle.trace_history.proofs.Least.{AtomsDiffer, member_found}
 use Rattle.trace_history.specs.inside.Alike.{AreAlike}
 use Rattle.trace_history.proofs.Alike.{AreAlikeIf}

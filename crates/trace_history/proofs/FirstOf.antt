@@ -1,8 +1,7 @@
 -- The first of a list by an order, looked for from the front.
 use Rattle.std.proofs.Common.{◌≡◌, ℕ, ◌≤◌, length, drop, List, [], ◌∷◌, Option, Some, None, Bool, true, false, cond, refl, ap, sym, ◌∙◌, ◌&&◌, ◌⊎◌, inl, inr}
 use Rattle.std.proofs.lemmas.List.{drop_all}
-use Rattle.chem_model.specs.Each.{Each}
-use Rattle.chem_model.specs.Each.{IsIn}
+use Rattle.chem_model.specs.Each.{Each, IsIn}
 use Rattle.trace_history.specs.inside.Search.{IsFirstOf, first_of, beats}
 
 -- an order: none comes before one that comes before it, and one that comes not before a second, which comes not before a third, comes not before the third

@@ -5,7 +5,7 @@ use Rattle.chem_model.specs.declared.name.Pat.{Pat}
 use Rattle.chem_model.specs.declared.event.AtomId.{AtomId}
 use Rattle.chem_model.specs.declared.numbered.NumberedAtom.{NumberedAtom}
 use Rattle.chem_model.specs.declared.numbered.Numbered.{Numbered}
-use Rattle.chem_model.specs.Each.{Each}
+use Rattle.chem_model.specs.Each.{Each, IsIn}
 use Rattle.chem_model.specs.Process.{Process, Msg, Par, Def, Go, Fail, Halt}
 use Rattle.chem_model.specs.declared.name.Ref.TheVariants.{Binder, Known}
 use Rattle.chem_model.specs.declared.name.Name.TheVariants as name
@@ -15,7 +15,6 @@ use Rattle.chem_model.specs.Reduction.{continuation}
 use Rattle.chem_model.specs.Pour.{pour_at}
 use Rattle.chem_model.specs.Apply.{atom_at, without, with_hosts, with_marks, can_go, can_detect}
 use Rattle.trace_history.specs.inside.Walk.{or_else}
-use Rattle.chem_model.specs.Each.{IsIn}
 use Rattle.trace_history.specs.inside.Search.{IsFirstOf, receives, is_met, can_act, first_of}
 use Rattle.trace_history.specs.inside.Older.{Key, channel_of, AreQueued, whole}
 use Rattle.trace_history.proofs.AlikeLaws.{atom_at-append}

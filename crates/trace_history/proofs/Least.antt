@@ -9,7 +9,7 @@ use Rattle.chem_model.specs.declared.event.AtomId.{AtomId}
 use Rattle.chem_model.specs.declared.event.RuleId.{RuleId}
 use Rattle.chem_model.specs.declared.numbered.NumberedRule.{NumberedRule}
 use Rattle.chem_model.specs.declared.numbered.NumberedAtom.{NumberedAtom}
-use Rattle.chem_model.specs.Each.{Each}
+use Rattle.chem_model.specs.Each.{Each, IsIn}
 use Rattle.chem_model.specs.Bag.{one, bag}
 use Rattle.chem_model.specs.NewNames.{coded_pair}
 use Rattle.chem_model.specs.Fill.{Naming}
@@ -18,7 +18,6 @@ use Rattle.chem_model.specs.Apply.{same_atom, same_rule, atom_at, rule_at, recei
 use Rattle.chem_laws.proofs.Bags.{one_self}
 use Rattle.chem_laws.proofs.Taking.{same_atom_is, same_atom_refl, same_rule_is, same_rule_refl, atom_found, atom_pair_found, rule_pair_found}
 use Rattle.trace_history.specs.First.{atom_less, atoms_less}
-use Rattle.chem_model.specs.Each.{IsIn}
 use Rattle.trace_history.specs.inside.Search.{IsFirstOf, receives, atom_before, is_met}
 use Rattle.trace_history.specs.inside.Search.{IsLeast, AreLeast}
 

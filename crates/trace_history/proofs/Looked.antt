@@ -10,7 +10,7 @@ use Rattle.chem_model.specs.declared.name.Pat.{Pat}
 use Rattle.chem_model.specs.declared.numbered.NumberedRule.{NumberedRule}
 use Rattle.chem_model.specs.declared.numbered.NumberedAtom.{NumberedAtom}
 use Rattle.chem_model.specs.declared.numbered.Numbered.{Numbered}
-use Rattle.chem_model.specs.Each.{Each}
+use Rattle.chem_model.specs.Each.{Each, IsIn}
 use Rattle.chem_model.specs.Process.{Process, Msg, Par, Def, Go, Fail, Halt}
 use Rattle.chem_model.specs.Reduction.{given}
 use Rattle.chem_model.specs.Solution.{same_loc, live}
@@ -20,7 +20,6 @@ use Rattle.chem_model.specs.Apply.{same_ref, received}
 use Rattle.chem_laws.proofs.Lists.{either_true}
 use Rattle.chem_laws.proofs.Taking.{same_ref_is}
 use Rattle.trace_history.specs.inside.Heard.{slot_of}
-use Rattle.chem_model.specs.Each.{IsIn}
 use Rattle.trace_history.specs.inside.Search.{IsFirstOf, beats, receives, is_met, is_ready}
 use Rattle.trace_history.specs.inside.Search.{rule_before}
 use Rattle.trace_history.specs.inside.Waiting.{IsAt, Reaches, WaitsAt, AreFiled, Beaten, IsOne}

@@ -13,14 +13,13 @@ use Rattle.chem_model.specs.declared.name.Pat.{Pat}
 use Rattle.chem_model.specs.declared.event.AtomId.{AtomId}
 use Rattle.chem_model.specs.declared.numbered.NumberedAtom.{NumberedAtom}
 use Rattle.chem_model.specs.Process.{Process, Msg, Par, Def, Go, Fail, Halt}
-use Rattle.chem_model.specs.Each.{Each}
+use Rattle.chem_model.specs.Each.{Each, IsIn}
 use Rattle.chem_model.specs.Reduction.{given}
 use Rattle.chem_model.specs.Solution.{same_loc}
 use Rattle.chem_model.specs.Pour.{known}
 use Rattle.chem_model.specs.Apply.{same_atom, same_ref, received, atom_at}
 use Rattle.chem_laws.proofs.Taking.{same_ref_is}
 use Rattle.trace_history.specs.First.{less}
-use Rattle.chem_model.specs.Each.{IsIn}
 use Rattle.trace_history.specs.inside.Search.{IsFirstOf, receives, atom_before}
 use Rattle.trace_history.specs.inside.Walk.{walk}
 use Rattle.trace_history.specs.inside.Older.{Key, number_of, channel_of, AreQueued, passing}

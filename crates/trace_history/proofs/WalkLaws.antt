@@ -1,7 +1,6 @@
 -- A walk along keys in order finds the first of the members that pass, whatever else stands among the keys.
 use Rattle.std.proofs.Common.{◌≡◌, List, [], ◌∷◌, Option, Some, None, Bool, true, false, refl, ap, sym, ◌∙◌, subst, ◌⊎◌, inl, inr}
-use Rattle.chem_model.specs.Each.{Each}
-use Rattle.chem_model.specs.Each.{IsIn}
+use Rattle.chem_model.specs.Each.{Each, IsIn}
 use Rattle.trace_history.specs.inside.Search.{IsFirstOf}
 use Rattle.trace_history.specs.inside.Walk.{or_else, walk}
 

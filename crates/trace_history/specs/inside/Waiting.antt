@@ -6,10 +6,9 @@ use Rattle.chem_model.specs.declared.name.Pat.{Pat}
 use Rattle.chem_model.specs.declared.numbered.NumberedRule.{NumberedRule}
 use Rattle.chem_model.specs.declared.numbered.Numbered.{Numbered}
 use Rattle.chem_model.specs.declared.numbered.NumberedAtom.{NumberedAtom}
-use Rattle.chem_model.specs.Each.{Each}
+use Rattle.chem_model.specs.Each.{Each, IsIn}
 use Rattle.chem_model.specs.Process.{Process, Msg, Par, Def, Go, Fail, Halt}
 use Rattle.trace_history.specs.inside.Heard.{slot_of}
-use Rattle.chem_model.specs.Each.{IsIn}
 use Rattle.trace_history.specs.inside.Search.{is_ready, rule_before}
 
 -- the member of a list at this place
