@@ -4,7 +4,11 @@ use Rattle.std.specs.Prelude.{ℕ, List, [], ◌∷◌, length, take, drop, Resu
 use Rattle.std.specs.Prelude.{if◌then◌else◌}
 use Rattle.std.specs.Int.{w32, w64, from_be_bytes}
 use Rattle.wire_packet.specs.Format.{Size, one, four, eight, Format, whole, field}
-use Rattle.wire_packet.specs.inside.Reading.{◌>>=◌}
+
+infixl 10 ◌>>=◌
+abbrev pub ◌>>=◌ : {A B : Type 0} → Result A ℕ → (A → Result B ℕ) → Result B ℕ
+(Ok x) >>= f = f x
+(Err e) >>= f = Err e
 
 -- the field at the front, and what follows it
 abbrev pub number_at : Size → List ℕ → Result (ℕ × List ℕ) ℕ

@@ -7,12 +7,6 @@ use Rattle.wire_packet.specs.declared.reading.Draft.{Draft}
 use Rattle.wire_packet.specs.Format.{Format}
 use Rattle.wire_packet.specs.Reading.{read}
 
-infixl 10 ◌>>=◌
-
-abbrev pub ◌>>=◌ : {A B : Type 0} → Result A ℕ → (A → Result B ℕ) → Result B ℕ
-(Ok x) >>= f = f x
-(Err e) >>= f = Err e
-
 abbrev pub FailsAs : {Y : Type 0} → Fault → Result Y ℕ → Type 0
 FailsAs fault.Memory r = Unit {0}
 FailsAs (fault.Wrong left) r = r ≡ Err left
