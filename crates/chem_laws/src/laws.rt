@@ -5,6 +5,7 @@ ghost use Rattle.chem_laws.specs.Hosts.{RunsKeepRoots};
 ghost use Rattle.chem_laws.specs.Order.{ReactionsCommute, ReactionsTakeAndMake};
 ghost use Rattle.chem_laws.specs.Order.{ReactionsStayAtHome, ReactionsAreLocal, SitesAtOnce};
 ghost use Rattle.chem_laws.specs.Twice.{NothingIsTakenTwice};
+ghost use Rattle.chem_laws.specs.Declared.{DeclaredCountsStay};
 
 /// A location is dead exactly where it is within a marked location. It does nothing.
 pub fn dead_is_within()
@@ -40,6 +41,12 @@ pub fn stuck_is_quiet()
 /// of them is sound. It does nothing.
 pub fn replay_is_a_run()
     ensures { ReplayIsARun }
+{}
+
+/// The observed names that a solution of a run declares, with their counts, are the program's. It
+/// does nothing.
+pub fn declared_counts_stay()
+    ensures { DeclaredCountsStay }
 {}
 
 /// In a sound numbered solution two reactions of rules under different roots can be made in either
