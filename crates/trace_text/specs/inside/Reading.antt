@@ -10,7 +10,6 @@ use Rattle.trace_text.specs.Fields.{Field, word, number, counted, ValueOf, is_di
 use Rattle.trace_text.specs.Fields.{field}
 
 infixl 10 ◌>>=◌
-
 abbrev pub ◌>>=◌ : {A B : Type 0} → Result A ℕ → (A → Result B ℕ) → Result B ℕ
 (Ok x) >>= f = f x
 (Err e) >>= f = Err e
