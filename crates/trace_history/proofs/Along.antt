@@ -1,13 +1,13 @@
 -- Keys that are looked at one after another.
-use Rattle.std.proofs.Common.{◌≡◌, List, [], ◌∷◌, ◌⊎◌, inl, inr, subst}
+use Rattle.std.proofs.Common.{◌≡◌, List, [], ◌∷◌, ◌⊎◌, inl, inr, sym, subst}
 use Rattle.chem_model.specs.Each.{IsIn}
 use Rattle.trace_history.specs.inside.Older.{Key}
 
 pub one_along : (P Q : Key → Type 0) (keys left rest : List Key) (key : Key) → left ≡ key ∷ rest → ((k : Key) → P k → Q k) → Q key → ((k : Key) → IsIn k keys → P k ⊎ IsIn k left) → (k : Key) → IsIn k keys → Q k ⊎ IsIn k rest
 one_along P Q keys left rest key e f q h k at = go (h k at)
   where
-    step : (key ≡ k) ⊎ IsIn k rest → Q k ⊎ IsIn k rest
-    step (inl same) = inl (subst Q same q)
+    step : (k ≡ key) ⊎ IsIn k rest → Q k ⊎ IsIn k rest
+    step (inl same) = inl (subst Q (sym same) q)
     step (inr later) = inr later
 
     go : P k ⊎ IsIn k left → Q k ⊎ IsIn k rest

@@ -19,12 +19,12 @@ use Rattle.trace_history.specs.inside.Waiting.{IsAt, Reaches, WaitsAt, IsSlotOf,
 
 pub at_in : {X : Type 0} (xs : List X) (i : ℕ) (x : X) → i < length xs → x ≡ get_or xs i x → IsIn x xs
 at_in [] i x h e = absurd (omega arith)
-at_in (y ∷ xs) zero x h e = inl (sym e)
+at_in (y ∷ xs) zero x h e = inl e
 at_in (y ∷ xs) (suc i) x h e = inr (at_in xs i x (omega arith) e)
 
 pub in_at : {X : Type 0} (xs : List X) (x : X) → IsIn x xs → (j : ℕ) × IsAt xs j x
 in_at [] x at = absurd at
-in_at (y ∷ xs) x (inl e) = (0, (omega arith, sym e))
+in_at (y ∷ xs) x (inl e) = (0, (omega arith, e))
 in_at (y ∷ xs) x (inr at) = let r = in_at xs x at in (suc r.0, (omega (arith, r.1.0), r.1.1))
 
 -- ---- slots

@@ -29,7 +29,7 @@ module _ {X : Type 0} (test : X → Bool) (before : X → X → Bool) (o : IsOrd
   }
     where
       go : (Some x ≡ Some y) ⊎ (IsIn y xs × (test y ≡ true)) → (found ≡ Some y) ⊎ (IsIn y (x ∷ xs) × (test y ≡ true))
-      go (inl is) = let same : x ≡ y = cc in inr (inl same, ap test (sym same) ∙ t)
+      go (inl is) = let same : y ≡ x = cc in inr (inl same, ap test same ∙ t)
       go (inr at) = inr (inr at.0, at.1)
   more found x xs y true false b t e = record {
     from = later e.from;

@@ -86,7 +86,7 @@ met_newest old xs l p h = or_true (is_met old l p) ∙ sym (met_both old xs l p 
 
 met_by : (old : List NumberedAtom) (l : Loc) (p : Pat) (a : NumberedAtom) → IsIn a old → receives l p a ≡ true → is_met old l p ≡ true
 met_by [] l p a at h = absurd at
-met_by (b ∷ old) l p a (inl e) h = ap (λ t. t || is_met old l p) (ap (receives l p) e ∙ h)
+met_by (b ∷ old) l p a (inl e) h = ap (λ t. t || is_met old l p) (ap (receives l p) (sym e) ∙ h)
 met_by (b ∷ old) l p a (inr at) h = ap (λ t. receives l p b || t) (met_by old l p a at h) ∙ sym (or_true (receives l p b))
 
 unmet : (old : List NumberedAtom) (l : Loc) (p : Pat) → Each (λ a. receives l p a ≡ false) old → is_met old l p ≡ false

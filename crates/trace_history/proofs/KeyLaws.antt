@@ -32,14 +32,14 @@ added k (j ∷ ks) = go (key_cmp k j) refl (added k ks)
   where
     go : (o : Ordering) → key_cmp k j ≡ o → IsIn k (insert_key key_cmp ks k) → IsIn k (match_ordering o (k ∷ j ∷ ks) (j ∷ ks) (j ∷ insert_key key_cmp ks k))
     go Less c ih = inl refl
-    go Equal c ih = inl (sym (key_equal k j c))
+    go Equal c ih = inl (key_equal k j c)
     go Greater c ih = inr ih
 
 pub kept : (k : Key) (ks : List Key) → KeepsKeys ks (insert_key key_cmp ks k)
 kept k [] i at = absurd at
 kept k (j ∷ ks) i at = go (key_cmp k j) (kept k ks i) at
   where
-    go : (o : Ordering) → (IsIn i ks → IsIn i (insert_key key_cmp ks k)) → (j ≡ i) ⊎ IsIn i ks → IsIn i (match_ordering o (k ∷ j ∷ ks) (j ∷ ks) (j ∷ insert_key key_cmp ks k))
+    go : (o : Ordering) → (IsIn i ks → IsIn i (insert_key key_cmp ks k)) → (i ≡ j) ⊎ IsIn i ks → IsIn i (match_ordering o (k ∷ j ∷ ks) (j ∷ ks) (j ∷ insert_key key_cmp ks k))
     go Less rest f = inr f
     go Equal rest f = f
     go Greater rest (inl e) = inl e
@@ -49,8 +49,8 @@ pub others_stay : (k : Key) (ks : List Key) (i : Key) → IsIn i ks → (i ≡ k
 others_stay k [] i at = absurd at
 others_stay k (j ∷ ks) i at = go (key_cmp k j) refl (others_stay k ks i) at
   where
-    go : (o : Ordering) → key_cmp k j ≡ o → (IsIn i ks → (i ≡ k) ⊎ IsIn i (remove_key (is_at (key_cmp k)) ks)) → (j ≡ i) ⊎ IsIn i ks → (i ≡ k) ⊎ IsIn i (cond (is_eq o) ks (j ∷ remove_key (is_at (key_cmp k)) ks))
-    go Equal c rest (inl e) = inl (sym e ∙ sym (key_equal k j c))
+    go : (o : Ordering) → key_cmp k j ≡ o → (IsIn i ks → (i ≡ k) ⊎ IsIn i (remove_key (is_at (key_cmp k)) ks)) → (i ≡ j) ⊎ IsIn i ks → (i ≡ k) ⊎ IsIn i (cond (is_eq o) ks (j ∷ remove_key (is_at (key_cmp k)) ks))
+    go Equal c rest (inl e) = inl (e ∙ sym (key_equal k j c))
     go Equal c rest (inr f) = inr f
     go Less c rest (inl e) = inr (inl e)
     go Less c rest (inr f) = later (rest f)

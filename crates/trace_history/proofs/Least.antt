@@ -44,7 +44,7 @@ AtomsDiffer atoms = (p : ℕ × ℕ) → bag coded_pair (atom_pairs atoms) p ≤
 
 pub member_found : (atoms : List NumberedAtom) → AtomsDiffer atoms → (a : NumberedAtom) → IsIn a atoms → atom_at atoms a.id ≡ Some a
 member_found [] d a h = absurd h
-member_found (b ∷ atoms) d a (inl e) = ap (λ t. cond t (Some b) (atom_at atoms a.id)) (ap (λ (x : NumberedAtom). same_atom b.id x.id) (sym e) ∙ same_atom_refl b.id) ∙ ap Some e
+member_found (b ∷ atoms) d a (inl e) = ap (λ t. cond t (Some b) (atom_at atoms a.id)) (ap (λ (x : NumberedAtom). same_atom b.id x.id) e ∙ same_atom_refl b.id) ∙ ap Some (sym e)
 member_found (b ∷ atoms) d a (inr h) =
     let found = member_found atoms (λ p. omega (arith, d p)) a h in
     ap (λ t. cond t (Some b) (atom_at atoms a.id)) (other found (same_atom b.id a.id) refl) ∙ found
@@ -61,7 +61,7 @@ RulesDiffer rules = (p : ℕ × ℕ) → bag coded_pair (rule_pairs rules) p ≤
 
 pub rule_member_found : (rules : List NumberedRule) → RulesDiffer rules → (r : NumberedRule) → IsIn r rules → rule_at rules r.id ≡ Some r
 rule_member_found [] d r h = absurd h
-rule_member_found (q ∷ rules) d r (inl e) = ap (λ t. cond t (Some q) (rule_at rules r.id)) (ap (λ (x : NumberedRule). same_rule q.id x.id) (sym e) ∙ same_rule_refl q.id) ∙ ap Some e
+rule_member_found (q ∷ rules) d r (inl e) = ap (λ t. cond t (Some q) (rule_at rules r.id)) (ap (λ (x : NumberedRule). same_rule q.id x.id) e ∙ same_rule_refl q.id) ∙ ap Some (sym e)
 rule_member_found (q ∷ rules) d r (inr h) =
     let found = rule_member_found rules (λ p. omega (arith, d p)) r h in
     ap (λ t. cond t (Some q) (rule_at rules r.id)) (other found (same_rule q.id r.id) refl) ∙ found

@@ -45,9 +45,9 @@ low_or (suc j) (suc k) = go (low_or j k)
     go (inl h) = inl (omega (arith, h))
     go (inr h) = inr (omega (arith, h))
 
-each_all : {X : Type 0} (P : X → Type 0) (xs : List X) → ((x : X) → IsIn x xs → P x) → Each P xs
-each_all P [] h = tt
-each_all P (x ∷ xs) h = (h x (inl refl), each_all P xs (λ y at. h y (inr at)))
+each_in : {X : Type 0} (P : X → Type 0) (xs : List X) → ((x : X) → IsIn x xs → P x) → Each P xs
+each_in P [] h = tt
+each_in P (x ∷ xs) h = (h x (inl refl), each_in P xs (λ y at. h y (inr at)))
 
 each_map : {X : Type 0} (P Q : X → Type 0) → ((x : X) → P x → Q x) → (xs : List X) → Each P xs → Each Q xs
 each_map P Q f [] h = tt
@@ -228,7 +228,7 @@ module _ (n : Numbered) (from : ℕ) where
 
     all_met : (atoms : List NumberedAtom) (l : Loc) (ps : List Pat) (p : Pat) → IsIn p ps → list_all (is_met atoms l) ps ≡ true → is_met atoms l p ≡ true
     all_met atoms l [] p at h = absurd at
-    all_met atoms l (q ∷ ps) p (inl e) h = ap (is_met atoms l) (sym e) ∙ (and_parts (is_met atoms l q) (list_all (is_met atoms l) ps) h).0
+    all_met atoms l (q ∷ ps) p (inl e) h = ap (is_met atoms l) e ∙ (and_parts (is_met atoms l q) (list_all (is_met atoms l) ps) h).0
     all_met atoms l (q ∷ ps) p (inr at) h = all_met atoms l ps p at (and_parts (is_met atoms l q) (list_all (is_met atoms l) ps) h).1
 
     -- ---- all were looked at
@@ -245,12 +245,12 @@ module _ (n : Numbered) (from : ℕ) where
             looked j (subst (λ (s : ℕ). WaitsAt heads links s j) w.1.2 w.2) r there ready
 
     is_first : (best : Option NumberedRule) → IsOne (is_ready n) n.rules best → ((r : NumberedRule) → IsIn r n.rules → is_ready n r ≡ true → Beaten (rule_before n from) r best) → IsFirstOf (is_ready n) (rule_before n from) n.rules best
-    is_first None one h = each_all (λ r. is_ready n r ≡ false) n.rules (λ r at. go r at (is_ready n r) refl)
+    is_first None one h = each_in (λ r. is_ready n r ≡ false) n.rules (λ r at. go r at (is_ready n r) refl)
       where
         go : (r : NumberedRule) → IsIn r n.rules → (t : Bool) → is_ready n r ≡ t → is_ready n r ≡ false
         go r at false e = e
         go r at true e = absurd (h r at e)
-    is_first (Some y) one h = (one.0, one.1, each_all (λ r. is_ready n r ≡ true → rule_before n from r y ≡ false) n.rules (λ r at ready. h r at ready))
+    is_first (Some y) one h = (one.0, one.1, each_in (λ r. is_ready n r ≡ true → rule_before n from r y ≡ false) n.rules (λ r at ready. h r at ready))
 
     pub newest_at_end : (xs atoms : List NumberedAtom) (i : ℕ) (last : Option ℕ) (best : Option NumberedRule) → atoms ≡ xs → length atoms ≤ i → SoFar atoms i last best → LooksAtNewest n from heads links xs best
     newest_at_end xs atoms i last best is h f = record {
@@ -284,7 +284,7 @@ module _ (n : Numbered) (from : ℕ) where
         is_first best (b.one f.one) (all_beaten best filed (λ j low small. looked_kept j some best b (f.rest j low small)) (subst (λ (l : List NumberedAtom). Each (IsAtomLookedAt best) l) (sym is) (each_both (IsAtomLookedAt best) old xs older newer)))
       where
         older : Each (IsAtomLookedAt best) old
-        older = each_all (IsAtomLookedAt best) old (λ a at. let q = queued a at in subst (λ o. IsSlotLookedAt n from heads links o best) (sym (slot_of_channel (length heads) a.term q.0 q.1)) (keys (q.0, (a.id.site, a.id.k)) q.2))
+        older = each_in (IsAtomLookedAt best) old (λ a at. let q = queued a at in subst (λ o. IsSlotLookedAt n from heads links o best) (sym (slot_of_channel (length heads) a.term q.0 q.1)) (keys (q.0, (a.id.site, a.id.k)) q.2))
 
         newer : Each (IsAtomLookedAt best) xs
         newer = each_map (IsAtomLookedAt some) (IsAtomLookedAt best) (λ a. slot_kept (slot_of_term (length heads) a.term) some best b) xs f.messages

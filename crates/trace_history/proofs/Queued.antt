@@ -105,7 +105,7 @@ sorted_filter c p ks s = IsStrictlySortedBy-filter c p ks s
 
 pub in_filter : {K : Type 0} (p : K → Bool) (ks : List K) (k : K) → IsIn k ks → p k ≡ true → IsIn k (filter p ks)
 in_filter p [] k at h = absurd at
-in_filter p (j ∷ ks) k (inl same) h = ap-in (p j) (ap p same ∙ h)
+in_filter p (j ∷ ks) k (inl same) h = ap-in (p j) (ap p (sym same) ∙ h)
   where
     ap-in : (t : Bool) → t ≡ true → IsIn k (cond t (j ∷ filter p ks) (filter p ks))
     ap-in true e = inl same
@@ -144,7 +144,7 @@ atom_in [] i a e = cc
 atom_in (b ∷ atoms) i a e = go (same_atom b.id i) (atom_in atoms i a) e
   where
     go : (t : Bool) → (atom_at atoms i ≡ Some a → IsIn a atoms) → cond t (Some b) (atom_at atoms i) ≡ Some a → IsIn a (b ∷ atoms)
-    go true ih e' = let same : b ≡ a = cc in inl same
+    go true ih e' = let same : a ≡ b = cc in inl same
     go false ih e' = inr (ih e')
 
 -- what a pattern receives is on its channel

@@ -24,7 +24,7 @@ each_in P (x ∷ xs) h = (h x (inl refl), each_in P xs (λ y at. h y (inr at)))
 
 in_each : {X : Type 0} (P : X → Type 0) (xs : List X) (x : X) → IsIn x xs → Each P xs → P x
 in_each P [] x at h = absurd at
-in_each P (y ∷ ys) x (inl e) h = subst P e h.0
+in_each P (y ∷ ys) x (inl e) h = subst P (sym e) h.0
 in_each P (y ∷ ys) x (inr at) h = in_each P ys x at h.1
 
 module _ {K X : Type 0} (find : K → Option X) where
@@ -33,8 +33,8 @@ module _ {K X : Type 0} (find : K → Option X) where
   none_found [] k e at = absurd at
   none_found (j ∷ ks) k e at = go (find j) refl (none_found ks k) e at
     where
-      go : (o : Option X) → find j ≡ o → (walk find ks ≡ None → IsIn k ks → find k ≡ None) → or_else o (walk find ks) ≡ None → (j ≡ k) ⊎ IsIn k ks → find k ≡ None
-      go None c rest f (inl same) = ap find (sym same) ∙ c
+      go : (o : Option X) → find j ≡ o → (walk find ks ≡ None → IsIn k ks → find k ≡ None) → or_else o (walk find ks) ≡ None → (k ≡ j) ⊎ IsIn k ks → find k ≡ None
+      go None c rest f (inl same) = ap find same ∙ c
       go None c rest f (inr later) = rest f later
       go (Some x) c rest f at' = cc
 
@@ -57,8 +57,8 @@ module _ {K X : Type 0} (find : K → Option X) where
         others = λ k z at s. here k z at s;
       }
         where
-          here : (k : K) (z : X) → (j ≡ k) ⊎ IsIn k ks → find k ≡ Some z → (z ≡ y) ⊎ (below k j ≡ false)
-          here k z (inl same) s = let other : find j ≡ Some z = ap find same ∙ s in inl cc
+          here : (k : K) (z : X) → (k ≡ j) ⊎ IsIn k ks → find k ≡ Some z → (z ≡ y) ⊎ (below k j ≡ false)
+          here k z (inl same) s = let there : find k ≡ find j = ap find same in inl cc
           here k z (inr later) s = inr (in_each (λ i. below i j ≡ false) ks k later h.0)
       go None c rest f =
           let r = rest f in
@@ -69,8 +69,8 @@ module _ {K X : Type 0} (find : K → Option X) where
             others = λ k z at s. there r k z at s;
           }
         where
-          there : (r : Found below ks y) (k : K) (z : X) → (j ≡ k) ⊎ IsIn k ks → find k ≡ Some z → (z ≡ y) ⊎ (below k r.key ≡ false)
-          there r k z (inl same) s = let other : find j ≡ Some z = ap find same ∙ s in cc
+          there : (r : Found below ks y) (k : K) (z : X) → (k ≡ j) ⊎ IsIn k ks → find k ≡ Some z → (z ≡ y) ⊎ (below k r.key ≡ false)
+          there r k z (inl same) s = let here : find k ≡ find j = ap find same in cc
           there r k z (inr later) s = r.others k z later s
 
   -- the first of the members that pass
