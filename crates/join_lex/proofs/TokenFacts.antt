@@ -1,9 +1,9 @@
 -- What is true of the tokens among the pieces of a text: what their type keeps, and that spans hold spellings.
-use Rattle.std.proofs.Common.{◌≡◌, ℕ, Bool, ◌+◌, ◌<◌, ◌≤◌, List, [], ◌∷◌, length, take, drop, refl, sym, ap, ◌∙◌, ◌-◌, arith, length-append}
+use Rattle.std.proofs.Common.{◌≡◌, ℕ, zero, suc, Bool, ◌+◌, ◌<◌, ◌≤◌, List, [], ◌∷◌, length, take, drop, refl, sym, ap, ◌∙◌, ◌-◌, arith, length-append}
 use Rattle.std.specs.List.{All, AllPairs}
 use Rattle.std.proofs.lemmas.List.{drop_all, drop_at, drop-drop, take_at}
-use Rattle.std.proofs.lemmas.List.Elements.{All-nil, All-cons, All-weaker}
 use Rattle.std.proofs.lemmas.List.Kept.{AllPairs-cons}
+use Rattle.chem_model.specs.Each.{Each}
 use Rattle.join_lex.specs.declared.token.Sign.{Sign}
 use Rattle.join_lex.specs.declared.token.Sign.TheVariants as sign
 use Rattle.join_lex.specs.declared.token.Kind2.{Kind2}
@@ -37,14 +37,24 @@ spelled version (kind.Number n) word rest (e, r, t) s = (run-some r, s)
 spelled version (kind.Key k) word rest (e, m, t) s = (rw e (run-some (key-run k)), m)
 spelled version (kind.Sign k) word rest e s = (rw e (sign-some k), tt)
 
+each-weaker : {X : Type 0} (P Q : X → Type 0) → ((x : X) → P x → Q x) → (xs : List X) → Each P xs → Each Q xs
+each-weaker P Q f [] h = tt
+each-weaker P Q f (x ∷ xs) h = (f x h.0, each-weaker P Q f xs h.1)
+
+-- as the word by index
+each-all : {X : Type 0} (P : X → Type 0) (xs : List X) → Each P xs → All P xs
+each-all P [] h k d within = absurd (omega arith)
+each-all P (x ∷ xs) h zero d within = h.0
+each-all P (x ∷ xs) h (suc k) d within = each-all P xs h.1 k d (omega arith)
+
 -- tokens that stand between two places
 record Between (version : Version) (place upto : ℕ) (ts : List Token) : Type 0 where
   few : length ts + place ≤ upto
-  spans : All (λ token. token.span.from < token.span.upto) ts
-  after : All (λ token. place ≤ token.span.from) ts
+  spans : Each (λ token. token.span.from < token.span.upto) ts
+  after : Each (λ token. place ≤ token.span.from) ts
   rise : AllPairs (λ one later. one.span.upto ≤ later.span.from) ts
-  within : All (λ token. token.span.upto ≤ upto) ts
-  words : All (λ token. IsOfVersion version token.kind) ts
+  within : Each (λ token. token.span.upto ≤ upto) ts
+  words : Each (λ token. IsOfVersion version token.kind) ts
 
 sooner : (version : Version) (place later upto : ℕ) (ts : List Token) → place ≤ later → Between version later upto ts → Between version place upto ts
 sooner version place later upto ts l b =
@@ -53,7 +63,7 @@ sooner version place later upto ts l b =
     record {
       few = omega (arith, b.few, l);
       spans = b.spans;
-      after = All-weaker P Q (λ t h. omega (arith, h, l)) ts b.after;
+      after = each-weaker P Q (λ t h. omega (arith, h, l)) ts b.after;
       rise = b.rise;
       within = b.within;
       words = b.words;
@@ -65,21 +75,21 @@ one_more version k place behind upto ts l m b =
     let later = sooner version place behind upto ts (omega (arith, l)) b in
     record {
       few = omega (arith, b.few, l);
-      spans = All-cons (λ t. t.span.from < t.span.upto) token ts l b.spans;
-      after = All-cons (λ t. place ≤ t.span.from) token ts (omega arith) later.after;
-      rise = AllPairs-cons (λ one other. one.span.upto ≤ other.span.from) token ts b.after b.rise;
-      within = All-cons (λ t. t.span.upto ≤ upto) token ts (omega (arith, b.few)) b.within;
-      words = All-cons (λ t. IsOfVersion version t.kind) token ts m b.words;
+      spans = (l, b.spans);
+      after = (omega arith, later.after);
+      rise = AllPairs-cons (λ one other. one.span.upto ≤ other.span.from) token ts (each-all (λ t. behind ≤ t.span.from) ts b.after) b.rise;
+      within = (omega (arith, b.few), b.within);
+      words = (m, b.words);
     }
 
 between : (version : Version) (ps : List Piece) (text : List ℕ) (place upto : ℕ) → Splits version ps text [] → place + length text ≡ upto → Between version place upto (tokens_at place ps)
 between version [] text place upto e u = record {
   few = omega (arith, u);
-  spans = All-nil (λ t. t.span.from < t.span.upto);
-  after = All-nil (λ t. place ≤ t.span.from);
+  spans = tt;
+  after = tt;
   rise = λ i j d l h. absurd (omega (arith, h));
-  within = All-nil (λ t. t.span.upto ≤ upto);
-  words = All-nil (λ t. IsOfVersion version t.kind);
+  within = tt;
+  words = tt;
 }
 between version (Gap g ∷ ps) text place upto (more, b, s, t) u =
     let n : length text ≡ length g + length more = simp length-append at (ap length b.whole) in
@@ -109,14 +119,14 @@ word-spelled version k w whole text more place e b =
     let t : take (place + length w - place) (drop place whole) ≡ w = rw (n, e, b.whole) (take_at w more _ refl) in
     rw (t, behind version (Word k w) whole text more place e b) b.fits
 
-spelled_at : (version : Version) (ps : List Piece) (whole text : List ℕ) (place : ℕ) → drop place whole ≡ text → Splits version ps text [] → All (IsSpelledAt version whole) (tokens_at place ps)
-spelled_at version [] whole text place e s = All-nil (IsSpelledAt version whole)
+spelled_at : (version : Version) (ps : List Piece) (whole text : List ℕ) (place : ℕ) → drop place whole ≡ text → Splits version ps text [] → Each (IsSpelledAt version whole) (tokens_at place ps)
+spelled_at version [] whole text place e s = tt
 spelled_at version (Gap g ∷ ps) whole text place e (more, b, s, t) =
     spelled_at version ps whole more (place + length g) (behind version (Gap g) whole text more place e b) t
-spelled_at version (Word k w ∷ ps) whole text place e (more, b, s, t) =
-    All-cons (IsSpelledAt version whole) _ (tokens_at (place + length w) ps)
-    (word-spelled version k w whole text more place e b)
-    (spelled_at version ps whole more (place + length w) (behind version (Word k w) whole text more place e b) t)
+spelled_at version (Word k w ∷ ps) whole text place e (more, b, s, t) = (
+  word-spelled version k w whole text more place e b,
+  spelled_at version ps whole more (place + length w) (behind version (Word k w) whole text more place e b) t,
+)
 
-pub spelled_tokens : (version : Version) (text : List ℕ) (t : TokensOfText) → AreTokensOf version t text → All (IsSpelledAt version text) t.list
+pub spelled_tokens : (version : Version) (text : List ℕ) (t : TokensOfText) → AreTokensOf version t text → Each (IsSpelledAt version text) t.list
 spelled_tokens version text t a = rw a.stand.tokens_are (spelled_at version a.stand.pieces text text 0 refl a.stand.split)

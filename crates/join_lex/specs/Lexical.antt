@@ -44,7 +44,8 @@ IsBlank bytes = (b : ℕ) × (bytes ≡ b ∷ []) × IsTrue (is_blank b)
 
 -- The piece may stand before the rest. A comment goes on to the next line feed or the end.
 abbrev pub Fits : Version → Piece → List ℕ → Type 0
-Fits version (Gap bytes) rest = IsBlank bytes ⊎ (IsStretch is_hash in_line bytes × Stops in_line rest)
+Fits version (Gap bytes) rest =
+    IsBlank bytes ⊎ (IsStretch is_hash in_line bytes × Stops in_line rest)
 Fits version (Word k word) rest = SpellsToken version k word rest
 
 -- The text is a piece that may stand there, and the rest.
@@ -64,7 +65,8 @@ IsSmall version (Word (kind.Sign s) word) = Unit {0}
 abbrev pub Splits : Version → List Piece → List ℕ → List ℕ → Type 0
 Splits version [] text rest = text ≡ rest
 Splits version (p ∷ ps) text rest =
-    (more : List ℕ) × BeginsWith version p text more × IsSmall version p × Splits version ps more rest
+    (more : List ℕ) × BeginsWith version p text more × IsSmall version p
+    × Splits version ps more rest
 
 -- the tokens among pieces of which the first stands at this place
 abbrev pub tokens_at : ℕ → List Piece → List Token
@@ -99,7 +101,8 @@ HoldSpellings version text t = AreTokensOf version t text → Each (IsSpelledAt 
 
 -- At the front of the rest stands a byte that begins neither blank, comment nor token.
 abbrev pub NoToken : Version → List ℕ → Type 0
-NoToken version rest = (rest ≢ []) × ((p : Piece) (more : List ℕ) → BeginsWith version p rest more → ⊥)
+NoToken version rest =
+    (rest ≢ []) × ((p : Piece) (more : List ℕ) → BeginsWith version p rest more → ⊥)
 
 -- At the front of the rest stands a number above the bound.
 abbrev pub LargeNumber : Version → List ℕ → Type 0

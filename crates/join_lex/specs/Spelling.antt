@@ -1,5 +1,5 @@
 -- How keywords, signs, identifiers and numbers are spelled.
-use Rattle.std.specs.Prelude.{◌≡◌, ◌≢◌, ◌⊎◌, ℕ, ◌+◌, ◌*◌, ◌-◌, ◌≤◌, ◌||◌, ◌&&◌, ◌==◌}
+use Rattle.std.specs.Prelude.{◌≡◌, ◌≢◌, ℕ, ◌+◌, ◌*◌, ◌-◌, ◌≤◌, ◌||◌, ◌&&◌, ◌==◌}
 use Rattle.std.specs.Prelude.{nat_le, not, Bool, IsTrue, List, [], ◌∷◌, codes, fold}
 use Rattle.chem_model.specs.Each.{IsIn}
 use Rattle.join_lex.specs.declared.token.Key.{Key}

@@ -1,10 +1,9 @@
 -- From the parts of the parser to its answer.
 use Rattle.std.proofs.Common.{subst, ◌≡◌, ℕ, ◌≤◌, ◌<◌, false, List, [], ◌∷◌, length, drop, refl, sym, ap, ◌∙◌, arith, length-drop, Result}
 use Rattle.std.specs.Result.{IsErrAnd, IfErr}
-use Rattle.std.specs.List.{All}
 use Rattle.std.proofs.lemmas.List.{length-map}
-use Rattle.std.proofs.lemmas.List.Elements.{All-head, All-tail}
 use Rattle.std.proofs.lemmas.Result.{err_from_is_err_and}
+use Rattle.chem_model.specs.Each.{Each}
 use Rattle.join_base.specs.declared.fault.Front.{Front}
 use Rattle.join_base.specs.declared.fault.Front.TheVariants.{Refused, Memory}
 use Rattle.join_base.specs.declared.fault.Kind.TheVariants.{Grammar1}
@@ -70,9 +69,9 @@ stop-refusal b ts (Refused kind place) h = stop-fault b ts kind place h
 stop-refusal b ts Memory h = tt
 
 -- terminals of tokens are of the language
-of-version : (ts : List Token) → All (λ token. IsOfVersion first_version token.kind) ts → AreOfVersion first_version (terminals ts)
+of-version : (ts : List Token) → Each (λ token. IsOfVersion first_version token.kind) ts → AreOfVersion first_version (terminals ts)
 of-version [] a = tt
-of-version (t ∷ ts) a = (subst (IsOfVersion first_version) (sym (kind-of-terminal t.kind t.span.from)) (All-head (λ (x : Token). IsOfVersion first_version x.kind) t ts a), of-version ts (All-tail (λ (x : Token). IsOfVersion first_version x.kind) t ts a))
+of-version (t ∷ ts) a = (subst (IsOfVersion first_version) (sym (kind-of-terminal t.kind t.span.from)) a.0, of-version ts a.1)
 
 pub tree-kept : (tokens : TokensOfText) (t : TreeOfText) → AreTokens tokens → IsTreeOf most_levels tokens.list t → IsTree t
 tree-kept tokens t a i = record {
