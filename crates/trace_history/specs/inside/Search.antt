@@ -1,7 +1,7 @@
 -- The search for the event that comes first: of the rules that are ready, of the requests that can
 -- be met, and of the messages that a pattern receives, the first of each.
 use Rattle.std.specs.Prelude.{◌≡◌, ℕ, ◌<◌, List, [], ◌∷◌, Option, Some, None, is_some, Bool, true}
-use Rattle.std.specs.Prelude.{false, cond, nat_lt, ◌==◌, ◌&&◌, ◌||◌, ◌⊎◌, length}
+use Rattle.std.specs.Prelude.{false, cond, nat_lt, ◌==◌, ◌&&◌, ◌||◌, length}
 use Rattle.std.specs.List.{list_any, list_all}
 use Rattle.chem_model.specs.declared.name.Loc.{Loc}
 use Rattle.chem_model.specs.declared.name.Pat.{Pat}
