@@ -12,7 +12,7 @@ use Rattle.trace_history.specs.Book.{IsStuck, IsQuiet, Replays}
 use Rattle.trace_text.specs.declared.text.Ending.{Ending}
 use Rattle.join_words.specs.declared.answer.Asked.{Asked}
 use Rattle.trace_text.specs.declared.text.Ending.TheVariants.{Quiescent, Stopped}
-use Rattle.join_top.specs.declared.run.Kept.{BookKept as Left}
+use Rattle.join_top.specs.declared.run.Kept.{Kept as Left}
 use Rattle.join_top.specs.declared.top.Ended.{Ended}
 use Rattle.site_runner.specs.declared.outcome.How.{How}
 use Rattle.join_top.specs.Task.{Words, task, ring_asked, text_of}
@@ -35,7 +35,7 @@ ended a source p k how quiet ending text made replays run stuck_is quiet_is ends
     let n = replays.0 in
     record {
       solution = n;
-      is_run = record { replays = replays.1; run = run; within = made.within };
+      is_run = record { replays = replays.1; run = run; within = made.finished.within };
       ends = subst (EndsAs a.budget k.journal n) (sym ends) (ends_as n replays.1 quiet refl);
       whole = whole n replays.1;
     }
@@ -48,7 +48,7 @@ ended a source p k how quiet ending text made replays run stuck_is quiet_is ends
     ends_as n e true h = quiet_is.0 h n e
     ends_as n e false h = (
       (λ q. let t : quiet ≡ true = quiet_is.1 (λ m f. subst (λ (x : Numbered). Quiet x.seen (erase x)) (same_solution k n m e f) q) in cc),
-      not_spent h made.ends,
+      not_spent h made.finished.ends,
     )
 
 -- ---- what the top call says of it

@@ -36,10 +36,8 @@ module _ (p : ProgramTerms) (workers budget : ℕ) where
       → IfOk r (IsRunBy by.Alone workers budget p)
   alone_begun (Err e) runs whole made = tt
   alone_begun (Ok d) runs whole made = record {
-    program = runs.program;
+    finished = record { program = runs.program; within = runs.within; ends = runs.ends };
     made = (whole refl, made);
-    within = runs.within;
-    ends = runs.ends;
   }
 
   pub alone_made : (book : BookKept) (r : Result Done Memory) → book ≡ begun p
@@ -65,10 +63,8 @@ module _ (p : ProgramTerms) (workers budget : ℕ) where
         → IfOk r (IsRunBy by.Rounds workers budget p)
     rounds_begun law net opened (Err e) runs whole made = tt
     rounds_begun law net opened (Ok d) runs whole made = record {
-      program = runs.program;
+      finished = record { program = runs.program; within = rounds_within law d.book.journal (whole refl opened); ends = runs.ends };
       made = (whole refl opened, made);
-      within = rounds_within law d.book.journal (whole refl opened);
-      ends = runs.ends;
     }
 
     pub rounds_made : RoundsReplay → (net : NetParts) → net.net ≡ opened_net net.code → (book : BookKept) (r : Result Done Memory) → book ≡ begun p
@@ -106,9 +102,4 @@ pub free_made : (p : ProgramTerms) (workers budget : ℕ) (r : Result Done Memor
     → IfOk r (λ (d : Done). IsFree (length p.sites) (first_workers workers) p budget d.book.journal d.how)
     → IfOk r (IsRunBy by.Run workers budget p)
 free_made p workers budget (Err e) finished made = tt
-free_made p workers budget (Ok d) finished made = record {
-  program = finished.program;
-  made = made;
-  within = finished.within;
-  ends = finished.ends;
-}
+free_made p workers budget (Ok d) finished made = record { finished = finished; made = made }

@@ -1,10 +1,11 @@
 -- What is read, and what a run leaves.
-use Rattle.std.specs.Prelude.{◌≡◌, ◌≤◌, ◌⊎◌, ℕ, List, length, Option, Bool, true, false}
+use Rattle.std.specs.Prelude.{◌≡◌, ℕ, List, Option, Bool, true, false}
 use Rattle.chem_model.specs.declared.numbered.Numbered.{Numbered}
 use Rattle.chem_model.specs.ProgramFacts.{ProgramTerms}
 use Rattle.join_base.specs.Bytes.{TakesAtMost}
 use Rattle.trace_history.specs.Kept as book
-use Rattle.trace_history.specs.Book.{OnItsSolution, IsStuck}
+use Rattle.trace_history.specs.Book.{OnItsSolution}
+use Rattle.site_runner.specs.Free.{IsFinished}
 use Rattle.site_runner.specs.declared.outcome.Done.{Done}
 use Rattle.trace_text.specs.declared.text.Ending.{Ending}
 use Rattle.trace_text.specs.declared.text.Ending.TheVariants.{Quiescent, Stopped}
@@ -30,13 +31,10 @@ abbrev pub ReadsPart : {S : Type 0} → (ring : Option ℕ) → (left : S → Op
 ReadsPart ring left old new =
     ReadOrRing ring (TakesAtMost (left old) (left new) 1048576) (new ≡ old)
 
--- a run of the program that is made by this command: it has at most so many events, and in the end
--- no event is possible or it has exactly that many
+-- a finished run of the program, made by this command
 pub record IsRunBy (by : By) (workers budget : ℕ) (p : ProgramTerms) (done : Done) : Type 0 where
-  pub program : done.book.program ≡ p
+  pub finished : IsFinished p budget done.book
   pub made : IsMadeBy by workers budget p done.book.journal done.how
-  pub within : length done.book.journal ≤ budget
-  pub ends : IsStuck done.book ⊎ (length done.book.journal ≡ budget)
 
 -- how a run ended by whether the machine is quiet
 abbrev pub ending_of : Bool → Ending
