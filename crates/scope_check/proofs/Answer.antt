@@ -1,5 +1,7 @@
 -- What the check answers: the walks' tables, terms and faults are those of the tree.
-use Rattle.std.proofs.Common.{◌≡◌, ℕ, ◌+◌, ◌≤◌, ◌⊎◌, List, [], ◌∷◌, ◌++◌, Option, Some, None, inl, inr, length, drop, get_or, refl, sym, ap, ◌∙◌, subst, arith, append-nil}
+use Rattle.std.proofs.Common.{◌≡◌, ℕ, ◌+◌, ◌≤◌, ◌⊎◌, List, [], ◌∷◌, ◌++◌, Option, Some, None, inl, inr, length, drop, get_or, refl, sym, ap, ◌∙◌, subst, arith, append-nil, Result, Ok, Err}
+use Rattle.std.specs.Result.{IfOk, IfErr}
+use Rattle.join_lex.specs.Lexical.{IsOrMemory}
 use Rattle.join_parse.specs.declared.tree.PlaceTree.{PlaceTree}
 use Rattle.join_parse.specs.Source as s
 use Rattle.join_parse.specs.Grammar.{TreeOfText}
@@ -8,6 +10,8 @@ use Rattle.chem_model.specs.declared.program.SeenDecl.{SeenDecl}
 use Rattle.chem_model.specs.declared.program.SiteTerm.{SiteTerm}
 use Rattle.chem_model.specs.ProgramFacts.{ProgramTerms, IsProgram}
 use Rattle.scope_check.specs.declared.fault.Fault.{Fault}
+use Rattle.join_base.specs.declared.fault.Front.{Front}
+use Rattle.join_base.specs.declared.fault.Front.TheVariants.{Refused, Memory}
 use Rattle.join_base.specs.declared.fault.Kind.{Kind}
 use Rattle.join_base.specs.declared.fault.Kind.TheVariants.{Lex1, Lex2, Lex3, Grammar1, Grammar2, Scope1, Scope2, Scope3, Scope4, Scope5, Scope6, Arity1, Arity2, Arity3, Arity4}
 use Rattle.scope_check.specs.Order.{rank, IsSooner, IsFirst}
@@ -23,7 +27,7 @@ use Rattle.scope_check.specs.inside.Twin.{Table, site_terms_in, level_uses_in}
 use Rattle.scope_check.specs.inside.Clashes.{clashes_in}
 use Rattle.scope_check.specs.inside.Naming.{Level, name_all, walk_level}
 use Rattle.join_parse.specs.declared.word.SeenTree.{SeenTree}
-use Rattle.scope_check.specs.Checked.{most_sites, no_literals, IsProgramOf, HasOneOutcome}
+use Rattle.scope_check.specs.Checked.{most_sites, no_literals, IsProgramOf, IsRefusedAs, HasOneOutcome}
 use Rattle.scope_check.proofs.Lists.{none_left, none_right}
 use Rattle.scope_check.proofs.Folds.{first-append}
 use Rattle.scope_check.proofs.Declares.{all_clashes}
@@ -152,6 +156,17 @@ one_outcome t = record {
   one_fault = λ f g a b. same-fault f g (a.1 g b.0) (b.1 f a.0);
   never_both = λ p f a b. a.none f b.0;
 }
+
+-- where the answer is sound, it is exact but for want of memory
+pub reads : (t : TreeOfText) (result : Result ProgramTerms Front) → IfOk result (IsProgramOf t) → IfErr result (IsRefusedAs t) → (p : ProgramTerms) → IsProgramOf t p → IsOrMemory (Ok p) result
+reads t (Ok q) i f p j = inl (ap Ok ((one_outcome t).one_program q p i j))
+reads t (Err (Refused kind place)) i f p j = absurd ((one_outcome t).never_both p (record { kind = kind; place = place }) j f)
+reads t (Err Memory) i f p j = inr refl
+
+pub refuses : (t : TreeOfText) (result : Result ProgramTerms Front) → IfOk result (IsProgramOf t) → IfErr result (IsRefusedAs t) → (g : Fault) → IsFirst (IsFault most_sites no_literals t) (Some g) → IsOrMemory (Err (Refused g.kind g.place)) result
+refuses t (Ok q) i f g first = absurd ((one_outcome t).never_both q g i first)
+refuses t (Err (Refused kind place)) i f g first = inl (ap (λ (x : Fault). Err (Refused x.kind x.place)) ((one_outcome t).one_fault (record { kind = kind; place = place }) g f first))
+refuses t (Err Memory) i f g first = inr refl
 
 -- ---- the parts that the call made of a tree
 

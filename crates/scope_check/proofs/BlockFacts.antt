@@ -1,7 +1,6 @@
 -- The block of a term without a clash keeps what a program's blocks keep.
 use Rattle.std.proofs.Common.{◌≡◌, ℕ, ◌+◌, ◌≤◌, inl, inr, Bool, true, false, cond, ◌||◌, List, [], ◌∷◌, ◌++◌, Option, Some, None, length, refl, sym, ap, ◌∙◌, subst, arith, append_assoc, append-nil}
-use Rattle.std.specs.List.{All, AllPairs, list_any}
-use Rattle.std.proofs.lemmas.List.Elements.{All-nil, All-cons}
+use Rattle.std.specs.List.{AllPairs, list_any}
 use Rattle.std.proofs.lemmas.Bool.{cases_Bool}
 use Rattle.std.specs.Str.{bytes_eq}
 use Rattle.join_base.specs.declared.fault.Kind.TheVariants.{Scope3}
@@ -13,6 +12,7 @@ use Rattle.scope_names.specs.declared.scope.Sort.TheVariants.{Channel, Location,
 use Rattle.chem_model.specs.declared.name.Ref.{Ref}
 use Rattle.chem_model.specs.declared.name.Ref.TheVariants as ref
 use Rattle.chem_model.specs.declared.name.Pat.{Pat}
+use Rattle.chem_model.specs.Each.{Each}
 use Rattle.chem_model.specs.Process as t
 use Rattle.chem_model.specs.Binders as chem
 use Rattle.chem_model.specs.Binders.{is_among, times}
@@ -115,20 +115,20 @@ module _ (bs : List Binder) where
 
     agree-all : (at : ℕ → Option Ref) (x : Patterned) (y : Option Ref × Pat) → Has x.word.text (Channel x.count x.at) part
         → y.1.on ≡ ref.Binder (index_of bs (binder own x.word)) → length y.1.params ≡ x.count → y.0 ≡ at x.at
-        → (xs : List Patterned) (ys : List (Option Ref × Pat)) → HasAll part xs → Described (index_of bs) own at xs ys → All (Agree y) ys
-    agree-all at x y h on long here [] [] a d = All-nil (Agree y)
+        → (xs : List Patterned) (ys : List (Option Ref × Pat)) → HasAll part xs → Described (index_of bs) own at xs ys → Each (Agree y) ys
+    agree-all at x y h on long here [] [] a d = tt
     agree-all at x y h on long here [] (z ∷ ys) a d = absurd d
     agree-all at x y h on long here (w ∷ xs) [] a d = absurd d
-    agree-all at x y h on long here (w ∷ xs) (z ∷ ys) a d =
-        All-cons (Agree y) z ys
-        (λ same.
-        let n : ref.Binder (index_of bs (binder own x.word)) ≡ ref.Binder (index_of bs (binder own w.word)) = sym on ∙ same ∙ d.0 in
-        let m : index_of bs (binder own x.word) ≡ index_of bs (binder own w.word) = cc in
-        let sorts : Channel x.count x.at ≡ Channel w.count w.at = same-sort x.word.text w.word.text (Channel x.count x.at) (Channel w.count w.at) h a.0 m in
-        let c : x.count ≡ w.count = cc in
-        let p : x.at ≡ w.at = cc in
-        (here ∙ ap at p ∙ sym d.2, long ∙ c ∙ sym d.1))
-        (agree-all at x y h on long here xs ys a.1 d.3)
+    agree-all at x y h on long here (w ∷ xs) (z ∷ ys) a d = (
+      λ same.
+          (let n : ref.Binder (index_of bs (binder own x.word)) ≡ ref.Binder (index_of bs (binder own w.word)) = sym on ∙ same ∙ d.0 in
+          let m : index_of bs (binder own x.word) ≡ index_of bs (binder own w.word) = cc in
+          let sorts : Channel x.count x.at ≡ Channel w.count w.at = same-sort x.word.text w.word.text (Channel x.count x.at) (Channel w.count w.at) h a.0 m in
+          let c : x.count ≡ w.count = cc in
+          let p : x.at ≡ w.at = cc in
+          (here ∙ ap at p ∙ sym d.2, long ∙ c ∙ sym d.1)),
+      agree-all at x y h on long here xs ys a.1 d.3,
+    )
 
     agree-pairs : (at : ℕ → Option Ref) (xs : List Patterned) (ys : List (Option Ref × Pat)) → HasAll part xs → Described (index_of bs) own at xs ys → AllPairs Agree ys
     agree-pairs at [] [] a d = pairs-nil Agree
@@ -142,21 +142,21 @@ module _ (bs : List Binder) where
         elim (among-cons (index_of bs (binder own w)) (numbers (index_of bs) own ws) b e) [ inl q ↦ (w, h.0, q) | inr q ↦ among-word ws b h.1 q ]
 
     apart-all : (at : ℕ → Option Ref) (ws : List Word) → HasPlaces part ws → (xs : List Patterned) (ys : List (Option Ref × Pat)) → HasAll part xs → Described (index_of bs) own at xs ys
-        → All (λ y. (b : ℕ) → y.1.on ≡ ref.Binder b → is_among (numbers (index_of bs) own ws) b ≡ false) ys
-    apart-all at ws g [] [] a d = All-nil (λ (y : Option Ref × Pat). (b : ℕ) → y.1.on ≡ ref.Binder b → is_among (numbers (index_of bs) own ws) b ≡ false)
+        → Each (λ y. (b : ℕ) → y.1.on ≡ ref.Binder b → is_among (numbers (index_of bs) own ws) b ≡ false) ys
+    apart-all at ws g [] [] a d = tt
     apart-all at ws g [] (y ∷ ys) a d = absurd d
     apart-all at ws g (x ∷ xs) [] a d = absurd d
-    apart-all at ws g (x ∷ xs) (y ∷ ys) a d =
-        All-cons (λ (y : Option Ref × Pat). (b : ℕ) → y.1.on ≡ ref.Binder b → is_among (numbers (index_of bs) own ws) b ≡ false) y ys
-        (λ b e. elim (cases_Bool (is_among (numbers (index_of bs) own ws) b)) [
-          | inl there ↦ (let w = among-word ws b g there in
-              let n : ref.Binder (index_of bs (binder own x.word)) ≡ ref.Binder b = sym d.0 ∙ e in
-              let m : index_of bs (binder own x.word) ≡ b = cc in
-              let bad : Channel x.count x.at ≡ Location = same-sort x.word.text w.0.text (Channel x.count x.at) Location a.0 w.1 (m ∙ sym w.2) in
-              absurd cc)
-          | inr other ↦ other
-        ])
-        (apart-all at ws g xs ys a.1 d.3)
+    apart-all at ws g (x ∷ xs) (y ∷ ys) a d = (
+      λ b e. elim (cases_Bool (is_among (numbers (index_of bs) own ws) b)) [
+        | inl there ↦ (let w = among-word ws b g there in
+            let n : ref.Binder (index_of bs (binder own x.word)) ≡ ref.Binder b = sym d.0 ∙ e in
+            let m : index_of bs (binder own x.word) ≡ b = cc in
+            let bad : Channel x.count x.at ≡ Location = same-sort x.word.text w.0.text (Channel x.count x.at) Location a.0 w.1 (m ∙ sym w.2) in
+            absurd cc)
+        | inr other ↦ other
+      ],
+      apart-all at ws g xs ys a.1 d.3,
+    )
 
   places-in : (own : ℕ) (part : List Defining) (ws : List Word) → AllIn bs (keys own part) → HasPlaces part ws → AllIn bs (in_params own ws)
   places-in own part [] a h = tt
@@ -182,7 +182,7 @@ module _ (bs : List Binder) where
         record {
           channels = channels-binders (index_of bs) own at (all_patterned 0 1 ds) ys described;
           places = all-named (index_of bs) literal ds own k env;
-          apart = subst (λ l. All (λ y. (b : ℕ) → y.1.on ≡ ref.Binder b → is_among l b ≡ false) ys) (sym places_are) (apart-all own part names embed fixed inside at ws sites (all_patterned 0 1 ds) ys have described);
+          apart = subst (λ l. Each (λ y. (b : ℕ) → y.1.on ≡ ref.Binder b → is_among l b ≡ false) ys) (sym places_are) (apart-all own part names embed fixed inside at ws sites (all_patterned 0 1 ds) ys have described);
           one_place = λ b. subst (λ l. times l b ≤ 1) (sym places_are) ((once-each bs Scope3 own [] ws (places-in own part ws inside sites) once).0 b);
           agree = agree-pairs own part names embed fixed inside at (all_patterned 0 1 ds) ys have described;
         }

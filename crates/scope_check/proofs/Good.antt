@@ -1,8 +1,7 @@
 -- A tree with no fault stands for terms whose patterns, blocks and scopes are right.
 use Rattle.std.proofs.Common.{◌≡◌, ◌≢◌, ℕ, ◌+◌, ◌<◌, ◌≤◌, Bool, true, false, cond, List, [], ◌∷◌, ◌++◌, Option, Some, None, length, refl, sym, ap, ◌∙◌, subst, arith, append-nil}
-use Rattle.std.specs.List.{All, AllPairs, list_any}
+use Rattle.std.specs.List.{AllPairs, list_any}
 use Rattle.std.proofs.lemmas.Bool.{or_left, or_right}
-use Rattle.std.proofs.lemmas.List.Elements.{All-nil, All-cons}
 use Rattle.std.specs.Option.{unwrap_or}
 use Rattle.std.specs.Str.{bytes_eq}
 use Rattle.std.specs.Cmp.Lexicographic.{bytes_decides}
@@ -18,6 +17,7 @@ use Rattle.chem_model.specs.declared.name.Ref.{Ref}
 use Rattle.chem_model.specs.declared.name.Ref.TheVariants as ref
 use Rattle.chem_model.specs.declared.name.Name.{Name}
 use Rattle.chem_model.specs.declared.name.Pat.{Pat}
+use Rattle.chem_model.specs.Each.{Each}
 use Rattle.chem_model.specs.Process as t
 use Rattle.chem_model.specs.Binders as chem
 use Rattle.chem_model.specs.Binders.{is_among, times}
@@ -183,18 +183,18 @@ module _ (bs : List Binder) (seen : ℕ) where
   channels-in own k at (p ∷ ps) h = (h.0, channels-in own k at ps (in_back bs (in_params k p.params) (in_patterns own k ps) h.1))
 
   other-channels : (own k : ℕ) (w : Word) (before : List Word) (ps : List PatTree) → list_any (is_same (binder own w)) bs ≡ true → is_spelled_in w.text before ≡ true
-      → repeats Scope5 before (ons ps) ≡ [] → All (λ q. ref.Binder (index_of bs (binder own w)) ≢ q.on) (pats_of (index_of bs) own k ps)
-  other-channels own k w before [] there h none = All-nil (λ (q : Pat). ref.Binder (index_of bs (binder own w)) ≢ q.on)
+      → repeats Scope5 before (ons ps) ≡ [] → Each (λ q. ref.Binder (index_of bs (binder own w)) ≢ q.on) (pats_of (index_of bs) own k ps)
+  other-channels own k w before [] there h none = tt
   other-channels own k w before (p ∷ ps) there h none =
-      let now : is_spelled_in p.on.text before ≡ false = repeated-none (is_spelled_in p.on.text before) Scope5 p.on (none_left _ (repeats Scope5 (before ++ p.on ∷ []) (ons ps)) none) in
-      All-cons (λ (q : Pat). ref.Binder (index_of bs (binder own w)) ≢ q.on) (record { on = ref.Binder (index_of bs (binder own p.on)); params = numbers (index_of bs) k p.params }) (pats_of (index_of bs) own k ps)
-      (λ e.
-      let n : index_of bs (binder own w) ≡ index_of bs (binder own p.on) = cc in
-      let same : w.text ≡ p.on.text = tells bs own w.text p.on.text there n in
-      let bad : is_spelled_in p.on.text before ≡ true = ap (λ x. is_spelled_in x before) (sym same) ∙ h in
-      absurd cc)
-      (other-channels own k w (before ++ p.on ∷ []) ps there (spelled-append w.text before p.on ∙ or_left (is_spelled_in w.text before) (bytes_eq w.text p.on.text) h)
-      (none_right (repeated_if (is_spelled_in p.on.text before) Scope5 p.on) (repeats Scope5 (before ++ p.on ∷ []) (ons ps)) none))
+      let now : is_spelled_in p.on.text before ≡ false = repeated-none (is_spelled_in p.on.text before) Scope5 p.on (none_left _ (repeats Scope5 (before ++ p.on ∷ []) (ons ps)) none) in (
+        λ e.
+            (let n : index_of bs (binder own w) ≡ index_of bs (binder own p.on) = cc in
+            let same : w.text ≡ p.on.text = tells bs own w.text p.on.text there n in
+            let bad : is_spelled_in p.on.text before ≡ true = ap (λ x. is_spelled_in x before) (sym same) ∙ h in
+            absurd cc),
+        other-channels own k w (before ++ p.on ∷ []) ps there (spelled-append w.text before p.on ∙ or_left (is_spelled_in w.text before) (bytes_eq w.text p.on.text) h)
+            (none_right (repeated_if (is_spelled_in p.on.text before) Scope5 p.on) (repeats Scope5 (before ++ p.on ∷ []) (ons ps)) none),
+      )
 
   channels-apart : (own k : ℕ) (before : List Word) (ps : List PatTree) → AllIn bs (in_patterns own k ps) → repeats Scope5 before (ons ps) ≡ [] → AllPairs (λ p q. p.on ≢ q.on) (pats_of (index_of bs) own k ps)
   channels-apart own k before [] h none = pairs-nil (λ (p q : Pat). p.on ≢ q.on)
@@ -204,11 +204,10 @@ module _ (bs : List Binder) (seen : ℕ) where
       (other-channels own k p.on (before ++ p.on ∷ []) ps h.0 (spelled-append p.on.text before p.on ∙ or_right (is_spelled_in p.on.text before) (bytes_eq p.on.text p.on.text) (same-spelling p.on.text)) rest)
       (channels-apart own k (before ++ p.on ∷ []) ps (in_back bs (in_params k p.params) (in_patterns own k ps) h.1) rest)
 
-  short-fine : (own k : ℕ) (ps : List PatTree) → g.AreShort ps → All (λ p. length p.params ≤ 255) (pats_of (index_of bs) own k ps)
-  short-fine own k [] h = All-nil (λ (p : Pat). length p.params ≤ 255)
+  short-fine : (own k : ℕ) (ps : List PatTree) → g.AreShort ps → Each (λ p. length p.params ≤ 255) (pats_of (index_of bs) own k ps)
+  short-fine own k [] h = tt
   short-fine own k (p ∷ ps) h =
-      All-cons (λ (p : Pat). length p.params ≤ 255) (record { on = ref.Binder (index_of bs (binder own p.on)); params = numbers (index_of bs) k p.params }) (pats_of (index_of bs) own k ps)
-      (omega (arith, h.0, length-numbers (index_of bs) k p.params)) (short-fine own k ps h.1)
+      (omega (arith, h.0, length-numbers (index_of bs) k p.params), short-fine own k ps h.1)
 
   some-fine : (own k : ℕ) (ps : List PatTree) → g.IsNotEmpty ps → 0 < length (pats_of (index_of bs) own k ps)
   some-fine own k [] h = absurd h
@@ -240,18 +239,15 @@ module _ (bs : List Binder) (seen : ℕ) where
   -- ---- terms
 
   module _ (literal : Word → Option Ref) (known : LiteralsFine seen literal) where
-    sent-fine : (env : List Scope) (ws : List Word) → EnvFine seen env → use_faults (all_sent literal env ws) ≡ [] → All (IsInScope (IsDeclared seen) (bound_by env)) (refs_of (index_of bs) literal env ws)
-    sent-fine env [] fine e = All-nil (IsInScope (IsDeclared seen) (bound_by env))
+    sent-fine : (env : List Scope) (ws : List Word) → EnvFine seen env → use_faults (all_sent literal env ws) ≡ [] → Each (IsInScope (IsDeclared seen) (bound_by env)) (refs_of (index_of bs) literal env ws)
+    sent-fine env [] fine e = tt
     sent-fine env (w ∷ ws) fine e = by (literal w) refl e (sent-fine env ws fine)
       where
         by : (o : Option Ref) → literal w ≡ o → use_faults (sent_unless o w env ++ all_sent literal env ws) ≡ []
-            → (use_faults (all_sent literal env ws) ≡ [] → All (IsInScope (IsDeclared seen) (bound_by env)) (refs_of (index_of bs) literal env ws))
-            → All (IsInScope (IsDeclared seen) (bound_by env)) (unwrap_or o (ref_of (index_of bs) env w) ∷ refs_of (index_of bs) literal env ws)
-        by None q h rest =
-            All-cons (IsInScope (IsDeclared seen) (bound_by env)) (ref_of (index_of bs) env w) (refs_of (index_of bs) literal env ws)
-            (use-fine sent env w fine (none_left _ _ h)) (rest (none_right (used_by sent w (resolve env w.text)) _ h))
-        by (Some r) q h rest =
-            All-cons (IsInScope (IsDeclared seen) (bound_by env)) r (refs_of (index_of bs) literal env ws) (known w r (bound_by env) q) (rest h)
+            → (use_faults (all_sent literal env ws) ≡ [] → Each (IsInScope (IsDeclared seen) (bound_by env)) (refs_of (index_of bs) literal env ws))
+            → Each (IsInScope (IsDeclared seen) (bound_by env)) (unwrap_or o (ref_of (index_of bs) env w) ∷ refs_of (index_of bs) literal env ws)
+        by None q h rest = (use-fine sent env w fine (none_left _ _ h), rest (none_right (used_by sent w (resolve env w.text)) _ h))
+        by (Some r) q h rest = (known w r (bound_by env) q, rest h)
 
     mutual
       process-term : (p : s.Process) (env : List Scope) (k : ℕ) → EnvFine seen env → g.IsProcess p → process_faults p ≡ [] → use_faults (uses literal env k p) ≡ [] → AllIn bs (in_process k p)

@@ -1,7 +1,6 @@
 -- A tree with no fault stands for a program.
 use Rattle.std.proofs.Common.{◌≡◌, ℕ, zero, suc, ◌+◌, ◌<◌, ◌≤◌, ◌⊎◌, ◌↔◌, inl, inr, Bool, true, false, cond, eqb, ◌||◌, ◌&&◌, List, [], ◌∷◌, ◌++◌, Option, Some, None, length, drop, nat_lt, refl, sym, ap, ◌∙◌, subst, arith, append-nil}
-use Rattle.std.specs.List.{All, list_any}
-use Rattle.std.proofs.lemmas.List.Elements.{All-nil, All-cons}
+use Rattle.std.specs.List.{list_any}
 use Rattle.std.proofs.lemmas.Bool.{cases_Bool, or_cases, or_right}
 use Rattle.join_parse.specs.declared.word.Word.{Word}
 use Rattle.join_parse.specs.declared.word.SeenTree.{SeenTree}
@@ -14,8 +13,7 @@ use Rattle.scope_names.specs.declared.scope.Sort.{Sort}
 use Rattle.scope_names.specs.declared.scope.Sort.TheVariants.{Channel, Location, Observed, Parameter}
 use Rattle.chem_model.specs.declared.name.Ref.{Ref}
 use Rattle.chem_model.specs.declared.name.Ref.TheVariants as ref
-use Rattle.chem_model.specs.declared.program.SeenDecl.{SeenDecl}
-use Rattle.chem_model.specs.declared.program.SiteTerm.{SiteTerm}
+use Rattle.chem_model.specs.Each.{Each}
 use Rattle.chem_model.specs.Process as t
 use Rattle.chem_model.specs.Binders as chem
 use Rattle.chem_model.specs.Binders.{is_among, once, bound_in_definitions, definition_nodes}
@@ -90,14 +88,14 @@ few-sites zero (x ∷ xs) e = absurd cc
 few-sites (suc limit) [] e = omega arith
 few-sites (suc limit) (x ∷ xs) e = omega (arith, few-sites limit xs e)
 
-sites-levels : (number : Binder → ℕ) (literal : Word → Option Ref) (xs : List PlaceTree) (env : List Scope) (k : ℕ) → g.AreSites xs → All (λ x. AreRulesAndPlaces (t.definitions x.defs)) (site_terms number literal env k xs)
-sites-levels number literal [] env k h = All-nil (λ (x : SiteTerm). AreRulesAndPlaces (t.definitions x.defs))
+sites-levels : (number : Binder → ℕ) (literal : Word → Option Ref) (xs : List PlaceTree) (env : List Scope) (k : ℕ) → g.AreSites xs → Each (λ x. AreRulesAndPlaces (t.definitions x.defs)) (site_terms number literal env k xs)
+sites-levels number literal [] env k h = tt
 sites-levels number literal (x ∷ xs) env k h =
-    All-cons (λ (x : SiteTerm). AreRulesAndPlaces (t.definitions x.defs)) _ _ (levels-fine number literal (s.definitions x.defs) 0 env k h.0) (sites-levels number literal xs env (k + scopes_in_def (place_of x)) h.2)
+    (levels-fine number literal (s.definitions x.defs) 0 env k h.0, sites-levels number literal xs env (k + scopes_in_def (place_of x)) h.2)
 
-seen-counts : (xs : List SeenTree) → g.AreDeclarations xs → All (λ d. d.count ≤ 255) (seen_decls xs)
-seen-counts [] h = All-nil (λ (d : SeenDecl). d.count ≤ 255)
-seen-counts (x ∷ xs) h = All-cons (λ (d : SeenDecl). d.count ≤ 255) _ _ h.0 (seen-counts xs h.1)
+seen-counts : (xs : List SeenTree) → g.AreDeclarations xs → Each (λ d. d.count ≤ 255) (seen_decls xs)
+seen-counts [] h = tt
+seen-counts (x ∷ xs) h = (h.0, seen-counts xs h.1)
 
 -- ---- members
 

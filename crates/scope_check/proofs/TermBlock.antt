@@ -1,7 +1,7 @@
 -- The block of a term is the tree's block by number, and keeps what a program's blocks keep.
 use Rattle.std.proofs.Common.{◌≡◌, ℕ, zero, suc, ◌+◌, inl, List, [], ◌∷◌, ◌++◌, Option, Some, None, length, refl, sym, ap, ◌∙◌, subst, arith, append_assoc}
 use Rattle.std.specs.List.{All, AllPairs}
-use Rattle.std.proofs.lemmas.List.Elements.{All-nil, All-cons}
+use Rattle.chem_model.specs.Each.{Each}
 use Rattle.join_parse.specs.declared.word.Word.{Word}
 use Rattle.join_parse.specs.declared.word.PatTree.{PatTree}
 use Rattle.join_parse.specs.Source as s
@@ -22,12 +22,18 @@ use Rattle.scope_check.proofs.Sorts.{Has, has-right}
 
 -- ---- pairs
 
+-- as the word by index
+each-all : {A : Type 0} (P : A → Type 0) (xs : List A) → Each P xs → All P xs
+each-all P [] h k d in' = absurd (omega arith)
+each-all P (x ∷ xs) h zero d in' = h.0
+each-all P (x ∷ xs) h (suc k) d in' = each-all P xs h.1 k d (omega arith)
+
 pub pairs-nil : {A : Type 0} (R : A → A → Type 0) → AllPairs R []
 pairs-nil R i j d less in' = absurd (omega arith)
 
-pub pairs-cons : {A : Type 0} (R : A → A → Type 0) (x : A) (xs : List A) → All (R x) xs → AllPairs R xs → AllPairs R (x ∷ xs)
+pub pairs-cons : {A : Type 0} (R : A → A → Type 0) (x : A) (xs : List A) → Each (R x) xs → AllPairs R xs → AllPairs R (x ∷ xs)
 pairs-cons R x xs a p zero zero d less in' = absurd (omega arith)
-pairs-cons R x xs a p zero (suc j) d less in' = a j d (omega arith)
+pairs-cons R x xs a p zero (suc j) d less in' = each-all (R x) xs a j d (omega arith)
 pairs-cons R x xs a p (suc i) zero d less in' = absurd (omega arith)
 pairs-cons R x xs a p (suc i) (suc j) d less in' = p i j d (omega arith) (omega arith)
 
@@ -215,12 +221,11 @@ module _ (number : Binder → ℕ) where
   abbrev Where : ℕ → List Word → ℕ → Option Ref
   Where own ws n = location own ws n
 
-  pub channels-binders : (own : ℕ) (at : ℕ → Option Ref) (xs : List Patterned) (ys : List (Option Ref × Pat)) → Described own at xs ys → All (λ y. IsBinder y.1.on) ys
-  channels-binders own at [] [] h = All-nil (λ (y : Option Ref × Pat). IsBinder y.1.on)
+  pub channels-binders : (own : ℕ) (at : ℕ → Option Ref) (xs : List Patterned) (ys : List (Option Ref × Pat)) → Described own at xs ys → Each (λ y. IsBinder y.1.on) ys
+  channels-binders own at [] [] h = tt
   channels-binders own at [] (y ∷ ys) h = absurd h
   channels-binders own at (x ∷ xs) [] h = absurd h
-  channels-binders own at (x ∷ xs) (y ∷ ys) h =
-      All-cons (λ (y : Option Ref × Pat). IsBinder y.1.on) y ys (subst IsBinder (sym h.0) tt) (channels-binders own at xs ys h.3)
+  channels-binders own at (x ∷ xs) (y ∷ ys) h = (subst IsBinder (sym h.0) tt, channels-binders own at xs ys h.3)
 
   -- whatever may stand as an argument
   module _ (literal : Word → Option Ref) where

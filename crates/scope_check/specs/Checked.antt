@@ -1,7 +1,8 @@
 -- What the check of a tree answers.
-use Rattle.std.specs.Prelude.{◌≡◌, ℕ, ◌⊎◌, Option, Some, None}
+use Rattle.std.specs.Prelude.{◌≡◌, ℕ, ◌⊎◌, Option, Some, None, Result, Ok, Err}
 use Rattle.join_base.specs.declared.fault.Front.{Front}
 use Rattle.join_base.specs.declared.fault.Front.TheVariants.{Refused, Memory}
+use Rattle.join_lex.specs.Lexical.{IsOrMemory}
 use Rattle.join_parse.specs.declared.word.Word.{Word}
 use Rattle.join_parse.specs.Grammar.{TreeOfText}
 use Rattle.chem_model.specs.declared.name.Ref.{Ref}
@@ -29,6 +30,16 @@ abbrev pub IsRefusedAs : TreeOfText → Front → Type 0
 IsRefusedAs t (Refused kind place) =
     IsFirst (IsFault most_sites no_literals t) (Some (record { kind = kind; place = place }))
 IsRefusedAs t Memory = Unit {0}
+
+-- The program of the tree is answered where it has one, and its first fault where it has it, each
+-- but for want of memory.
+abbrev pub AnswersProgram : TreeOfText → Result ProgramTerms Front → Type 0
+AnswersProgram t result = (p : ProgramTerms) → IsProgramOf t p → IsOrMemory (Ok p) result
+
+abbrev pub AnswersFault : TreeOfText → Result ProgramTerms Front → Type 0
+AnswersFault t result =
+    (f : Fault) → IsFirst (IsFault most_sites no_literals t) (Some f)
+    → IsOrMemory (Err (Refused f.kind f.place)) result
 
 -- A tree has one program or one first fault, and never both.
 pub record HasOneOutcome (t : TreeOfText) : Type 0 where

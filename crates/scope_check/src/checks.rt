@@ -8,7 +8,8 @@ ghost use Rattle.scope_check.specs.inside.Clashes.{clashes_in};
 ghost use Rattle.scope_check.specs.inside.Naming.{outermost, walk_sites as walked_sites};
 ghost use Rattle.scope_check.specs.inside.Twin.{site_terms_in, level_uses_in};
 ghost use Rattle.scope_check.specs.Stands.{seen_decls};
-ghost use Rattle.scope_check.specs.Checked.{IsProgramOf, IsRefusedAs, HasOneOutcome};
+ghost use Rattle.scope_check.specs.Checked.{IsProgramOf, IsRefusedAs, AnswersProgram, AnswersFault};
+ghost use Rattle.scope_check.specs.Checked.{HasOneOutcome};
 ghost use Rattle.join_parse.specs.Grammar.{TreeOfText};
 
 use crate::block::{Defining, observed, sites};
@@ -135,12 +136,8 @@ fn declarations(alloc: Global, trees: &[SeenTree]) -> Result<SeenDecls, Memory>
     Ok(list)
 }
 
-/// The program that a tree stands for, or its first fault of scope or arity.
-///
-/// The first fault has the least place, and at one place the kind that stands first among `Scope1`
-/// to `Arity4`. Its place is a byte offset from 0: of the identifier that is wrong, or of the
-/// keyword `site` of the 65th site. No other kind is answered.
-pub fn check(alloc: Global, tree: &Tree) -> Result<Program, Front>
+/// The program that a tree stands for, or its first fault.
+fn program_of(alloc: Global, tree: &Tree) -> Result<Program, Front>
     ensures program { IfOk result (IsProgramOf tree.now) }
     ensures fault { IfErr result (IsRefusedAs tree.now) }
 {
@@ -165,6 +162,23 @@ pub fn check(alloc: Global, tree: &Tree) -> Result<Program, Front>
         tops: tables.tops,
         spell: tables.spell,
     })
+}
+
+/// The program that a tree stands for, or its first fault of scope or arity.
+///
+/// The first fault has the least place, and at one place the kind that stands first among `Scope1`
+/// to `Arity4`. Its place is a byte offset from 0: of the identifier that is wrong, or of the
+/// keyword `site` of the 65th site. No other kind is answered.
+///
+/// It answers a program exactly where the tree has one, and a fault exactly where the tree has it,
+/// but for want of memory.
+pub fn check(alloc: Global, tree: &Tree) -> Result<Program, Front>
+    ensures program { IfOk result (IsProgramOf tree.now) }
+    ensures fault { IfErr result (IsRefusedAs tree.now) }
+    ensures reads { AnswersProgram tree.now result }
+    ensures refuses { AnswersFault tree.now result }
+{
+    program_of(alloc, tree)
 }
 
 /// A tree has one program or one first fault, and never both. So `check` answers exactly by the

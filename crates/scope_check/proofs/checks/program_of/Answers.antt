@@ -3,7 +3,7 @@ use Rattle.join_parse.specs.Grammar.{TreeOfText}
 use Rattle.join_parse.specs.TreeFacts.{IsTree}
 use Rattle.scope_check.specs.Stands.{seen_decls}
 use Rattle.scope_check.proofs.Answer.{names-are, tables-are, noted-by, sites-made, tops-made, spell-made, room-for, answers, refused}
-use Rattle.scope_check.proofs.checks.check.Goals as goal
+use Rattle.scope_check.proofs.checks.program_of.Goals as goal
 
 pub terms-requires : goal.terms-requires
 terms-requires c =
