@@ -109,6 +109,17 @@ impl Defined {
     }
 }
 
+/// The levels of a block: its own, and then those of its places.
+fn levels_of(alloc: Global, own: u32, places: Nums) -> Result<Nums, Memory>
+    ensures { IfOk result (λ levels. levels ≡ own ∷ places) }
+{
+    let mut places = places;
+    let mut levels = Items::new(alloc);
+    levels.push(own)?;
+    levels.append(&mut places)?;
+    Ok(levels)
+}
+
 /// Appends a level with its guards, and then what is within it.
 fn put_level(piece: &mut Piece, level: Level, guards: Guards, within: Piece) -> Result<(), Memory>
     ensures next { OnOk result (piece.new.next ≡ within.next) }
@@ -256,9 +267,7 @@ fn write_block(
     write(alloc, tops, layout, body, &mut defined.piece, instrs)?;
     instrs.push(Instr::Leave { count: names })?;
     layout.truncate(outside);
-    let mut levels = Items::new(alloc);
-    levels.push(at.level)?;
-    levels.append(&mut defined.places)?;
+    let levels = levels_of(alloc, at.level, defined.places)?;
     let own = Level {
         block: at.block,
         place: None,
@@ -507,9 +516,7 @@ pub(crate) fn write_site(
     let next = at.inside()?.behind(count)?;
     let mut defined = site_definitions(alloc, tops, at, next, &opened.channels, defs)?;
     let body = site_process(alloc, tops, process, &mut defined.piece)?;
-    let mut levels = Items::new(alloc);
-    levels.push(at.level)?;
-    levels.append(&mut defined.places)?;
+    let levels = levels_of(alloc, at.level, defined.places)?;
     let own = Level {
         block: at.block,
         place: None,

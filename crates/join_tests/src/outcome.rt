@@ -88,6 +88,23 @@ fn owned(alloc: Global, words: &[&str]) -> Result<Vec<String>, Memory> {
     Ok(owned)
 }
 
+/// One call of the top call, and how it ended.
+fn ended_by<G: Gate, T: Team + FreeTeam<G>>(
+    alloc: Global,
+    words: &[&str],
+    source: &mut MemSource,
+    out: &mut MemSink,
+    err: &mut MemSink,
+    gate: &G,
+    team: &T,
+) -> Result<Ended, Memory>
+    requires ready { T.ready }
+    requires free_ready { T.free_ready }
+{
+    let words = owned(alloc, words)?;
+    Ok(run_join(alloc, words.as_slice(), source, out, err, gate, team))
+}
+
 /// Runs the words over a source and two sinks, by a team whose free workers pass a gate.
 pub fn call_through<G: Gate, T: Team + FreeTeam<G>>(
     alloc: Global,
@@ -101,19 +118,10 @@ pub fn call_through<G: Gate, T: Team + FreeTeam<G>>(
     requires ready { T.ready }
     requires free_ready { T.free_ready }
 {
-    let words = owned(alloc, words)?;
     let mut source = source;
     let mut out = out;
     let mut err = err;
-    let ended = run_join(
-        alloc,
-        words.as_slice(),
-        &mut source,
-        &mut out,
-        &mut err,
-        gate,
-        team,
-    );
+    let ended = ended_by(alloc, words, &mut source, &mut out, &mut err, gate, team)?;
     let unread = read_on(&mut source);
     outcome_of(alloc, &ended, unread, &out, &err)
 }
@@ -154,20 +162,20 @@ pub fn kept_by<R: AllocGlobal + Abort + Threads + Wait + Sync>(
     requires { IsSync R.row }
 {
     let alloc = rt.alloc();
-    let words = owned(alloc, &["alone", "--budget", "10"])?;
+    let words = ["alone", "--budget", "10"];
     let mut source = source_of(alloc, text.as_bytes())?;
     let mut out = roomy_sink(alloc)?;
     let mut err = roomy_sink(alloc)?;
     let team = Threaded::new(rt);
-    let ended = run_join(
+    let ended = ended_by(
         alloc,
-        words.as_slice(),
+        &words,
         &mut source,
         &mut out,
         &mut err,
         &OpenGate,
         &team,
-    );
+    )?;
     Ok(ended.kept.map(|kept| (kept.program, kept.journal)))
 }
 

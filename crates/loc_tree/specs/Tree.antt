@@ -87,6 +87,10 @@ roots_from i (suc more) = unmarked (root_of i) i ∷ roots_from (i + 1) more
 abbrev pub unmarked_roots : ℕ → Tree
 unmarked_roots count = record { roots = count; entries = roots_from 0 count; spare = 0 }
 
+-- the tree without the room that it keeps for births: that room is memory, and no location
+abbrev pub bare : Tree → Tree
+bare t = record t { spare = 0 }
+
 -- the tree with room for at least so many births
 abbrev pub with_room : Tree → ℕ → Tree
 with_room t more = record t { spare = max t.spare more }

@@ -14,7 +14,7 @@ use Rattle.wire_packet.specs.declared.packet.Flight.{Flight}
 use Rattle.env_store.specs.CodeParts.{CodeParts}
 use Rattle.env_store.specs.Laws.{rules_of_group}
 use Rattle.env_store.specs.Running.{Ran, code_made}
-use Rattle.loc_tree.specs.Tree.{Tree}
+use Rattle.loc_tree.specs.Tree.{Tree, bare}
 use Rattle.net_laws.specs.Site.{Site}
 use Rattle.net_laws.specs.Net.{Addressed, Net, among, home_or, address, without_packet, IsOnItsWay, with_births}
 use Rattle.net_laws.specs.Holding.{put}
@@ -43,7 +43,6 @@ use Rattle.net_core.specs.Acting.{Reacts, Delivers}
 use Rattle.net_core.specs.inside.AtSites.{AllStayFit}
 use Rattle.net_core.specs.inside.Alone.{IsAlone, IsReadyForCalls, IsBroughtTo, Arrives, HasArrived}
 use Rattle.net_core.specs.inside.Alone.{ReactsOnce, IsNoted, HasReacted}
-use Rattle.net_core.specs.Bare.{bare}
 use Rattle.net_core.specs.inside.Delivering.{GoesOn}
 use Rattle.net_core.specs.Lending.{mail_to, ReactsAlone, WorksAlone, used_up, rests, reacts}
 use Rattle.net_core.specs.Parts.{message_in, carried, all_carried, IsMessageFlight}

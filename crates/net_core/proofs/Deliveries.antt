@@ -10,7 +10,7 @@ use Rattle.wire_packet.specs.MessageFacts.{MessageParts}
 use Rattle.wire_packet.specs.declared.packet.Flight.{Flight}
 use Rattle.env_store.specs.CodeParts.{CodeParts}
 use Rattle.env_store.specs.Laws.{rules_of_group}
-use Rattle.loc_tree.specs.Tree.{Tree}
+use Rattle.loc_tree.specs.Tree.{Tree, bare}
 use Rattle.net_laws.specs.Site.{Site}
 use Rattle.net_laws.specs.Net.{Addressed, Net, Stands, among, home_or, address, without_packet, IsOnItsWay}
 use Rattle.net_laws.specs.Holding.{put}
@@ -18,7 +18,6 @@ use Rattle.net_laws.proofs.Holds.{each_get}
 use Rattle.router.specs.Delivering.{home_at, can_deliver, IsDelivery}
 use Rattle.router.specs.declared.routing.Delivery.TheVariants.{Forward}
 use Rattle.net_core.specs.declared.parts.Parts.{Parts}
-use Rattle.net_core.specs.Bare.{bare}
 use Rattle.net_core.specs.Parts.{joined, message_in, carried, all_carried, IsMessageFlight, net_of}
 use Rattle.net_core.specs.inside.Pieces.{without, IsPlace}
 use Rattle.net_core.specs.Whole.{AllFit, AreFlying, IsWhole, IsRunning}

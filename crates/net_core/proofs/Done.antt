@@ -7,13 +7,13 @@ use Rattle.chem_model.specs.declared.event.Event.TheVariants as event
 use Rattle.env_store.specs.CodeParts.{CodeParts}
 use Rattle.env_store.specs.CodeFacts.{IsCode}
 use Rattle.env_store.specs.Laws.{rules_of_group}
+use Rattle.loc_tree.specs.Tree.{bare}
 use Rattle.net_laws.specs.Net.{Net}
 use Rattle.reducer.specs.declared.pick.Pick.{Pick}
 use Rattle.net_core.specs.declared.choice.Choice.{Choice}
 use Rattle.net_core.specs.declared.choice.Choice.TheVariants as choice
 use Rattle.net_laws.proofs.Sites.{get_below}
 use Rattle.net_core.specs.declared.parts.Parts.{Parts}
-use Rattle.net_core.specs.Bare.{bare}
 use Rattle.net_core.specs.inside.AtSites.{MayReactAt}
 use Rattle.net_core.specs.Choosing.{MayReact, MayDeliver, Allows, request_of}
 use Rattle.net_core.specs.Parts.{joined, all_carried, net_of}

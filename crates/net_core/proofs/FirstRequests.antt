@@ -16,7 +16,7 @@ use Rattle.wire_packet.specs.declared.packet.Ask.{Ask}
 use Rattle.wire_packet.specs.declared.packet.Ask.TheVariants as request
 use Rattle.wire_packet.specs.declared.packet.Request.{Request}
 use Rattle.env_store.specs.CodeParts.{CodeParts}
-use Rattle.loc_tree.specs.Tree.{Tree, is_alive, is_dead}
+use Rattle.loc_tree.specs.Tree.{Tree, is_alive, is_dead, bare}
 use Rattle.net_laws.specs.Site.{Site}
 use Rattle.net_laws.specs.Net.{Net}
 use Rattle.net_laws.specs.Holding.{precedes, request_with}
@@ -35,7 +35,6 @@ use Rattle.net_core.specs.inside.Searched.{HasSites, meets, IsMet, NoneMeets, ch
 use Rattle.net_core.specs.inside.Searched.{IsMeetable, IsLeastAt, lesser_of, IsLeastOf, IsLeast}
 use Rattle.net_core.specs.inside.Searched.{NoneMeetsAny, IsFirstMeeting}
 use Rattle.net_core.proofs.NoneFound.{NoneMeetable}
-use Rattle.net_core.specs.Bare.{bare}
 use Rattle.net_core.proofs.SiteReactions.{below_or, one_member, alive_bare, dead_bare, move_bare}
 
 -- ---- the order of ids

@@ -3,7 +3,7 @@ use Rattle.std.proofs.Common.{◌≡◌, ℕ, zero, suc, ◌+◌, ◌<◌, ◌^�
 use Rattle.std.specs.Prelude.{slice_set, IsTrue, IfOk, OnOk, OnErr}
 use Rattle.chem_model.specs.Each.{Each}
 use Rattle.env_store.specs.CodeParts.{CodeParts}
-use Rattle.loc_tree.specs.Tree.{Tree, IsFresh}
+use Rattle.loc_tree.specs.Tree.{Tree, IsFresh, bare}
 use Rattle.chem_laws.proofs.Lists.{Each-weaker}
 use Rattle.net_laws.specs.Site.{Site}
 use Rattle.net_laws.specs.Net.{Net}
@@ -14,7 +14,6 @@ use Rattle.site_solution.specs.InCode.{is_in_code}
 use Rattle.site_solution.specs.Draws.{all_drawn, CanDraw}
 use Rattle.site_solution.specs.Staying.{StillFits, HasReceived}
 use Rattle.net_core.specs.inside.AtSites.{AllStayFit}
-use Rattle.net_core.specs.Bare.{bare}
 use Rattle.net_core.specs.inside.Fitting.{AreNumbered}
 use Rattle.net_core.specs.Whole.{AllFit}
 

@@ -13,7 +13,7 @@ use Rattle.wire_packet.specs.declared.packet.Ask.{Ask}
 use Rattle.wire_packet.specs.declared.packet.Ask.TheVariants as request
 use Rattle.wire_packet.specs.declared.packet.Request.{Request}
 use Rattle.env_store.specs.CodeParts.{CodeParts}
-use Rattle.loc_tree.specs.Tree.{Tree, spot, number_in, is_alive, is_root, can_move, with_number}
+use Rattle.loc_tree.specs.Tree.{Tree, spot, number_in, is_alive, is_root, can_move, with_number, bare}
 use Rattle.net_laws.specs.Site.{Site}
 use Rattle.net_laws.specs.Net.{Addressed, Net, among}
 use Rattle.net_laws.specs.Holding.{request_with, drop_request}
@@ -26,7 +26,6 @@ use Rattle.site_solution.specs.declared.effects.Effects.{Effects}
 use Rattle.migration.specs.Moves.{can_go, is_ready}
 use Rattle.migration.specs.Within.{leads_into, leads_to_one_of, goes_to_one_of}
 use Rattle.net_core.specs.declared.parts.Parts.{Parts}
-use Rattle.net_core.specs.Bare.{bare}
 use Rattle.net_core.specs.Parts.{joined, all_carried, net_of}
 use Rattle.net_core.specs.Acting.{MayGo, Stays, Leaves, Moves, stays, leaves}
 use Rattle.net_core.specs.inside.AtSites.{MovesAt, CrossesAt}

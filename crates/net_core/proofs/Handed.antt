@@ -20,7 +20,7 @@ use Rattle.wire_packet.specs.declared.packet.Request.{Request}
 use Rattle.wire_packet.specs.declared.packet.Flight.{Flight}
 use Rattle.env_store.specs.CodeParts.{CodeParts}
 use Rattle.env_store.specs.Running.{Ran}
-use Rattle.loc_tree.specs.Tree.{Tree, spot, is_alive, is_dead, with_birth, with_number, with_mark}
+use Rattle.loc_tree.specs.Tree.{Tree, spot, is_alive, is_dead, with_birth, with_number, with_mark, bare}
 use Rattle.net_laws.specs.Site.{Site}
 use Rattle.net_laws.specs.Net.{Addressed, Net, among, address, with_births}
 use Rattle.net_laws.specs.Holding.{put, ask, request_with, drop_request, host_all, lay_all}
@@ -36,7 +36,6 @@ use Rattle.failure.specs.Halts.{can_halt, is_halt, is_ready, IsHalt}
 use Rattle.failure.specs.Deaths.{dead_for, sees_death}
 use Rattle.failure.specs.Detects.{IsDetection}
 use Rattle.net_core.specs.declared.parts.Parts.{Parts}
-use Rattle.net_core.specs.Bare.{bare}
 use Rattle.net_core.specs.Parts.{joined, all_carried, IsMessageFlight, net_of}
 use Rattle.net_core.specs.Acting.{Asks, Halts, Detects}
 use Rattle.net_core.specs.inside.AtSites.{AllStayFit, HaltsAt, DetectsAt}

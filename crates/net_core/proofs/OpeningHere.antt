@@ -1,14 +1,13 @@
 -- The reaction that is ready at a site, and whether it opens a location.
 use Rattle.std.proofs.Common.{◌≡◌, ℕ, ◌<◌, List, Option, Some, None, IfNone, refl, sym, ap, ◌∙◌, subst, slice_get}
 use Rattle.env_store.specs.CodeParts.{CodeParts}
-use Rattle.loc_tree.specs.Tree.{Tree}
+use Rattle.loc_tree.specs.Tree.{Tree, bare}
 use Rattle.net_laws.specs.Site.{Site}
 use Rattle.net_laws.specs.Net.{Net}
 use Rattle.reducer.specs.declared.pick.Pick.{Pick}
 use Rattle.reducer.specs.Picks.{Picked, Picks}
 use Rattle.reducer.specs.Ready.{IsReady}
 use Rattle.net_core.specs.declared.choice.Choice.TheVariants as choice
-use Rattle.net_core.specs.Bare.{bare}
 use Rattle.net_core.specs.Scheduling.{births_or, births_of, ReadyOpensNone}
 use Rattle.net_core.specs.inside.Searched.{HasSites}
 use Rattle.net_core.specs.Working.{IsOpeningAt}

@@ -12,7 +12,7 @@ use Rattle.env_store.specs.CodeFacts.{IsCode}
 use Rattle.env_store.specs.Reading.{IsCodeOf}
 use Rattle.env_store.specs.Laws.{rules_of_group}
 use Rattle.env_store.specs.Running.{code_made}
-use Rattle.loc_tree.specs.Tree.{Tree, is_alive}
+use Rattle.loc_tree.specs.Tree.{Tree, is_alive, bare}
 use Rattle.net_laws.specs.Site.{Group, Site}
 use Rattle.net_laws.specs.Net.{Net, Stands, with_births}
 use Rattle.net_laws.specs.Changes.{Takes}
@@ -51,7 +51,6 @@ use Rattle.reducer.specs.Picks.{Picked, Picks, Fires}
 use Rattle.reducer.specs.Fronts.{taken_by, event_of}
 use Rattle.reducer.proofs.Masks.{AreDifferent, HaveFronts, held_fronts, fronts_taken, fronts_args}
 use Rattle.net_core.specs.declared.parts.Parts.{Parts}
-use Rattle.net_core.specs.Bare.{bare}
 use Rattle.net_core.specs.Parts.{joined, net_of}
 use Rattle.net_core.specs.Acting.{HasGuard, Reacts}
 use Rattle.net_core.specs.inside.AtSites.{AllStayFit, ReactsAt}

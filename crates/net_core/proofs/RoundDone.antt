@@ -7,7 +7,7 @@ use Rattle.chem_model.specs.Each.{Each}
 use Rattle.chem_laws.proofs.Lists.{Each-append, Each-weaker, append_nil, each_all}
 use Rattle.wire_packet.specs.declared.packet.Flight.{Flight}
 use Rattle.env_store.specs.CodeParts.{CodeParts}
-use Rattle.loc_tree.specs.Tree.{Tree}
+use Rattle.loc_tree.specs.Tree.{Tree, bare}
 use Rattle.net_laws.specs.Site.{Site}
 use Rattle.net_laws.specs.Net.{Addressed, Net}
 use Rattle.net_laws.specs.Rounds.{WorksOff}
@@ -19,7 +19,6 @@ use Rattle.net_core.specs.declared.parts.Parts.{Parts}
 use Rattle.net_core.specs.declared.slots.Slot.{Slot}
 use Rattle.net_core.specs.declared.turn.Work.{Work}
 use Rattle.net_core.specs.inside.Alone.{IsAlone, IsReadyForCalls, IsWorked}
-use Rattle.net_core.specs.Bare.{bare}
 use Rattle.net_core.specs.Lending.{mail_to, WorksAlone, AllAreLent, no_site, a_site}
 use Rattle.net_core.specs.Parts.{joined, all_carried, IsMessageFlight, net_of}
 use Rattle.net_core.specs.Scheduling.{AreTurns, numbers}

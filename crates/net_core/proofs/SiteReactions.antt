@@ -9,7 +9,7 @@ use Rattle.env_store.specs.CodeParts.{CodeParts}
 use Rattle.env_store.specs.CodeFacts.{IsCode}
 use Rattle.chem_model.specs.declared.name.Loc.{Loc}
 use Rattle.loc_tree.specs.declared.tree.Spot.{Spot}
-use Rattle.loc_tree.specs.Tree.{Tree, spot, is_root, is_alive_in, is_alive, is_dead_in, is_dead, can_move}
+use Rattle.loc_tree.specs.Tree.{Tree, spot, is_root, is_alive_in, is_alive, is_dead_in, is_dead, can_move, bare}
 use Rattle.net_laws.specs.Site.{Site}
 use Rattle.net_laws.specs.Net.{Net}
 use Rattle.net_laws.proofs.Holds.{each_get}
@@ -17,7 +17,6 @@ use Rattle.reducer.specs.declared.pick.Pick.{Pick}
 use Rattle.reducer.specs.Picks.{Picked, Fires, MayFire}
 use Rattle.reducer.specs.Ready.{NoneFires, IsReady}
 use Rattle.reducer.proofs.Masks.{HaveFronts, held_fronts, fronts_held}
-use Rattle.net_core.specs.Bare.{bare}
 use Rattle.net_core.specs.Enabled.{HasFront}
 use Rattle.net_core.specs.Choosing.{MayReact, NoneReacts, IsFirstReaction}
 use Rattle.net_core.specs.inside.Searched.{HasSites}

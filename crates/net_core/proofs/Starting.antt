@@ -20,7 +20,7 @@ use Rattle.env_store.specs.Reading.{IsCodeOf}
 use Rattle.env_store.specs.Running.{Ran, site_made}
 use Rattle.env_store.specs.Laws.{rules_of_group}
 use Rattle.loc_tree.specs.declared.tree.Spot.{Spot}
-use Rattle.loc_tree.specs.Tree.{Tree, spot, is_pair_of, unmarked, roots_from, unmarked_roots, with_birth, with_room}
+use Rattle.loc_tree.specs.Tree.{Tree, spot, is_pair_of, unmarked, roots_from, unmarked_roots, with_birth, with_room, bare}
 use Rattle.loc_tree.proofs.Spots.{same_loc_refl, same_loc_sym}
 use Rattle.code_run.specs.RunFacts.{AreBorn}
 use Rattle.code_run.proofs.Facts.{opening_facts}
@@ -46,7 +46,6 @@ use Rattle.site_solution.proofs.Staying.{births_keep_others}
 use Rattle.reducer.specs.Opens.{HasTops, IsOpenedFit, Opens}
 use Rattle.reducer.proofs.OpeningFit.{root_top}
 use Rattle.net_core.specs.declared.parts.Parts.{Parts}
-use Rattle.net_core.specs.Bare.{bare}
 use Rattle.net_core.specs.Parts.{joined, all_carried, IsMessageFlight, net_of}
 use Rattle.net_core.specs.Whole.{AllFit, IsWhole}
 use Rattle.net_core.specs.Rising.{AllMade}

@@ -4,7 +4,6 @@ pub mod Falling
 pub mod Enabled
 pub mod Playing
 pub mod Rising
-pub mod Bare
 pub mod Parts
 pub mod Whole
 pub mod Choosing

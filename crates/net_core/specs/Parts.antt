@@ -8,9 +8,9 @@ use Rattle.wire_packet.specs.declared.parcel.Packet.TheVariants as packet
 use Rattle.wire_packet.specs.Codec.{IsSpelledBy}
 use Rattle.wire_packet.specs.Packets.{packets}
 use Rattle.wire_packet.specs.Reading.{read}
+use Rattle.loc_tree.specs.Tree.{bare}
 use Rattle.net_laws.specs.Net.{Addressed, Net}
 use Rattle.net_core.specs.declared.parts.Parts.{Parts}
-use Rattle.net_core.specs.Bare.{bare}
 
 -- the members of all pieces, in order
 abbrev pub joined : {X : Type 0} → List (List X) → List X

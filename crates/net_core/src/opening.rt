@@ -1,15 +1,11 @@
 // The opening of a network.
 ghost use Rattle.std.specs.Prelude.{◌≡◌, ◌+◌, ◌<◌, length, IfOk, OnOk};
-ghost use Rattle.chem_model.specs.Each.{Each};
 ghost use Rattle.chem_model.specs.Opening.{opening};
-ghost use Rattle.chem_model.specs.declared.name.Loc.{Loc as loc_seen};
 ghost use Rattle.env_store.specs.Reading.{IsCodeOf};
 ghost use Rattle.env_store.specs.Laws.{rules_of_group};
-ghost use Rattle.loc_tree.specs.Tree.{unmarked_roots};
 ghost use Rattle.net_laws.specs.Net.{Stands};
-ghost use Rattle.net_laws.specs.Opened.{with_tops, opened_net};
+ghost use Rattle.net_laws.specs.Opened.{opened_net};
 ghost use Rattle.reducer.specs.Opens.{IsOfProgram};
-ghost use Rattle.net_core.specs.Bare.{bare};
 ghost use Rattle.net_core.specs.inside.Starting.{IsUpTo};
 
 use crate::handing::{add_births, add_flights, make_room};
@@ -18,25 +14,8 @@ use crate::parts::Parts;
 use crate::pieces::add_piece;
 use chem_model::{Memory, Program};
 use env_store::Code;
-use loc_tree::LocTree;
-use reducer::opening;
+use reducer::{first_tree, opening};
 use std::alloc::Global;
-
-// The tree with all site-level locations, before any site is opened.
-fn first_tree(alloc: Global, code: &Code) -> Result<LocTree, Memory>
-    requires { Each (λ (l : loc_seen). l.site < length code.now.sites) code.now.tops }
-    ensures { IfOk result (λ tree.
-        bare tree ≡ with_tops (unmarked_roots (length code.now.sites)) code.now.tops) }
-{
-    let mut tree = LocTree::start(alloc, code.sites.len() as u32)?;
-    for loc in code.tops.as_slice() {
-        if !tree.holds(loc) {
-            tree.reserve(alloc, 1)?;
-            tree.birth(*loc, loc.site);
-        }
-    }
-    Ok(tree)
-}
 
 // Opens the site with this number, where those before it are opened.
 fn open_site(alloc: Global, parts: &mut Parts, code: &Code, number: u32) -> Result<(), Memory>

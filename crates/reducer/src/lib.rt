@@ -16,7 +16,7 @@ pub use counts::{births, sends};
 pub use firing::may_fire;
 pub use laws::reaction_is_one_event;
 pub use naming::event_of;
-pub use opened::opening;
+pub use opened::{first_tree, opening};
 pub use parts::{code_is_kept, guard_at};
 pub use pick::Pick;
 pub use reacting::{front_args, react};

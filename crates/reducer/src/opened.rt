@@ -1,8 +1,11 @@
-// The opening of a site.
+// The tree before any site is opened, and the opening of a site.
 ghost use Rattle.std.specs.Prelude.{◌≡◌, ◌<◌, length, slice_get, Some, IfOk};
+ghost use Rattle.chem_model.specs.Each.{Each};
+ghost use Rattle.chem_model.specs.declared.name.Loc.{Loc as loc_seen};
 ghost use Rattle.env_store.specs.declared.code.SiteCode.{SiteCode as site_code};
+ghost use Rattle.loc_tree.specs.Tree.{unmarked_roots, bare};
 ghost use Rattle.net_laws.specs.Net.{with_births};
-ghost use Rattle.net_laws.specs.Opened.{not_in};
+ghost use Rattle.net_laws.specs.Opened.{not_in, with_tops};
 ghost use Rattle.reducer.specs.Opens.{IsOfProgram, HasTops, Opens, IsOpenedFit};
 
 use crate::parts::code_is_kept;
@@ -12,6 +15,23 @@ use env_store::{Code, Locs};
 use loc_tree::LocTree;
 use site_solution::{Effects, Site};
 use std::alloc::Global;
+
+/// The tree with the roots of all sites and with all site-level locations, before any site is
+/// opened.
+pub fn first_tree(alloc: Global, code: &Code) -> Result<LocTree, Memory>
+    requires { Each (λ (l : loc_seen). l.site < length code.now.sites) code.now.tops }
+    ensures { IfOk result (λ tree.
+        bare tree ≡ with_tops (unmarked_roots (length code.now.sites)) code.now.tops) }
+{
+    let mut tree = LocTree::start(alloc, code.sites.len() as u32)?;
+    for loc in code.tops.as_slice() {
+        if !tree.holds(loc) {
+            tree.reserve(alloc, 1)?;
+            tree.birth(*loc, loc.site);
+        }
+    }
+    Ok(tree)
+}
 
 // The locations that the tree doesn't have.
 fn not_in(alloc: Global, tree: &LocTree, locs: &[Loc]) -> Result<Locs, Memory>

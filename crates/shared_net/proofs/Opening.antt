@@ -15,7 +15,7 @@ use Rattle.env_store.specs.Running.{Ran, site_made}
 use Rattle.wire_packet.specs.MessageFacts.{MessageParts}
 use Rattle.wire_packet.specs.declared.packet.Flight.{Flight}
 use Rattle.loc_tree.specs.declared.tree.Spot.{Spot}
-use Rattle.loc_tree.specs.Tree.{Tree, spot, is_pair_of, unmarked, unmarked_roots, with_birth, with_room}
+use Rattle.loc_tree.specs.Tree.{Tree, spot, is_pair_of, unmarked, unmarked_roots, with_birth, with_room, bare}
 use Rattle.net_laws.specs.Site.{Site}
 use Rattle.net_laws.specs.Net.{Addressed, Net, with_births}
 use Rattle.net_laws.specs.Holding.{host_all, lay_all}
@@ -34,7 +34,7 @@ use Rattle.reducer.specs.Opens.{Opens}
 use Rattle.shared_net.specs.inside.Mail.{IsMessageText, AreSpelled}
 use Rattle.shared_net.specs.inside.Making.{IsSameTree}
 use Rattle.shared_net.specs.inside.Preparing.{messages_to, IsMailOf, IsOpenedAs}
-use Rattle.shared_net.specs.inside.Beginning.{bare, with_text, with_flights, IsUpTo}
+use Rattle.shared_net.specs.inside.Beginning.{with_text, with_flights, IsUpTo}
 use Rattle.shared_net.proofs.Bearing.{births_same, roomy}
 use Rattle.shared_net.proofs.Coming.{spelled_more}
 

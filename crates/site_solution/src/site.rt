@@ -250,16 +250,11 @@ impl Site {
         ensures err { OnErr result (self.new ≡ self.old) }
     {
         let told = told_by(alloc, code, group)?;
-        self.add(alloc, Some(code), told)
+        self.add(alloc, code, told)
     }
 
     // Lays a group of which this is told. The code tells the masks of its guards.
-    pub(crate) fn add(
-        &mut self,
-        alloc: Global,
-        code: Option<&Code>,
-        told: Told,
-    ) -> Result<(), Memory>
+    pub(crate) fn add(&mut self, alloc: Global, code: &Code, told: Told) -> Result<(), Memory>
         requires { CanLay told self.old }
         ensures ok { OnOk result (self.new ≡ lay told self.old) }
         ensures err { OnErr result (self.new ≡ self.old) }
@@ -272,7 +267,7 @@ impl Site {
             waiting: Vec::new(alloc),
             requests: Vec::new(alloc),
         };
-        self.add_all(alloc, code, &[], more, 0, &[])
+        self.add_all(alloc, Some(code), &[], more, 0, &[])
     }
 
     // Drops the fronts of these queues of a group in turn, where there are any, and adds locations,

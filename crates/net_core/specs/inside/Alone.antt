@@ -7,7 +7,7 @@ use Rattle.chem_model.specs.Each.{Each}
 use Rattle.wire_packet.specs.MessageFacts.{MessageParts}
 use Rattle.wire_packet.specs.declared.packet.Flight.{Flight}
 use Rattle.env_store.specs.CodeParts.{CodeParts}
-use Rattle.loc_tree.specs.Tree.{Tree}
+use Rattle.loc_tree.specs.Tree.{Tree, bare}
 use Rattle.net_laws.specs.Site.{Site}
 use Rattle.net_laws.specs.Net.{Addressed, Net, among, address}
 use Rattle.net_laws.specs.Holding.{put}
@@ -24,7 +24,6 @@ use Rattle.reducer.specs.Reacted.{Reacts, StaysFit}
 use Rattle.router.specs.Delivering.{home_at}
 use Rattle.net_core.specs.declared.turn.Made.{Made}
 use Rattle.net_core.specs.declared.turn.Work.{Work}
-use Rattle.net_core.specs.Bare.{bare}
 use Rattle.net_core.specs.inside.Delivering.{GoesOn}
 use Rattle.net_core.specs.Lending.{mail_to, WorksAlone}
 use Rattle.net_core.specs.Parts.{message_in, all_carried, IsMessageFlight}

@@ -1,7 +1,7 @@
 -- Room for what an event hands out.
 use Rattle.std.specs.Prelude.{◌≡◌, ℕ, ◌+◌, ◌<◌, ◌≤◌, ◌^◌, vec_len, vec_capacity}
+use Rattle.loc_tree.specs.Tree.{bare}
 use Rattle.net_core.specs.declared.parts.Parts.{Parts}
-use Rattle.net_core.specs.Bare.{bare}
 
 -- all that the parts stand for is the same
 pub record AreAsBefore (old new : Parts) : Type 0 where

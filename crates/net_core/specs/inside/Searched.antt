@@ -4,7 +4,7 @@ use Rattle.std.specs.Prelude.{None, cond, slice_get, is_some}
 use Rattle.chem_model.specs.declared.event.AtomId.{AtomId}
 use Rattle.wire_packet.specs.declared.packet.Request.{Request}
 use Rattle.env_store.specs.CodeParts.{CodeParts}
-use Rattle.loc_tree.specs.Tree.{Tree}
+use Rattle.loc_tree.specs.Tree.{Tree, bare}
 use Rattle.net_laws.specs.Site.{Site}
 use Rattle.net_laws.specs.Net.{Net}
 use Rattle.net_laws.specs.Holding.{precedes, request_with}
@@ -14,7 +14,6 @@ use Rattle.migration.specs.Moves.{can_go}
 use Rattle.net_core.specs.declared.choice.Choice.{Choice}
 use Rattle.net_core.specs.declared.choice.Choice.TheVariants as choice
 use Rattle.net_core.specs.Asking.{choice_by}
-use Rattle.net_core.specs.Bare.{bare}
 use Rattle.net_core.specs.Choosing.{Allows, request_of, IsFirstRequest}
 
 -- these are the sites and, but for its room, the tree of the network

@@ -6,13 +6,12 @@ use Rattle.chem_model.specs.declared.event.Out.{Out}
 use Rattle.chem_model.specs.Each.{Each}
 use Rattle.wire_packet.specs.declared.packet.Flight.{Flight}
 use Rattle.env_store.specs.CodeParts.{CodeParts}
-use Rattle.loc_tree.specs.Tree.{Tree}
+use Rattle.loc_tree.specs.Tree.{Tree, bare}
 use Rattle.net_laws.specs.Site.{Site}
 use Rattle.net_core.specs.declared.parts.Parts.{Parts}
 use Rattle.net_core.specs.declared.slots.Slot.{Slot}
 use Rattle.net_core.specs.declared.turn.Work.{Work}
 use Rattle.net_core.specs.inside.Alone.{IsAlone, IsWorked}
-use Rattle.net_core.specs.Bare.{bare}
 use Rattle.net_core.specs.Lending.{mail_to}
 use Rattle.net_core.specs.Parts.{joined, all_carried, IsMessageFlight, net_of}
 use Rattle.net_core.specs.Scheduling.{AreTurns, numbers}

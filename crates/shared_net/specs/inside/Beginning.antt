@@ -9,10 +9,6 @@ use Rattle.net_laws.specs.Opened.{all_opened, opened_net, BearNew}
 use Rattle.shared_net.specs.inside.Preparing.{IsMailOf}
 use Rattle.shared_net.specs.inside.Making.{IsSameTree}
 
--- a tree without the room that it keeps for births
-abbrev pub bare : Tree → Tree
-bare t = record t { spare = 0 }
-
 -- the mails with one text more for the site with this number, if there is one
 abbrev pub with_text : ℕ → List ℕ → List (List (List ℕ)) → List (List (List ℕ))
 with_text i text [] = []

@@ -44,8 +44,8 @@ write_block-returns-clause-piece t c =
       many_is = c.len-names.ensures;
     })
     c.in_ok-write_defs.ensures.defined
-    c.put_level.result c.args.piece.now c.put_level.new.piece c.write.new.piece c.append.new.self c.push-4.new.self refl
-    c.in_ok-write.ensures.piece (search rules) (search rules)
+    c.put_level.result c.args.piece.now c.put_level.new.piece c.write.new.piece c.in_ok-levels.levels c.push-3.new.self refl
+    c.in_ok-write.ensures.piece c.in_ok-levels.ensures (search rules)
     c.put_level.ensures.next (search rules) c.put_level.ensures.guards c.put_level.ensures.blocks c.put_level.ensures.bodies
 
 pub write_block-returns-clause-instrs : goal.write_block-returns-clause-instrs

@@ -12,7 +12,7 @@ returns-clause-piece c =
     c.in_ok-opened.opened.channels c.in_ok-opened.opened.counts c.in_ok-opened.opened.order c.len-names.result c.in_ok-defined.defined
     c.in_ok-count.ensures (c.in_ok-next.ensures ∙ ap (λ (q : At). behind q c.in_ok-count.count) c.in_ok-inside.ensures)
     c.in_ok-opened.ensures.channels c.in_ok-opened.ensures.counts c.in_ok-opened.ensures.order c.len-names.ensures c.in_ok-defined.ensures
-    c.args.piece.now c.put_level.new.piece c.site_process.new.piece c.append.new.self c.push-2.new.self c.in_ok-body.ensures.piece (search rules) (search rules)
+    c.args.piece.now c.put_level.new.piece c.site_process.new.piece c.in_ok-levels.levels c.push.new.self c.in_ok-body.ensures.piece c.in_ok-levels.ensures (search rules)
     c.in_ok-put_level.ensures.next (search rules) c.in_ok-put_level.ensures.guards c.in_ok-put_level.ensures.blocks c.in_ok-put_level.ensures.bodies
 
 pub returns-clause-code : goal.returns-clause-code

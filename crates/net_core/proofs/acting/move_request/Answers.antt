@@ -1,10 +1,10 @@
 use Rattle.std.proofs.Common.{◌≡◌, ◌∙◌, ◌+◌, ◌<◌, ◌^◌, ℕ, List, sym, ap, subst}
 use Rattle.env_store.specs.CodeParts.{CodeParts}
+use Rattle.loc_tree.specs.Tree.{bare}
 use Rattle.net_core.specs.Whole.{IsWhole}
 use Rattle.chem_model.specs.declared.name.Loc.{Loc}
 use Rattle.net_laws.specs.Site.{Site}
 use Rattle.net_core.specs.inside.AtSites.{HasGoal, MayGoAt, MayCrossAt}
-use Rattle.net_core.specs.Bare.{bare}
 use Rattle.net_core.specs.Parts.{net_of}
 use Rattle.net_core.proofs.Doing.{has_goal, goes_here, goes_over, on_ok}
 use Rattle.net_core.proofs.acting.move_request.Goals as goal

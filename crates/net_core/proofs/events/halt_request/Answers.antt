@@ -3,9 +3,9 @@ use Rattle.std.specs.Vec.{with_items}
 use Rattle.std.proofs.lemmas.List.{with_items_is}
 use Rattle.chem_laws.proofs.Lists.{append_nil}
 use Rattle.chem_model.specs.declared.event.Event.TheVariants as event
+use Rattle.loc_tree.specs.Tree.{bare}
 use Rattle.net_laws.specs.Site.{Site}
 use Rattle.net_core.specs.declared.parts.Parts.{Parts}
-use Rattle.net_core.specs.Bare.{bare}
 use Rattle.net_core.specs.Acting.{Halts}
 use Rattle.net_core.specs.inside.AtSites.{HaltsAt}
 use Rattle.net_core.specs.Parts.{joined, net_of}

@@ -2,9 +2,9 @@ use Rattle.std.proofs.Common.{◌≡◌, ◌++◌, ◌∙◌, List, All, map, sy
 use Rattle.std.specs.Vec.{with_items}
 use Rattle.std.proofs.lemmas.List.{with_items_is}
 use Rattle.wire_packet.specs.declared.packet.Flight.{Flight}
+use Rattle.loc_tree.specs.Tree.{bare}
 use Rattle.net_core.specs.declared.parts.Parts.{Parts}
 use Rattle.net_core.specs.declared.slots.Slot.{Slot}
-use Rattle.net_core.specs.Bare.{bare}
 use Rattle.net_core.specs.Parts.{joined}
 use Rattle.net_core.specs.inside.Slots.{CanWork, IsServed, Pairwise, slot_of, sites_of, events_of}
 use Rattle.net_core.specs.inside.Slots.{flights_of, AreBack}

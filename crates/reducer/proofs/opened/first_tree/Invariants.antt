@@ -1,10 +1,9 @@
 use Rattle.std.proofs.Common.{◌≡◌, ◌<◌, length, drop}
 use Rattle.chem_model.specs.Each.{Each}
 use Rattle.chem_model.specs.declared.name.Loc.{Loc}
-use Rattle.loc_tree.specs.Tree.{unmarked_roots}
+use Rattle.loc_tree.specs.Tree.{unmarked_roots, bare}
 use Rattle.net_laws.specs.Opened.{with_tops}
-use Rattle.shared_net.specs.inside.Beginning.{bare}
-use Rattle.shared_net.proofs.preparing.first_tree.Given as goal
+use Rattle.reducer.proofs.opened.first_tree.Given as goal
 
 abbrev pub invariant-loop-loc : goal.invariant-loop-loc
 invariant-loop-loc l = record {

@@ -1,10 +1,10 @@
 use Rattle.std.proofs.Common.{◌≡◌, ◌≤◌, List, length, sym, ap, ◌∙◌, subst}
 use Rattle.chem_model.specs.declared.name.Loc.{Loc}
 use Rattle.env_store.specs.CodeParts.{CodeParts}
+use Rattle.loc_tree.specs.Tree.{bare}
 use Rattle.code_run.proofs.Runs.{drop_past}
 use Rattle.net_laws.specs.Opened.{with_tops}
-use Rattle.shared_net.specs.inside.Beginning.{bare}
-use Rattle.shared_net.proofs.preparing.first_tree.Goals as goal
+use Rattle.reducer.proofs.opened.first_tree.Goals as goal
 
 pub returns : goal.returns
 returns c =

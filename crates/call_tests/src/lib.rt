@@ -1,0 +1,5 @@
+//! Tests of the three runs, called by themselves: from a program to its book and its text.
+#![tactic(auto)]
+
+#[cfg(test)]
+mod calls;
