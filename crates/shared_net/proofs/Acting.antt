@@ -26,10 +26,10 @@ use Rattle.reducer.specs.Reacting.{ran_by, outcome_of}
 use Rattle.reducer.specs.Reacted.{Reacts}
 use Rattle.shared_net.specs.declared.turn.Turn.{Turn}
 use Rattle.shared_net.specs.declared.turn.Turn.TheVariants.{Did, Passed, Nothing, NotEnabled, Full}
-use Rattle.shared_net.specs.inside.Mail.{IsMessageFlight}
-use Rattle.shared_net.specs.inside.Choosing.{CanAct}
-use Rattle.shared_net.specs.inside.Making.{AreNone, IsLeft, AfterPick, StaysFitAt, MeetsAsk}
-use Rattle.shared_net.specs.inside.Making.{AfterCrossing, IsSameTree, FitsHere}
+use Rattle.shared_net.specs.Mail.{IsMessageFlight}
+use Rattle.shared_net.specs.Choosing.{CanAct}
+use Rattle.shared_net.specs.Making.{AreNone, IsLeft, AfterPick, StaysFitAt, MeetsAsk}
+use Rattle.shared_net.specs.Making.{AfterCrossing, IsSameTree, FitsHere}
 use Rattle.shared_net.proofs.Bearing.{births_new}
 use Rattle.shared_net.proofs.Coming.{are_message_flights}
 use Rattle.shared_net.proofs.Opening.{run_same}

@@ -16,7 +16,7 @@ use Rattle.shared_net.specs.Reports.{Reported}
 use Rattle.shared_net.specs.declared.closing.Closed.TheVariants as closed
 use Rattle.shared_net.specs.declared.differs.Differs.{Differs}
 use Rattle.shared_net.specs.declared.differs.Differs.TheVariants as cause
-use Rattle.shared_net.specs.inside.Causes.{Compares}
+use Rattle.shared_net.specs.Causes.{Compares}
 use Rattle.shared_net.specs.Causes.{IsOfStarted}
 use Rattle.shared_net.specs.Closes.{HaveBudget, IsAgreed, Closes}
 use Rattle.shared_net.proofs.Counting.{each_place}

@@ -18,9 +18,9 @@ use Rattle.shared_net.specs.declared.choosing.Chosen.TheVariants as choice
 use Rattle.shared_net.specs.declared.turn.Turn.{Turn}
 use Rattle.shared_net.specs.declared.turn.Turn.TheVariants.{Did}
 use Rattle.shared_net.specs.Passes.{PassKept}
-use Rattle.shared_net.specs.inside.Choosing.{may_meet, IsLeastMet, IsToGo}
-use Rattle.shared_net.specs.inside.Offers.{Offers}
-use Rattle.shared_net.specs.inside.Making.{event_for, IsEventOf, FitsHere, AfterAsk}
+use Rattle.shared_net.specs.Choosing.{may_meet, IsLeastMet, IsToGo}
+use Rattle.shared_net.specs.Offers.{Offers}
+use Rattle.shared_net.specs.Making.{event_for, IsEventOf, FitsHere, AfterAsk}
 use Rattle.shared_net.proofs.Requests.{asked_there, one_member}
 use Rattle.shared_net.proofs.Choices.{can_go_now}
 use Rattle.shared_net.proofs.Offering.{offers_as, made_fits}

@@ -23,7 +23,7 @@ use Rattle.reducer.specs.Picks.{Picked}
 use Rattle.reducer.specs.Fronts.{taken_by}
 use Rattle.reducer.specs.Reacting.{ran_by}
 use Rattle.reducer.proofs.Levels.{hosted_number, locs_there}
-use Rattle.shared_net.specs.inside.Making.{IsSameTree}
+use Rattle.shared_net.specs.Making.{IsSameTree}
 
 -- ---- locations with numbers from a fresh one on are new
 

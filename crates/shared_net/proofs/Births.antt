@@ -22,8 +22,8 @@ use Rattle.reducer.proofs.Counting.{HasRule, has_rule, received_is}
 use Rattle.reducer.proofs.Levels.{level_at, told_as, queues_at}
 use Rattle.reducer.proofs.Masks.{HaveFronts, held_fronts, fronts_args}
 use Rattle.shared_net.specs.declared.turn.Turn.{Turn}
-use Rattle.shared_net.specs.inside.Choosing.{OpensNone}
-use Rattle.shared_net.specs.inside.Making.{AfterPick, BearsNone}
+use Rattle.shared_net.specs.Choosing.{OpensNone}
+use Rattle.shared_net.specs.Making.{AfterPick, BearsNone}
 use Rattle.shared_net.proofs.Acting.{pick_born}
 
 module _ (q : ProgramTerms) (c : CodeParts) (t : Tree) (s : Site) (p : Pick) (x : Picked) (code : IsCode c) (kept : IsKept s) (coded : is_in_code c t s ≡ true) (covers : Covers c s p x) (runs : RunsProgram q c s) where

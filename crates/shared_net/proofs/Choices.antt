@@ -19,7 +19,7 @@ use Rattle.reducer.proofs.Levels.{level_at, told_as}
 use Rattle.failure.specs.Halts as halts
 use Rattle.failure.specs.Deaths as deaths
 use Rattle.migration.specs.Moves as moves
-use Rattle.shared_net.specs.inside.Choosing.{CanAct, may_meet}
+use Rattle.shared_net.specs.Choosing.{CanAct, may_meet}
 
 module _ (c : CodeParts) (t : Tree) (s : Site) (p : Pick) (act : CanAct c t s) (ready : IsReady c t s p) where
   pub is_covered : IsCovered c s p

@@ -16,9 +16,9 @@ use Rattle.net_laws.specs.Site.{Site}
 use Rattle.net_laws.specs.Net.{Addressed}
 use Rattle.site_solution.specs.InTree.{is_in_tree}
 use Rattle.site_solution.specs.Answers.{AreFlights}
-use Rattle.shared_net.specs.inside.Mail.{IsMessageFlight, AreSpelled}
-use Rattle.shared_net.specs.inside.Arriving.{Arrival, come, all_come, HasCome, ArrivesWhere}
-use Rattle.shared_net.specs.inside.Arriving.{Arrives, HasBegun}
+use Rattle.shared_net.specs.Mail.{IsMessageFlight, AreSpelled}
+use Rattle.shared_net.specs.Arriving.{Arrival, come, all_come, HasCome, ArrivesWhere}
+use Rattle.shared_net.specs.Arriving.{Arrives, HasBegun}
 use Rattle.shared_net.specs.inside.Coming.{Comes, HasComeUpTo}
 
 -- ---- what a text spells

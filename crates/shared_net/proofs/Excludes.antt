@@ -9,7 +9,7 @@ use Rattle.shared_net.specs.declared.differs.Differs.{Differs}
 use Rattle.shared_net.specs.declared.differs.Differs.TheVariants as cause
 use Rattle.shared_net.specs.Agrees.{all_receipts, times_at, Stands, Agrees}
 use Rattle.shared_net.specs.Causes.{OneOf, IsHolder, IsCause}
-use Rattle.shared_net.specs.inside.Causes.{IsShownBy}
+use Rattle.shared_net.specs.Causes.{IsShownBy}
 use Rattle.shared_net.proofs.Members.{OneOf-gives, OneOf-each, OneOf-left, OneOf-right}
 use Rattle.shared_net.proofs.Going.{times-append}
 

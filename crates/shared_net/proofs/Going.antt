@@ -12,7 +12,7 @@ use Rattle.shared_net.specs.declared.differs.Differs.TheVariants as cause
 use Rattle.shared_net.specs.Passes.{Rise}
 use Rattle.shared_net.specs.Agrees.{all_receipts, times_at, Stands, Agrees}
 use Rattle.shared_net.specs.Causes.{OneOf, HasPlace, HasReceipt, IsHolder, DifferInNumber, IsCause}
-use Rattle.shared_net.specs.inside.Causes.{IsShownBy}
+use Rattle.shared_net.specs.Causes.{IsShownBy}
 use Rattle.shared_net.specs.inside.Walk.{slot_at, has_place, IsFresh, IsStale, Marks}
 use Rattle.shared_net.proofs.Members.{OneOf-at, OneOf-weaker, OneOf-gives}
 use Rattle.shared_net.proofs.Slots.{slot-free}

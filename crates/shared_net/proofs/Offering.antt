@@ -7,9 +7,9 @@ use Rattle.trace_history.specs.Kept.{BookKept}
 use Rattle.shared_net.specs.declared.turn.Turn.{Turn}
 use Rattle.shared_net.specs.declared.turn.Turn.TheVariants.{Did, Passed, Nothing, NotEnabled, Full}
 use Rattle.shared_net.specs.Passes.{PassKept}
-use Rattle.shared_net.specs.inside.Proposes.{IsFull, Proposes, pass_after}
+use Rattle.shared_net.specs.Proposes.{IsFull, Proposes, pass_after}
 use Rattle.shared_net.specs.Proposes.{with_receipt}
-use Rattle.shared_net.specs.inside.Offers.{Offers, Turned, MayHaveCommitted}
+use Rattle.shared_net.specs.Offers.{Offers, Turned, MayHaveCommitted}
 use Rattle.shared_net.specs.Offers.{MayGain}
 
 module _ (old : BookKept) (held : PassKept) (e : Event) where

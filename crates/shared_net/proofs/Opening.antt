@@ -31,9 +31,9 @@ use Rattle.net_laws.proofs.Trees.{births_roots}
 use Rattle.site_solution.specs.Answers.{IsFlightOf, AreFlights}
 use Rattle.site_solution.specs.declared.effects.Effects.{Effects}
 use Rattle.reducer.specs.Opens.{Opens}
-use Rattle.shared_net.specs.inside.Mail.{IsMessageText, AreSpelled}
-use Rattle.shared_net.specs.inside.Making.{IsSameTree}
-use Rattle.shared_net.specs.inside.Preparing.{messages_to, IsMailOf, IsOpenedAs}
+use Rattle.shared_net.specs.Mail.{IsMessageText, AreSpelled}
+use Rattle.shared_net.specs.Making.{IsSameTree}
+use Rattle.shared_net.specs.Preparing.{messages_to, IsMailOf, IsOpenedAs}
 use Rattle.shared_net.specs.inside.Beginning.{with_text, with_flights, IsUpTo}
 use Rattle.shared_net.proofs.Bearing.{births_same, roomy}
 use Rattle.shared_net.proofs.Coming.{spelled_more}

@@ -15,7 +15,7 @@ use Rattle.site_solution.proofs.Together.{request_id}
 use Rattle.failure.specs.Halts as halts
 use Rattle.failure.specs.Deaths as deaths
 use Rattle.migration.specs.Moves as moves
-use Rattle.shared_net.specs.inside.Choosing.{may_meet, NoneMeets, IsLeastMet}
+use Rattle.shared_net.specs.Choosing.{may_meet, NoneMeets, IsLeastMet}
 
 -- ---- the order of ids
 

@@ -8,7 +8,7 @@ use Rattle.loc_tree.specs.Tree.{Tree}
 use Rattle.net_laws.specs.Site.{Site}
 use Rattle.net_laws.specs.Net.{Net}
 use Rattle.net_laws.specs.Opened.{opened_by, with_opened, all_opened, unopened}
-use Rattle.shared_net.specs.inside.Preparing.{IsOpenedAs}
+use Rattle.shared_net.specs.Preparing.{IsOpenedAs}
 
 opened_long : (c : CodeParts) (i : ℕ) (sites : List SiteCode) (net : Net) → length (all_opened c i sites net).sites ≡ length net.sites + length sites
 opened_long c i [] net = omega arith

@@ -1,5 +1,6 @@
 -- Why the receipts of all workers don't agree with a journal.
-use Rattle.std.specs.Prelude.{◌≡◌, ◌≢◌, ℕ, ◌≤◌, ◌⊎◌, List, [], ◌∷◌}
+use Rattle.std.specs.Prelude.{◌≡◌, ◌≢◌, ℕ, ◌≤◌, ◌⊎◌, List, [], ◌∷◌, length}
+use Rattle.std.specs.Prelude.{Option, Some, None, slice_get}
 use Rattle.chem_model.specs.Each.{Each}
 use Rattle.chem_model.specs.ProgramFacts.{ProgramTerms}
 use Rattle.chem_model.specs.declared.event.Event.{Event}
@@ -7,6 +8,7 @@ use Rattle.shared_net.specs.declared.receipt.Receipt.{Receipt}
 use Rattle.shared_net.specs.declared.report.Worked.{Worked}
 use Rattle.shared_net.specs.declared.differs.Differs.{Differs}
 use Rattle.shared_net.specs.declared.differs.Differs.TheVariants as cause
+use Rattle.shared_net.specs.Agrees.{all_receipts, Agrees}
 
 -- one of the members of a list, by recursion
 abbrev pub OneOf : {X : Type 0} → (X → Type 0) → List X → Type 0
@@ -45,3 +47,15 @@ IsOfStarted program (cause.Event place receipt kept) = Unit {0}
 IsOfStarted program (cause.Twice place first second) = Unit {0}
 IsOfStarted program (cause.Past place end) = Unit {0}
 IsOfStarted program (cause.Program started kept) = started ≡ program
+
+-- the cause is true of the journal; that a book is of another program no journal shows
+abbrev pub IsShownBy : List Event → Differs → Type 0
+IsShownBy journal (cause.Event place receipt kept) = slice_get journal place ≡ Some kept
+IsShownBy journal (cause.Twice place first second) = Unit {0}
+IsShownBy journal (cause.Past place end) = end ≡ length journal
+IsShownBy journal (cause.Program started kept) = ⊥
+
+-- the receipts agree with the journal, or the cause is true of both
+abbrev pub Compares : List Event → List Worked → Option Differs → Type 0
+Compares journal rows None = Agrees journal (all_receipts rows)
+Compares journal rows (Some differs) = IsCause rows differs × IsShownBy journal differs

@@ -1,15 +1,8 @@
 pub mod Receives
 pub mod Coming
-pub mod Arriving
-pub mod Causes
 pub mod Crosses
-pub mod Mail
-pub mod Offers
-pub mod Proposes
 pub mod Beginning
-pub mod Making
 pub mod Walk
-pub mod Preparing
 pub mod Closes
 pub mod TurnParts
 pub mod Choosing

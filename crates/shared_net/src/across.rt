@@ -5,11 +5,11 @@ ghost use Rattle.net_laws.specs.Holding.{request_with};
 ghost use Rattle.migration.specs.Moves.{can_go};
 ghost use Rattle.shared_net.specs.declared.choosing.Chosen.TheVariants as choice;
 ghost use Rattle.shared_net.specs.declared.turn.Turn.TheVariants as turns;
-ghost use Rattle.shared_net.specs.inside.Mail.{IsMessageFlight};
-ghost use Rattle.shared_net.specs.inside.Choosing.{CanAct, IsToGo, Chooses};
-ghost use Rattle.shared_net.specs.inside.Offers.{Turned, MayHaveCommitted};
+ghost use Rattle.shared_net.specs.Mail.{IsMessageFlight};
+ghost use Rattle.shared_net.specs.Choosing.{CanAct, IsToGo, Chooses};
+ghost use Rattle.shared_net.specs.Offers.{Turned, MayHaveCommitted};
 ghost use Rattle.shared_net.specs.Offers.{MayGain};
-ghost use Rattle.shared_net.specs.inside.Making.{IsEventOf, FitsAcross, AfterCrossing, MakesAcross};
+ghost use Rattle.shared_net.specs.Making.{IsEventOf, FitsAcross, AfterCrossing, MakesAcross};
 
 use crate::choosing::can_act;
 use crate::locked::Locked;

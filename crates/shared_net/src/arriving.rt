@@ -4,8 +4,8 @@ ghost use Rattle.chem_model.specs.Each.{Each};
 ghost use Rattle.wire_packet.specs.MessageFacts.{MessageParts};
 ghost use Rattle.wire_packet.specs.Codec.{IsSpelledBy};
 ghost use Rattle.wire_packet.specs.declared.parcel.Packet.TheVariants as sent;
-ghost use Rattle.shared_net.specs.inside.Mail.{IsMessageText, IsMessageFlight};
-ghost use Rattle.shared_net.specs.inside.Arriving.{HasCome, Arrives, HasBegun};
+ghost use Rattle.shared_net.specs.Mail.{IsMessageText, IsMessageFlight};
+ghost use Rattle.shared_net.specs.Arriving.{HasCome, Arrives, HasBegun};
 ghost use Rattle.shared_net.specs.inside.Coming.{Comes, HasComeUpTo};
 
 use chem_model::{Items, Memory, Text, Texts};

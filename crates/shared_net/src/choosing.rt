@@ -3,8 +3,9 @@ ghost use Rattle.std.specs.Prelude.{◌≡◌, ◌↔◌, IfNone, IfSome, IsTrue
 ghost use Rattle.reducer.specs.Ready.{NoneFires, IsReady};
 ghost use Rattle.site_solution.specs.InTree.{is_in_tree};
 ghost use Rattle.shared_net.specs.declared.choosing.Chosen.TheVariants as choice;
-ghost use Rattle.shared_net.specs.inside.Choosing.{CanAct, may_meet, NoneMeets, IsLeastMet};
-ghost use Rattle.shared_net.specs.inside.Choosing.{IsToGo, LeadsTo, Chooses, OpensNone};
+ghost use Rattle.shared_net.specs.Choosing.{CanAct, may_meet, NoneMeets, IsLeastMet};
+ghost use Rattle.shared_net.specs.Choosing.{IsToGo, Chooses, OpensNone};
+ghost use Rattle.shared_net.specs.inside.Choosing.{LeadsTo};
 
 use chem_model::{AtomId, Name, Program};
 use env_store::Code;

@@ -4,7 +4,7 @@ ghost use Rattle.chem_model.specs.Each.{Each};
 ghost use Rattle.shared_net.specs.Passes.{Rise};
 ghost use Rattle.shared_net.specs.Agrees.{row_of};
 ghost use Rattle.shared_net.specs.Causes.{DifferInNumber};
-ghost use Rattle.shared_net.specs.inside.Causes.{Compares};
+ghost use Rattle.shared_net.specs.Causes.{Compares};
 ghost use Rattle.shared_net.specs.Closes.{HaveBudget, Closes};
 ghost use Rattle.shared_net.specs.inside.Closes.{Settles};
 

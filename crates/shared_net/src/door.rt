@@ -2,9 +2,9 @@
 ghost use Rattle.std.specs.Prelude.{◌≡◌, ◌≢◌, IfOk, OnErr};
 ghost use Rattle.chem_model.specs.Each.{Each};
 ghost use Rattle.shared_net.specs.declared.choosing.Chosen.TheVariants as choice;
-ghost use Rattle.shared_net.specs.inside.Mail.{IsMessageFlight};
-ghost use Rattle.shared_net.specs.inside.Choosing.{Chooses, OpensNone, IsToGo};
-ghost use Rattle.shared_net.specs.inside.Offers.{Turned};
+ghost use Rattle.shared_net.specs.Mail.{IsMessageFlight};
+ghost use Rattle.shared_net.specs.Choosing.{Chooses, OpensNone, IsToGo};
+ghost use Rattle.shared_net.specs.Offers.{Turned};
 ghost use Rattle.shared_net.specs.Offers.{MayGain};
 
 use crate::choosing::Chosen;

@@ -4,12 +4,12 @@ ghost use Rattle.chem_model.specs.Each.{Each};
 ghost use Rattle.site_solution.specs.Held.{queues_of, taken_at};
 ghost use Rattle.reducer.specs.Picks.{Picked, Picks, MayFire, IsPick};
 ghost use Rattle.shared_net.specs.declared.choosing.Chosen.TheVariants as choice;
-ghost use Rattle.shared_net.specs.inside.Mail.{IsMessageFlight};
-ghost use Rattle.shared_net.specs.inside.Choosing.{CanAct, Chooses, OpensNone};
-ghost use Rattle.shared_net.specs.inside.Offers.{Turned, MayHaveCommitted};
+ghost use Rattle.shared_net.specs.Mail.{IsMessageFlight};
+ghost use Rattle.shared_net.specs.Choosing.{CanAct, Chooses, OpensNone};
+ghost use Rattle.shared_net.specs.Offers.{Turned, MayHaveCommitted};
 ghost use Rattle.shared_net.specs.Offers.{MayGain};
-ghost use Rattle.shared_net.specs.inside.Making.{IsEventOf, AfterPick, StaysFitAt, BearsNone};
-ghost use Rattle.shared_net.specs.inside.Making.{MakesHere};
+ghost use Rattle.shared_net.specs.Making.{IsEventOf, AfterPick, StaysFitAt, BearsNone};
+ghost use Rattle.shared_net.specs.Making.{MakesHere};
 
 use crate::locked::Locked;
 use crate::making::{Made, no_effects};

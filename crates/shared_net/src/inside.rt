@@ -3,7 +3,7 @@ ghost use Rattle.std.specs.Prelude.{◌≡◌, ◌<◌, ◌↔◌, None, IsTrue,
 ghost use Rattle.chem_model.specs.Each.{Each};
 ghost use Rattle.shared_net.specs.Agrees.{row_of, all_receipts, Agrees};
 ghost use Rattle.shared_net.specs.Causes.{DifferInNumber};
-ghost use Rattle.shared_net.specs.inside.Causes.{Compares};
+ghost use Rattle.shared_net.specs.Causes.{Compares};
 ghost use Rattle.shared_net.specs.inside.Walk.{slot_at, Looks, LooksAll, Marks};
 
 pub use crate::across::make_across;

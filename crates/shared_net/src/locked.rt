@@ -4,7 +4,7 @@ ghost use Rattle.std.specs.Coded.{Coded-set};
 ghost use Rattle.chem_model.specs.ProgramCode.{program_code};
 ghost use Rattle.trace_history.specs.Book.{Commits};
 ghost use Rattle.shared_net.specs.Passes.{new_passes};
-ghost use Rattle.shared_net.specs.inside.Proposes.{HasRoom, IsFull, IsBehind, Proposes};
+ghost use Rattle.shared_net.specs.Proposes.{HasRoom, IsFull, IsBehind, Proposes};
 ghost use Rattle.shared_net.specs.inside.Receives.{Receives};
 
 use crate::pass::{Pass, Passes};

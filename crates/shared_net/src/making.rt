@@ -1,7 +1,7 @@
 // What the calls that make an event answer, and what they have in common.
 ghost use Rattle.std.specs.Prelude.{◌≡◌, IfOk, OnErr, IsTrue};
-ghost use Rattle.shared_net.specs.inside.Making.{AreNone, event_for};
-ghost use Rattle.shared_net.specs.inside.Offers.{Offers, IsUntouched};
+ghost use Rattle.shared_net.specs.Making.{AreNone, event_for};
+ghost use Rattle.shared_net.specs.Offers.{Offers, IsUntouched};
 
 use crate::locked::Locked;
 use crate::pass::Pass;

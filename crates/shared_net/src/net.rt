@@ -5,9 +5,9 @@ ghost use Rattle.env_store.specs.Reading.{IsCodeOf};
 ghost use Rattle.shared_net.specs.Agrees.{row_of};
 ghost use Rattle.shared_net.specs.Causes.{DifferInNumber};
 ghost use Rattle.shared_net.specs.Closes.{HaveBudget, Closes};
-ghost use Rattle.shared_net.specs.inside.Mail.{IsMessageText};
+ghost use Rattle.shared_net.specs.Mail.{IsMessageText};
 ghost use Rattle.shared_net.specs.Passes.{new_passes};
-ghost use Rattle.shared_net.specs.inside.Preparing.{IsOpenedAs};
+ghost use Rattle.shared_net.specs.Preparing.{IsOpenedAs};
 
 use crate::closing;
 use crate::closing::Closed;

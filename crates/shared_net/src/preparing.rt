@@ -9,9 +9,9 @@ ghost use Rattle.net_laws.specs.Net.{Stands};
 ghost use Rattle.net_laws.specs.Opened.{opened_net};
 ghost use Rattle.reducer.specs.Opens.{IsOfProgram};
 ghost use Rattle.shared_net.specs.inside.Beginning.{with_text, with_flights, IsUpTo};
-ghost use Rattle.shared_net.specs.inside.Mail.{IsMessageText};
+ghost use Rattle.shared_net.specs.Mail.{IsMessageText};
 ghost use Rattle.shared_net.specs.Passes.{new_passes};
-ghost use Rattle.shared_net.specs.inside.Preparing.{IsOpenedAs};
+ghost use Rattle.shared_net.specs.Preparing.{IsOpenedAs};
 
 use crate::lists::{Mails, Sites};
 use crate::locked::{Locked, open};

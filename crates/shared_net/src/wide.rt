@@ -11,12 +11,12 @@ ghost use Rattle.reducer.specs.Picks.{Picked, Picks, MayFire};
 ghost use Rattle.reducer.specs.Reacting.{ran_by};
 ghost use Rattle.shared_net.specs.declared.choosing.Chosen.TheVariants as choice;
 ghost use Rattle.shared_net.specs.declared.turn.Turn.TheVariants as turns;
-ghost use Rattle.shared_net.specs.inside.Mail.{IsMessageFlight};
-ghost use Rattle.shared_net.specs.inside.Choosing.{CanAct, may_meet, Chooses};
-ghost use Rattle.shared_net.specs.inside.Offers.{Turned, MayHaveCommitted};
+ghost use Rattle.shared_net.specs.Mail.{IsMessageFlight};
+ghost use Rattle.shared_net.specs.Choosing.{CanAct, may_meet, Chooses};
+ghost use Rattle.shared_net.specs.Offers.{Turned, MayHaveCommitted};
 ghost use Rattle.shared_net.specs.Offers.{MayGain};
-ghost use Rattle.shared_net.specs.inside.Making.{event_for, IsEventOf, FitsHere, IsSameTree};
-ghost use Rattle.shared_net.specs.inside.Making.{AfterPick, MeetsAsk, AfterAsk, MakesWide};
+ghost use Rattle.shared_net.specs.Making.{event_for, IsEventOf, FitsHere, IsSameTree};
+ghost use Rattle.shared_net.specs.Making.{AfterPick, MeetsAsk, AfterAsk, MakesWide};
 
 use crate::choosing::Chosen;
 use crate::here::after_pick;

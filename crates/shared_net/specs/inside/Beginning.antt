@@ -6,8 +6,8 @@ use Rattle.loc_tree.specs.Tree.{Tree}
 use Rattle.net_laws.specs.Site.{Site}
 use Rattle.net_laws.specs.Net.{Net}
 use Rattle.net_laws.specs.Opened.{all_opened, opened_net, BearNew}
-use Rattle.shared_net.specs.inside.Preparing.{IsMailOf}
-use Rattle.shared_net.specs.inside.Making.{IsSameTree}
+use Rattle.shared_net.specs.Preparing.{IsMailOf}
+use Rattle.shared_net.specs.Making.{IsSameTree}
 
 -- the mails with one text more for the site with this number, if there is one
 abbrev pub with_text : ℕ → List ℕ → List (List (List ℕ)) → List (List (List ℕ))

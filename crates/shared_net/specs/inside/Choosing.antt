@@ -1,56 +1,17 @@
--- What a site does next.
-use Rattle.std.specs.Prelude.{◌≡◌, ℕ, Bool, true, false, ◌||◌, Some, is_some, IsTrue}
+-- That a request asks to go to a location of another site.
+use Rattle.std.specs.Prelude.{◌≡◌, ℕ, Some}
 use Rattle.chem_model.specs.declared.name.Loc.{Loc}
 use Rattle.chem_model.specs.declared.name.Name.{Name}
 use Rattle.chem_model.specs.declared.name.Name.TheVariants as name
 use Rattle.chem_model.specs.declared.event.AtomId.{AtomId}
 use Rattle.wire_packet.specs.declared.packet.Ask.TheVariants as request
 use Rattle.wire_packet.specs.declared.packet.Request.{Request}
-use Rattle.env_store.specs.CodeParts.{CodeParts}
 use Rattle.loc_tree.specs.Tree.{Tree}
 use Rattle.net_laws.specs.Site.{Site}
 use Rattle.net_laws.specs.Net.{address}
-use Rattle.net_laws.specs.Holding.{precedes, request_with}
-use Rattle.site_solution.specs.InTree.{is_in_tree}
-use Rattle.site_solution.specs.InCode.{is_in_code}
-use Rattle.site_solution.specs.Draws.{CanDraw}
-use Rattle.reducer.specs.declared.pick.Pick.{Pick}
-use Rattle.reducer.specs.Picks.{Picked, Picks}
-use Rattle.reducer.specs.Ready.{NoneFires, IsReady}
-use Rattle.failure.specs.Halts.{can_halt}
-use Rattle.failure.specs.Deaths.{dead_for}
-use Rattle.migration.specs.Moves.{can_go}
-use Rattle.shared_net.specs.declared.choosing.Chosen.{Chosen}
-use Rattle.shared_net.specs.declared.choosing.Chosen.TheVariants as chosen
-
--- what the calls over a site need of it
-pub record CanAct (c : CodeParts) (t : Tree) (s : Site) : Type 0 where
-  pub there : IsTrue (is_in_tree t s)
-  pub coded : IsTrue (is_in_code c t s)
-  pub draws : CanDraw t s
+use Rattle.net_laws.specs.Holding.{request_with}
 
 -- ---- requests
-
--- the site has a request with this id, and the rule for it lets it be met: to go, to halt, or to
--- detect a failure
-abbrev pub may_meet : Tree → Site → AtomId → Bool
-may_meet t s a = can_go t a s || (can_halt t a s || is_some (dead_for t a s))
-
-abbrev pub NoneMeets : Tree → Site → Type 0
-NoneMeets t s = (b : AtomId) → may_meet t s b ≡ false
-
--- of those that may be met it has the least id
-pub record IsLeastMet (t : Tree) (s : Site) (a : AtomId) : Type 0 where
-  pub met : may_meet t s a ≡ true
-  pub least : (b : AtomId) → may_meet t s b ≡ true → precedes b a ≡ false
-
--- the request asks to go
-pub record IsToGo (a : AtomId) (s : Site) : Type 0 where
-  pub asked : Request
-  pub target : Name
-  pub cont : Name
-  pub here : request_with a s.requests ≡ Some asked
-  pub asks : asked.ask ≡ request.Go target cont
 
 -- and it asks to go to a location of the site with this number
 pub record LeadsTo (t : Tree) (s : Site) (a : AtomId) (number : ℕ) : Type 0 where
@@ -60,16 +21,3 @@ pub record LeadsTo (t : Tree) (s : Site) (a : AtomId) (number : ℕ) : Type 0 wh
   pub here : request_with a s.requests ≡ Some asked
   pub asks : asked.ask ≡ request.Go (name.Place target) cont
   pub number_is : number ≡ address t target
-
--- ---- choices
-
--- the reaction that is ready; where none is, the request with the least id that may be met; and
--- nothing where there is neither, or where the site hasn't what the calls need
-abbrev pub Chooses : CodeParts → Tree → Site → Chosen → Type 0
-Chooses c t s (chosen.Pick p) = CanAct c t s × IsReady c t s p
-Chooses c t s (chosen.Ask a) = CanAct c t s × (NoneFires c t s × IsLeastMet t s a)
-Chooses c t s chosen.Nothing = CanAct c t s → NoneFires c t s × NoneMeets t s
-
--- the guard of the pick opens no location
-abbrev pub OpensNone : CodeParts → Site → Pick → Type 0
-OpensNone c s p = (x : Picked) → Picks c s p x → x.guard.births ≡ 0

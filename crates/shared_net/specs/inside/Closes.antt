@@ -6,7 +6,7 @@ use Rattle.shared_net.specs.declared.differs.Differs.{Differs as Cause}
 use Rattle.shared_net.specs.declared.closing.Closed.{Closed}
 use Rattle.shared_net.specs.declared.closing.Closed.TheVariants.{Agreed, Differs}
 use Rattle.shared_net.specs.Agrees.{all_receipts, Agrees}
-use Rattle.shared_net.specs.inside.Causes.{Compares}
+use Rattle.shared_net.specs.Causes.{Compares}
 
 -- which of the two comes, said of the book behind the lock: that very book where the receipts
 -- agree with it, and else a cause that is true

@@ -7,7 +7,7 @@ use Rattle.wire_packet.specs.Codec.{IsSpelledBy}
 use Rattle.loc_tree.specs.Tree.{Tree}
 use Rattle.net_laws.specs.Site.{Site}
 use Rattle.site_solution.specs.Answers.{AreFlights}
-use Rattle.shared_net.specs.inside.Arriving.{come, HasCome}
+use Rattle.shared_net.specs.Arriving.{come, HasCome}
 
 -- the message that it spells came, and the flight of one that goes on is added behind the others
 pub record Comes (t : Tree) (s : Site) (text : List ℕ) (before : List Flight) (new : Site)

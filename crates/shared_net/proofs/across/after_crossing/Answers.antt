@@ -3,7 +3,7 @@ use Rattle.site_solution.specs.declared.effects.Effects.{Effects}
 use Rattle.migration.specs.Across.{IsMoveBetween}
 use Rattle.reducer.proofs.Reactions.{if_ok}
 use Rattle.shared_net.specs.declared.turn.Turn.TheVariants.{Did}
-use Rattle.shared_net.specs.inside.Mail.{IsMessageFlight}
+use Rattle.shared_net.specs.Mail.{IsMessageFlight}
 use Rattle.shared_net.proofs.Acting.{crossing_sent}
 use Rattle.shared_net.proofs.across.after_crossing.Goals as goal
 

@@ -2,7 +2,7 @@ use Rattle.std.proofs.Common.{refl}
 use Rattle.std.specs.Prelude.{IsTrue}
 use Rattle.chem_model.specs.declared.event.Event.TheVariants as event
 use Rattle.shared_net.specs.declared.choosing.Chosen.TheVariants as choice
-use Rattle.shared_net.specs.inside.Making.{IsEventOf, FitsAcross}
+use Rattle.shared_net.specs.Making.{IsEventOf, FitsAcross}
 use Rattle.shared_net.proofs.Results.{on_err}
 use Rattle.shared_net.proofs.Asking.{go_can, go_event}
 use Rattle.shared_net.proofs.Offering.{offers_as, made_fits, offer_turned, offer_may, may_gain}

@@ -1,7 +1,7 @@
 use Rattle.chem_model.specs.Each.{Each}
 use Rattle.reducer.proofs.Reactions.{if_ok}
-use Rattle.shared_net.specs.inside.Mail.{IsMessageFlight}
-use Rattle.shared_net.specs.inside.Arriving.{HasCome, all_come}
+use Rattle.shared_net.specs.Mail.{IsMessageFlight}
+use Rattle.shared_net.specs.Arriving.{HasCome, all_come}
 use Rattle.shared_net.proofs.Coming.{are_message_flights}
 use Rattle.shared_net.proofs.arriving.arrive.Goals as goal
 

@@ -1,6 +1,6 @@
 use Rattle.std.proofs.Common.{refl}
 use Rattle.net_laws.proofs.Holds.{each_get}
-use Rattle.shared_net.specs.inside.Mail.{IsMessageText}
+use Rattle.shared_net.specs.Mail.{IsMessageText}
 use Rattle.shared_net.proofs.Results.{on_err}
 use Rattle.shared_net.proofs.Coming.{none_came, one_came, all_came, some_came, member_at}
 use Rattle.shared_net.proofs.arriving.work_off.Goals as goal

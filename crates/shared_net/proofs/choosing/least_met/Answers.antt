@@ -1,6 +1,6 @@
 use Rattle.std.proofs.Common.{◌≡◌, ◌∙◌, ◌<◌, true, false, sym, arith, length}
 use Rattle.std.proofs.lemmas.Option.{slice_get_within}
-use Rattle.shared_net.specs.inside.Choosing.{may_meet}
+use Rattle.shared_net.specs.Choosing.{may_meet}
 use Rattle.shared_net.proofs.Requests.{none_first, none_next, none_at_all, least_here}
 use Rattle.shared_net.proofs.choosing.least_met.Goals as goal
 

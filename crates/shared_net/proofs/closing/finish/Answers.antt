@@ -2,7 +2,7 @@
 use Rattle.std.proofs.Common.{◌≡◌, length, map, sym, ◌∙◌, subst, Some, None}
 use Rattle.trace_history.specs.Kept.{BookKept}
 use Rattle.shared_net.specs.Agrees.{row_of, all_receipts, Agrees}
-use Rattle.shared_net.specs.inside.Causes.{Compares}
+use Rattle.shared_net.specs.Causes.{Compares}
 use Rattle.shared_net.proofs.Agreeing.{agreed, with-rows, started_is, differs_closes}
 use Rattle.shared_net.proofs.closing.finish.Goals as goal
 

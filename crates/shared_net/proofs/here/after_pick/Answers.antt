@@ -6,8 +6,8 @@ use Rattle.reducer.specs.Picks.{Picked, Picks}
 use Rattle.reducer.specs.Reacted.{Reacts}
 use Rattle.reducer.proofs.Reactions.{if_ok}
 use Rattle.shared_net.specs.declared.turn.Turn.{Turn}
-use Rattle.shared_net.specs.inside.Mail.{IsMessageFlight}
-use Rattle.shared_net.specs.inside.Making.{AfterPick, StaysFitAt}
+use Rattle.shared_net.specs.Mail.{IsMessageFlight}
+use Rattle.shared_net.specs.Making.{AfterPick, StaysFitAt}
 use Rattle.shared_net.proofs.Acting.{reacts_sent, none_sent, idle_pick, idle_fit}
 use Rattle.shared_net.proofs.here.after_pick.Goals as goal
 

@@ -1,5 +1,5 @@
 use Rattle.shared_net.specs.declared.choosing.Chosen.TheVariants as choice
-use Rattle.shared_net.specs.inside.Making.{IsEventOf}
+use Rattle.shared_net.specs.Making.{IsEventOf}
 use Rattle.shared_net.proofs.Results.{on_err}
 use Rattle.shared_net.proofs.Births.{bears_none}
 use Rattle.shared_net.proofs.Choices.{is_covered, is_told, may_fire}

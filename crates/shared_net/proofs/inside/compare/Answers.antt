@@ -9,7 +9,7 @@ use Rattle.shared_net.specs.declared.report.Worked.{Worked}
 use Rattle.shared_net.specs.Passes.{PassKept, Rise}
 use Rattle.shared_net.specs.Agrees.{row_of}
 use Rattle.shared_net.specs.Causes.{IsCause, HasPlace}
-use Rattle.shared_net.specs.inside.Causes.{IsShownBy}
+use Rattle.shared_net.specs.Causes.{IsShownBy}
 use Rattle.shared_net.specs.inside.Walk.{IsFresh, LooksAll, Marks}
 use Rattle.shared_net.proofs.Members.{drop-at, map-at, map-within, OneOf-at}
 use Rattle.shared_net.proofs.Going.{IsGoing, goes, stops}

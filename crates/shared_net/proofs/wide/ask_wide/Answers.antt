@@ -2,7 +2,7 @@ use Rattle.std.proofs.Common.{ap}
 use Rattle.std.specs.Prelude.{IsTrue}
 use Rattle.env_store.specs.CodeParts.{CodeParts}
 use Rattle.shared_net.specs.declared.choosing.Chosen.TheVariants as choice
-use Rattle.shared_net.specs.inside.Making.{IsEventOf}
+use Rattle.shared_net.specs.Making.{IsEventOf}
 use Rattle.shared_net.proofs.Results.{on_err}
 use Rattle.shared_net.proofs.Asking.{is_asked, own_here, own_met, ask_event, offers_ask, ask_fits, ask_does}
 use Rattle.shared_net.proofs.Offering.{offer_may}

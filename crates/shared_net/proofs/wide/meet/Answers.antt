@@ -6,8 +6,8 @@ use Rattle.site_solution.specs.declared.effects.Effects.{Effects}
 use Rattle.migration.specs.Within.{IsMoveWithin}
 use Rattle.failure.specs.Detects.{IsDetection}
 use Rattle.reducer.proofs.Reactions.{if_ok}
-use Rattle.shared_net.specs.inside.Mail.{IsMessageFlight}
-use Rattle.shared_net.specs.inside.Making.{event_for, FitsHere}
+use Rattle.shared_net.specs.Mail.{IsMessageFlight}
+use Rattle.shared_net.specs.Making.{event_for, FitsHere}
 use Rattle.shared_net.proofs.Choices.{can_go_now, can_detect_now, can_halt_now}
 use Rattle.shared_net.proofs.Acting.{ask_met_sent}
 use Rattle.shared_net.proofs.wide.meet.Goals as goal

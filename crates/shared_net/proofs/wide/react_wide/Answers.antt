@@ -1,6 +1,6 @@
 use Rattle.std.proofs.Common.{inl, ◌∙◌, arith}
 use Rattle.shared_net.specs.declared.choosing.Chosen.TheVariants as choice
-use Rattle.shared_net.specs.inside.Making.{IsEventOf, FitsHere}
+use Rattle.shared_net.specs.Making.{IsEventOf, FitsHere}
 use Rattle.shared_net.proofs.Results.{on_err}
 use Rattle.shared_net.proofs.Choices.{is_covered, is_told, may_fire}
 use Rattle.shared_net.proofs.Offering.{offers_of, proposal_may}

@@ -9,7 +9,7 @@ use Rattle.net_laws.specs.Holding.{put}
 use Rattle.site_solution.specs.InTree.{is_in_tree}
 use Rattle.site_solution.specs.Answers.{AreFlights}
 use Rattle.router.specs.Delivering.{can_deliver, home_at}
-use Rattle.shared_net.specs.inside.Mail.{AreSpelled}
+use Rattle.shared_net.specs.Mail.{AreSpelled}
 
 -- a site, and the messages that go on from it
 pub record Arrival : Type 0 where

@@ -30,9 +30,9 @@ use Rattle.shared_net.specs.declared.making.Made.{Made}
 use Rattle.shared_net.specs.declared.turn.Turn.{Turn}
 use Rattle.shared_net.specs.declared.turn.Turn.TheVariants.{Did, Passed, Nothing, NotEnabled, Full}
 use Rattle.shared_net.specs.Passes.{PassKept}
-use Rattle.shared_net.specs.inside.Proposes.{Proposes}
-use Rattle.shared_net.specs.inside.Offers.{Offers}
-use Rattle.shared_net.specs.inside.Choosing.{CanAct}
+use Rattle.shared_net.specs.Proposes.{Proposes}
+use Rattle.shared_net.specs.Offers.{Offers}
+use Rattle.shared_net.specs.Choosing.{CanAct}
 
 -- ---- the event of a choice
 
