@@ -49,7 +49,8 @@ fn outcome_of(alloc: Global, done: &Done, made_so: bool) -> Result<Outcome, Memo
 fn on_one_thread(alloc: Global, program: &Program) -> Result<Outcome, Memory> {
     let book = Book::start(alloc, program)?;
     let done = alone(alloc, book, 10)?;
-    outcome_of(alloc, &done, matches!(done.how, How::Alone))
+    let made_so = matches!(done.how, How::Alone);
+    outcome_of(alloc, &done, made_so)
 }
 
 fn by_two_workers<R: AllocGlobal + Threads + Wait + Sync>(
@@ -58,7 +59,8 @@ fn by_two_workers<R: AllocGlobal + Threads + Wait + Sync>(
 ) -> Result<Outcome, Memory> {
     let (net, book) = begin(rt.alloc(), program)?;
     let done = rounds(rt, rt.alloc(), net, book, 2, 10)?;
-    outcome_of(rt.alloc(), &done, matches!(done.how, How::Rounds))
+    let made_so = matches!(done.how, How::Rounds);
+    outcome_of(rt.alloc(), &done, made_so)
 }
 
 fn by_two_free_workers<R: AllocGlobal + Threads + Wait + Sync>(
@@ -69,8 +71,8 @@ fn by_two_free_workers<R: AllocGlobal + Threads + Wait + Sync>(
 {
     let code = compile(rt.alloc(), program)?;
     let done = Threaded::new(rt).free(rt.alloc(), program, &code, 2, 10, &OpenGate)?;
-    let both_events = matches!(done.how, How::Shared { events: 2, .. });
-    outcome_of(rt.alloc(), &done, both_events)
+    let made_so = matches!(done.how, How::Shared { events: 2, .. });
+    outcome_of(rt.alloc(), &done, made_so)
 }
 
 /// That a run was made as wanted, ended quiet with two events, and shows the location.
