@@ -1,22 +1,19 @@
 // Books: what is first, and what is made or isn't.
 
+use crate::both::book_with;
 use chem_model::{AtomId, Event, Memory};
 use join_base::Front;
-use join_lex::lex;
-use join_parse::parse;
-use scope_check::check;
 use std::alloc::Global;
 use std::test::Fail;
 use trace_history::{Book, Commit};
+use worked_programs::program_of;
 
 /// More events than any book of these tests has.
 const MOST_EVENTS: usize = 100;
 
-fn book_of(alloc: Global, text: &str) -> Result<Book, Front> {
-    let tokens = lex(alloc, text.as_bytes())?;
-    let tree = parse(alloc, &tokens)?;
-    let program = check(alloc, &tree)?;
-    Ok(Book::start(alloc, &program)?)
+fn book_of(alloc: Global, text: &str) -> Result<Box<Book>, Front> {
+    let program = program_of(alloc, text.as_bytes())?;
+    Ok(book_with(alloc, &program)?)
 }
 
 /// What became of an event. None where the book is too long for these tests.

@@ -4,11 +4,9 @@ use crate::by_lists::first_by_lists;
 use chem_model::{Event, Memory, Named, Numbered, Out, Program};
 use chem_plain::{apply, is_enabled, opening};
 use join_base::Front;
-use join_lex::lex;
-use join_parse::parse;
-use scope_check::check;
 use std::alloc::Global;
 use trace_history::{Book, Commit, Found};
+use worked_programs::program_of;
 
 /// More events than any run of these tests has.
 const MOST_EVENTS: usize = 10_000;
@@ -16,8 +14,8 @@ const MOST_EVENTS: usize = 10_000;
 /// A book, the solution of the plain program, and the site that both look at first.
 #[derive(Drop)]
 pub struct Both {
-    pub book: Book,
-    pub plain: Numbered,
+    pub book: Box<Book>,
+    pub plain: Box<Numbered>,
     pub from: u32,
 }
 
@@ -30,17 +28,21 @@ pub enum End {
     Differ,
 }
 
-fn program_of(alloc: Global, text: &[u8]) -> Result<Program, Front> {
-    let tokens = lex(alloc, text)?;
-    let tree = parse(alloc, &tokens)?;
-    check(alloc, &tree)
+/// The book of a program, before any event.
+pub fn book_with(alloc: Global, program: &Program) -> Result<Box<Book>, Memory> {
+    let book = Book::start(alloc, program)?;
+    Ok(Box::new(alloc, book)?)
+}
+
+fn plain_with(alloc: Global, program: &Program) -> Result<Box<Numbered>, Memory> {
+    let plain = opening(alloc, program)?;
+    Ok(Box::new(alloc, plain)?)
 }
 
 fn both_started(alloc: Global, program: &Program) -> Result<Both, Memory> {
-    let plain = opening(alloc, program)?;
-    let book = Book::start(alloc, program)?;
+    let plain = plain_with(alloc, program)?;
     Ok(Both {
-        book,
+        book: book_with(alloc, program)?,
         plain,
         from: 0,
     })
@@ -135,7 +137,7 @@ impl Both {
         self.from = after(self.plain.counts.len(), found.site);
         match apply(alloc, &self.plain, &found.event)? {
             Some(reached) => {
-                self.plain = reached;
+                self.plain = Box::new(alloc, reached)?;
                 is_made(alloc, &mut self.book, &found.event)
             }
             None => Ok(false),

@@ -1,10 +1,10 @@
 // Texts of traces and logs, byte for byte. The expected texts were written out by hand.
+use crate::both::book_with;
 use chem_model::{
     AtomId, Event, Items, Memory, Name, Proc, Program, Ref, RuleId, SeenDecl, SiteTerm,
 };
 use std::alloc::Global;
 use std::test::Fail;
-use trace_history::Book;
 use trace_text::{Ending, log_bytes, log_of_parts, trace_bytes};
 
 /// The program of `observe out/0; site s [ none : out() ]`.
@@ -34,7 +34,7 @@ fn observing(alloc: Global) -> Result<Program, Memory> {
 fn the_texts_of_a_book(rt: HostRuntime) -> Result<(), Fail> {
     let alloc = rt.alloc();
     let source = b"observe out/0; site s [ none : out() ]";
-    let book = Book::start(alloc, &observing(alloc)?)?;
+    let book = book_with(alloc, &observing(alloc)?)?;
     let trace = trace_bytes(alloc, &book, Ending::Quiescent)?;
     assert_eq!(rt; trace.as_slice(), b"out()\nquiescent\n".as_slice());
     let log = log_bytes(alloc, source, 10, &book, Ending::Stopped)?;

@@ -3,11 +3,7 @@ ghost use denote.Param.Send.{IsSync};
 
 use chem_model::{Memory, Program, Text};
 use guard_compile::compile;
-use join_base::Front;
-use join_lex::lex;
-use join_parse::parse;
 use join_top::{OpenGate, begin};
-use scope_check::check;
 use site_runner::{Done, FreeTeam, How, Threaded, alone, rounds};
 use std::alloc::Global;
 use std::marker::Sync;
@@ -17,40 +13,56 @@ use std::test::Fail;
 use std::thread::Threads;
 use trace_history::Book;
 use trace_text::{Ending, trace_bytes};
+use worked_programs::program_of;
 
 /// A move between sites, and what the moved location then shows.
 const MOVE: &str =
     "observe out/1; site a [ m[ k() => out(m) : go(b, k) ] : 0 ] site b [ none : 0 ]";
 
+/// How a run was made: by free workers with the number of their events.
+#[derive(Clone, Copy, PartialEq, Eq, Debug)]
+enum By {
+    OneThread,
+    Rounds,
+    FreeWorkers(u64),
+    OneThreadAfterAll,
+}
+
+fn by(how: &How) -> By {
+    match how {
+        How::Alone => By::OneThread,
+        How::Rounds => By::Rounds,
+        How::Shared { events, .. } => By::FreeWorkers(*events),
+        How::Lone(_) => By::OneThreadAfterAll,
+    }
+}
+
 /// What a run left, as plain values.
 #[derive(Drop)]
 struct Outcome {
-    made_so: bool,
+    by: By,
     quiet: bool,
     events: usize,
     text: Text,
 }
 
-fn program_of(alloc: Global, text: &str) -> Result<Program, Front> {
-    let tokens = lex(alloc, text.as_bytes())?;
-    let tree = parse(alloc, &tokens)?;
-    check(alloc, &tree)
-}
-
-fn outcome_of(alloc: Global, done: &Done, made_so: bool) -> Result<Outcome, Memory> {
+fn told(alloc: Global, done: &Done) -> Result<Outcome, Memory> {
     Ok(Outcome {
-        made_so,
+        by: by(&done.how),
         quiet: done.book.quiet(),
         events: done.book.journal().len(),
         text: trace_bytes(alloc, &done.book, Ending::Quiescent)?,
     })
 }
 
+fn outcome_of(alloc: Global, done: Done) -> Result<Outcome, Memory> {
+    let done = Box::new(alloc, done)?;
+    told(alloc, &done)
+}
+
 fn on_one_thread(alloc: Global, program: &Program) -> Result<Outcome, Memory> {
     let book = Book::start(alloc, program)?;
-    let done = alone(alloc, book, 10)?;
-    let made_so = matches!(done.how, How::Alone);
-    outcome_of(alloc, &done, made_so)
+    outcome_of(alloc, alone(alloc, book, 10)?)
 }
 
 fn by_two_workers<R: AllocGlobal + Threads + Wait + Sync>(
@@ -58,9 +70,7 @@ fn by_two_workers<R: AllocGlobal + Threads + Wait + Sync>(
     program: &Program,
 ) -> Result<Outcome, Memory> {
     let (net, book) = begin(rt.alloc(), program)?;
-    let done = rounds(rt, rt.alloc(), net, book, 2, 10)?;
-    let made_so = matches!(done.how, How::Rounds);
-    outcome_of(rt.alloc(), &done, made_so)
+    outcome_of(rt.alloc(), rounds(rt, rt.alloc(), net, book, 2, 10)?)
 }
 
 fn by_two_free_workers<R: AllocGlobal + Threads + Wait + Sync>(
@@ -70,14 +80,14 @@ fn by_two_free_workers<R: AllocGlobal + Threads + Wait + Sync>(
     requires { IsSync R.row }
 {
     let code = compile(rt.alloc(), program)?;
-    let done = Threaded::new(rt).free(rt.alloc(), program, &code, 2, 10, &OpenGate)?;
-    let made_so = matches!(done.how, How::Shared { events: 2, .. });
-    outcome_of(rt.alloc(), &done, made_so)
+    let team = Threaded::new(rt);
+    let done = team.free(rt.alloc(), program, &code, 2, 10, &OpenGate)?;
+    outcome_of(rt.alloc(), done)
 }
 
 /// That a run was made as wanted, ended quiet with two events, and shows the location.
-fn expect_move(rt: &impl Abort, run: &Outcome) {
-    assert!(rt; run.made_so);
+fn expect_move(rt: &impl Abort, run: &Outcome, by: By) {
+    assert_eq!(rt; run.by, by);
     assert!(rt; run.quiet);
     assert_eq!(rt; run.events, 2);
     assert_eq!(rt; run.text.as_slice(), b"out(m)\nquiescent\n".as_slice());
@@ -85,9 +95,13 @@ fn expect_move(rt: &impl Abort, run: &Outcome) {
 
 #[test]
 fn a_move_by_the_three_calls(rt: HostRuntime) -> Result<(), Fail> {
-    let program = program_of(rt.alloc(), MOVE)?;
-    expect_move(&rt, &on_one_thread(rt.alloc(), &program)?);
-    expect_move(&rt, &by_two_workers(&rt, &program)?);
-    expect_move(&rt, &by_two_free_workers(&rt, &program)?);
+    let program = program_of(rt.alloc(), MOVE.as_bytes())?;
+    expect_move(&rt, &on_one_thread(rt.alloc(), &program)?, By::OneThread);
+    expect_move(&rt, &by_two_workers(&rt, &program)?, By::Rounds);
+    expect_move(
+        &rt,
+        &by_two_free_workers(&rt, &program)?,
+        By::FreeWorkers(2),
+    );
     Ok(())
 }

@@ -72,25 +72,42 @@ pub fn place(alloc: Global, name: u32, defs: Defs, body: Proc) -> Result<Defn, M
     Defn::place(alloc, Ref::Binder(name), defs, body)
 }
 
+/// The opening of these sites, over one declaration of one argument.
+fn opened(alloc: Global, sites: &SiteTerms) -> Result<Box<Numbered>, Memory> {
+    let seen = Items::from_slice(alloc, &[1])?;
+    let numbered = opening_of(alloc, &seen, sites)?;
+    Ok(Box::new(alloc, numbered)?)
+}
+
 /// The opening of one site, over one declaration of one argument.
-pub fn open_one(alloc: Global, name: u32, defs: Defs, body: Proc) -> Result<Numbered, Memory> {
+pub fn open_one(alloc: Global, name: u32, defs: Defs, body: Proc) -> Result<Box<Numbered>, Memory> {
     let mut sites: SiteTerms = Items::new(alloc);
     sites.push(SiteTerm { name, defs, body })?;
-    let seen = Items::from_slice(alloc, &[1])?;
-    opening_of(alloc, &seen, &sites)
+    opened(alloc, &sites)
 }
 
 /// The opening of two sites, over one declaration of one argument.
-pub fn open_two(alloc: Global, one: SiteTerm, other: SiteTerm) -> Result<Numbered, Memory> {
+pub fn open_two(alloc: Global, one: SiteTerm, other: SiteTerm) -> Result<Box<Numbered>, Memory> {
     let mut sites: SiteTerms = Items::new(alloc);
     sites.push(one)?;
     sites.push(other)?;
-    let seen = Items::from_slice(alloc, &[1])?;
-    opening_of(alloc, &seen, &sites)
+    opened(alloc, &sites)
 }
 
 pub fn atom(site: u32, k: u64) -> AtomId {
     AtomId { site, k }
+}
+
+/// What an event makes. None where it isn't possible.
+fn applied(
+    alloc: Global,
+    numbered: &Numbered,
+    event: &Event,
+) -> Result<Option<Box<Numbered>>, Memory> {
+    match apply(alloc, numbered, event)? {
+        Some(made) => Ok(Some(Box::new(alloc, made)?)),
+        None => Ok(None),
+    }
 }
 
 /// What a rule of site 0 makes of one message. None where it can't take it.
@@ -99,23 +116,31 @@ pub fn reaction(
     numbered: &Numbered,
     rule: u64,
     took: AtomId,
-) -> Result<Option<Numbered>, Memory> {
+) -> Result<Option<Box<Numbered>>, Memory> {
     let took = Items::from_slice(alloc, &[took])?;
     let rule = RuleId { site: 0, k: rule };
-    apply(alloc, numbered, &Event::React { rule, took })
+    applied(alloc, numbered, &Event::React { rule, took })
 }
 
 /// What the move that a request of site 0 asks for makes.
-pub fn movement(alloc: Global, numbered: &Numbered, k: u64) -> Result<Option<Numbered>, Memory> {
-    apply(alloc, numbered, &Event::Move { atom: atom(0, k) })
+pub fn movement(
+    alloc: Global,
+    numbered: &Numbered,
+    k: u64,
+) -> Result<Option<Box<Numbered>>, Memory> {
+    applied(alloc, numbered, &Event::Move { atom: atom(0, k) })
 }
 
 /// What the halt that a request of site 0 asks for makes.
-pub fn halt(alloc: Global, numbered: &Numbered, k: u64) -> Result<Option<Numbered>, Memory> {
-    apply(alloc, numbered, &Event::Halt { atom: atom(0, k) })
+pub fn halt(alloc: Global, numbered: &Numbered, k: u64) -> Result<Option<Box<Numbered>>, Memory> {
+    applied(alloc, numbered, &Event::Halt { atom: atom(0, k) })
 }
 
 /// What the failure that a request of site 0 asks for makes.
-pub fn detection(alloc: Global, numbered: &Numbered, k: u64) -> Result<Option<Numbered>, Memory> {
-    apply(alloc, numbered, &Event::Detect { atom: atom(0, k) })
+pub fn detection(
+    alloc: Global,
+    numbered: &Numbered,
+    k: u64,
+) -> Result<Option<Box<Numbered>>, Memory> {
+    applied(alloc, numbered, &Event::Detect { atom: atom(0, k) })
 }

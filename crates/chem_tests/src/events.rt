@@ -10,7 +10,7 @@ use std::alloc::Global;
 use std::test::Fail;
 
 /// After the request 0.4 of the place 0.1 was granted.
-fn moved(alloc: Global) -> Result<Numbered, Fail> {
+fn moved(alloc: Global) -> Result<Box<Numbered>, Fail> {
     let numbered = a_place_that_leaves(alloc)?;
     let moved = movement(alloc, &numbered, 4)?.ok_or("no move")?;
     Ok(moved)

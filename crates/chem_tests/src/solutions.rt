@@ -15,7 +15,7 @@ fn leaving_place(alloc: Global) -> Result<Defn, Memory> {
 
 /// `site a [ m[ k() => out(m) : go(b, k) ] : 0 ] site b [ none : 0 ]`, in which `a` is the binder
 /// 0.
-pub fn a_place_that_leaves(alloc: Global) -> Result<Numbered, Memory> {
+pub fn a_place_that_leaves(alloc: Global) -> Result<Box<Numbered>, Memory> {
     let defs = one_def(alloc, leaving_place(alloc)?)?;
     let a = SiteTerm {
         name: 0,
@@ -39,7 +39,7 @@ fn telling_site(alloc: Global, name: u32, inner: u32) -> Result<SiteTerm, Memory
 }
 
 /// `site a [ m[ none : out(m) ] : out(a) ] site b [ n[ none : out(n) ] : out(b) ]`.
-pub fn sites_that_tell(alloc: Global) -> Result<Numbered, Memory> {
+pub fn sites_that_tell(alloc: Global) -> Result<Box<Numbered>, Memory> {
     let a = telling_site(alloc, 0, 1)?;
     let b = telling_site(alloc, 2, 3)?;
     open_two(alloc, a, b)
@@ -52,7 +52,7 @@ fn receiving_place(alloc: Global) -> Result<Defn, Memory> {
 }
 
 /// `site s [ none : def m[ none : k() ] and n[ k() => 0 : 0 ] in 0 ]`.
-pub fn a_place_that_sends(alloc: Global) -> Result<Numbered, Memory> {
+pub fn a_place_that_sends(alloc: Global) -> Result<Box<Numbered>, Memory> {
     let sends = place(alloc, 1, no_defs(alloc), signal(alloc, 3))?;
     let defs = two_defs(alloc, sends, receiving_place(alloc)?)?;
     let body = Proc::def(alloc, defs, nothing(alloc))?;
@@ -67,7 +67,7 @@ fn fresh_channel(alloc: Global) -> Result<Proc, Memory> {
 }
 
 /// `site s [ x() => def y() => 0 in out(y) : x() & x() ]`.
-pub fn channels_to_come(alloc: Global) -> Result<Numbered, Memory> {
+pub fn channels_to_come(alloc: Global) -> Result<Box<Numbered>, Memory> {
     let makes = rule(alloc, 1, &[], fresh_channel(alloc)?)?;
     let defs = one_def(alloc, makes)?;
     let calls = both(alloc, signal(alloc, 1), signal(alloc, 1))?;
@@ -88,7 +88,7 @@ fn births(alloc: Global) -> Result<Proc, Memory> {
 }
 
 /// `site s [ x() => def p[ z() => 0 : z() ] and y() => 0 in y() : x() ]`.
-pub fn a_place_to_come(alloc: Global) -> Result<Numbered, Memory> {
+pub fn a_place_to_come(alloc: Global) -> Result<Box<Numbered>, Memory> {
     let makes = rule(alloc, 1, &[], births(alloc)?)?;
     let defs = one_def(alloc, makes)?;
     open_one(alloc, 0, defs, signal(alloc, 1))
@@ -96,7 +96,7 @@ pub fn a_place_to_come(alloc: Global) -> Result<Numbered, Memory> {
 
 /// `site s [ m[ none : halt() ] and d() => 0 : fail(m, d) ]`, in which `m` and `d` are the binders
 /// 1 and 2.
-pub fn a_place_that_halts(alloc: Global) -> Result<Numbered, Memory> {
+pub fn a_place_that_halts(alloc: Global) -> Result<Box<Numbered>, Memory> {
     let halts = place(alloc, 1, no_defs(alloc), Proc::halt())?;
     let hears = rule(alloc, 2, &[], nothing(alloc))?;
     let defs = two_defs(alloc, halts, hears)?;
@@ -105,7 +105,7 @@ pub fn a_place_that_halts(alloc: Global) -> Result<Numbered, Memory> {
 
 /// `site s [ x(u) => 0 and m[ none : go(x, x) ] : x() & go(s, x) ]`, in which `x`, `u` and `m` are
 /// the binders 1 to 3.
-pub fn nothing_to_happen(alloc: Global) -> Result<Numbered, Memory> {
+pub fn nothing_to_happen(alloc: Global) -> Result<Box<Numbered>, Memory> {
     let takes = rule(alloc, 1, &[2], nothing(alloc))?;
     let moves = Proc::go(Ref::Binder(1), Ref::Binder(1));
     let defs = two_defs(alloc, takes, place(alloc, 3, no_defs(alloc), moves)?)?;

@@ -1,20 +1,11 @@
 // What the code of a text has, as plain values.
 
-use chem_model::{Name, Names, Nums, Program};
+use chem_model::{Name, Names, Nums};
 use env_store::{Blocks, Bodies, Guard, Guards, Instr, Level, Levels, Locs, SiteCodes, Slot};
 use guard_compile::{compile, top_names};
-use join_base::Front;
-use join_lex::lex;
-use join_parse::parse;
-use scope_check::check;
 use std::alloc::Global;
 use std::process::Abort;
-
-fn program(alloc: Global, text: &[u8]) -> Result<Program, Front> {
-    let tokens = lex(alloc, text)?;
-    let tree = parse(alloc, &tokens)?;
-    check(alloc, &tree)
-}
+use worked_programs::program_of;
 
 /// The parts of a program's code.
 #[derive(Drop)]
@@ -30,7 +21,7 @@ pub struct Parts {
 
 /// The parts of a copy of the code of a text.
 pub fn code_of(alloc: Global, text: &[u8]) -> Option<Parts> {
-    let program = program(alloc, text).ok()?;
+    let program = program_of(alloc, text).ok()?;
     let code = compile(alloc, &program).ok()?;
     let copy = code.copy(alloc).ok()?;
     Some(Parts {
@@ -46,7 +37,7 @@ pub fn code_of(alloc: Global, text: &[u8]) -> Option<Parts> {
 
 /// The names of the site-level binders of a text.
 pub fn tops_of(alloc: Global, text: &[u8]) -> Option<Names> {
-    let program = program(alloc, text).ok()?;
+    let program = program_of(alloc, text).ok()?;
     top_names(alloc, &program).ok()
 }
 

@@ -25,29 +25,34 @@ fn words_after_name(rt: &HostRuntime) -> io::Result<Vec<String>> {
     Ok(words.collect(rt.alloc())?)
 }
 
-fn main(rt: HostRuntime) -> ExitCode {
-    let words = match words_after_name(&rt) {
-        Ok(words) => words,
-        Err(error) if error.kind() == io::ErrorKind::OutOfMemory => {
-            let _ = rt.eprintln(OUT_OF_MEMORY_LINE);
-            return ExitCode::from(OUT_OF_MEMORY);
-        }
-        Err(_) => {
-            let _ = rt.eprintln(USAGE_LINE);
-            return ExitCode::from(USAGE);
-        }
-    };
+/// Runs the program by these words, and answers its status.
+fn run(rt: &HostRuntime, words: &[String]) -> u8 {
     let mut source = StdSource::new(rt.stdin());
     let mut out = StdSink::new(rt.stdout());
     let mut err = StdSink::new(rt.stderr());
+    let team = Threaded::new(rt);
     let ended = run_join(
         rt.alloc(),
-        words.as_slice(),
+        words,
         &mut source,
         &mut out,
         &mut err,
         &OpenGate,
-        &Threaded::new(&rt),
+        &team,
     );
-    ExitCode::from(ended.status)
+    ended.status
+}
+
+fn main(rt: HostRuntime) -> ExitCode {
+    match words_after_name(&rt) {
+        Ok(words) => ExitCode::from(run(&rt, words.as_slice())),
+        Err(error) if error.kind() == io::ErrorKind::OutOfMemory => {
+            let _ = rt.eprintln(OUT_OF_MEMORY_LINE);
+            ExitCode::from(OUT_OF_MEMORY)
+        }
+        Err(_) => {
+            let _ = rt.eprintln(USAGE_LINE);
+            ExitCode::from(USAGE)
+        }
+    }
 }

@@ -97,12 +97,13 @@ fn ended_by<G: Gate, T: Team + FreeTeam<G>>(
     err: &mut MemSink,
     gate: &G,
     team: &T,
-) -> Result<Ended, Memory>
+) -> Result<Box<Ended>, Memory>
     requires ready { T.ready }
     requires free_ready { T.free_ready }
 {
     let words = owned(alloc, words)?;
-    Ok(run_join(alloc, words.as_slice(), source, out, err, gate, team))
+    let ended = run_join(alloc, words.as_slice(), source, out, err, gate, team);
+    Ok(Box::new(alloc, ended)?)
 }
 
 /// Runs the words over a source and two sinks, by a team whose free workers pass a gate.
@@ -176,7 +177,11 @@ pub fn kept_by<R: AllocGlobal + Abort + Threads + Wait + Sync>(
         &OpenGate,
         &team,
     )?;
-    Ok(ended.kept.map(|kept| (kept.program, kept.journal)))
+    Ok(
+        Box::into_inner(ended)
+            .kept
+            .map(|kept| (kept.program, kept.journal)),
+    )
 }
 
 impl Outcome {

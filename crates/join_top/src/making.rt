@@ -56,9 +56,16 @@ pub fn begin(alloc: Global, program: &Program) -> Result<(Net, Book), Memory>
     let _tops = &program.tops;
     let code = compile(alloc, program)?;
     let _known = &code.tops;
-    let net = Net::start(alloc, program, &code)?;
-    let book = Book::start(alloc, program)?;
-    Ok((net, book))
+    let started = Net::start(alloc, program, &code);
+    drop(code);
+    let net = started?;
+    match Book::start(alloc, program) {
+        Ok(book) => Ok((net, book)),
+        Err(memory) => {
+            drop(net);
+            Err(memory)
+        }
+    }
 }
 
 /// The run in rounds, from the beginning.
@@ -95,5 +102,7 @@ fn on_free_threads<G, T: FreeTeam<G>>(
     ensures { IfOk result (IsRunBy by.Run workers budget program.now) }
 {
     let code = compile(alloc, program)?;
-    team.free(alloc, program, &code, workers, budget, gate)
+    let done = team.free(alloc, program, &code, workers, budget, gate);
+    drop(code);
+    done
 }

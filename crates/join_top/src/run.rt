@@ -63,7 +63,13 @@ pub fn run<G: Gate, T: Team + FreeTeam<G>>(
     done.book.replays();
     done.book.is_a_run();
     let ending = ending_of(done.book.quiet());
-    let text = printed(alloc, asked, source, &done.book, ending)?;
+    let text = match printed(alloc, asked, source, &done.book, ending) {
+        Ok(text) => text,
+        Err(memory) => {
+            drop(done);
+            return Err(memory);
+        }
+    };
     let how = done.how;
     let (program, journal) = done.book.into_parts();
     let kept = Kept {

@@ -1,14 +1,13 @@
 // A network, and a book that makes the same events.
 
 use chem_model::{Event, Memory, Out, Program};
+use env_store::Code;
 use guard_compile::compile;
 use join_base::Front;
-use join_lex::lex;
-use join_parse::parse;
 use net_core::{Choice, Net};
-use scope_check::check;
 use std::alloc::Global;
 use trace_history::{Book, Commit};
+use worked_programs::program_of;
 
 /// More events than any run of these tests has.
 const MOST_EVENTS: u32 = 10_000;
@@ -16,8 +15,8 @@ const MOST_EVENTS: u32 = 10_000;
 /// The network of a program, a book of the same program, and how many sites and guards there are.
 #[derive(Drop)]
 pub struct Both {
-    pub net: Net,
-    pub book: Book,
+    pub net: Box<Net>,
+    pub book: Box<Book>,
     pub sites: u32,
     pub guards: u32,
 }
@@ -31,24 +30,38 @@ pub enum Step {
     Refused,
 }
 
-pub fn program_of(alloc: Global, text: &[u8]) -> Result<Program, Front> {
-    let tokens = lex(alloc, text)?;
-    let tree = parse(alloc, &tokens)?;
-    check(alloc, &tree)
+/// The network of a text after its opening.
+pub fn net_of(alloc: Global, text: &[u8]) -> Result<Box<Net>, Front> {
+    let program = program_of(alloc, text)?;
+    let code = compile(alloc, &program)?;
+    Ok(net_with(alloc, &program, &code)?)
+}
+
+fn net_with(alloc: Global, program: &Program, code: &Code) -> Result<Box<Net>, Memory> {
+    let net = Net::start(alloc, program, code)?;
+    Ok(Box::new(alloc, net)?)
+}
+
+fn book_with(alloc: Global, program: &Program) -> Result<Box<Book>, Memory> {
+    let book = Book::start(alloc, program)?;
+    Ok(Box::new(alloc, book)?)
+}
+
+fn both_with(alloc: Global, program: &Program, code: &Code) -> Result<Both, Memory> {
+    let net = net_with(alloc, program, code)?;
+    Ok(Both {
+        net,
+        book: book_with(alloc, program)?,
+        sites: program.sites.len() as u32,
+        guards: code.guards.len() as u32,
+    })
 }
 
 /// The network and the book of a text, each after its opening.
 pub fn both_of(alloc: Global, text: &[u8]) -> Result<Both, Front> {
     let program = program_of(alloc, text)?;
     let code = compile(alloc, &program)?;
-    let net = Net::start(alloc, &program, &code)?;
-    let book = Book::start(alloc, &program)?;
-    Ok(Both {
-        net,
-        book,
-        sites: program.sites.len() as u32,
-        guards: code.guards.len() as u32,
-    })
+    Ok(both_with(alloc, &program, &code)?)
 }
 
 fn commit(alloc: Global, book: &mut Book, event: &Event) -> Result<Step, Memory> {

@@ -1,8 +1,7 @@
 // A packet that is forwarded after a move, and lists of choices that are played.
 
-use crate::both::{Both, Step, both_of, program_of};
+use crate::both::{Both, Step, both_of, net_of};
 use chem_model::{AtomId, Event, Memory, RuleId};
-use guard_compile::compile;
 use join_base::Front;
 use net_core::{Choice, Net, PlayStop, Played};
 use std::alloc::Global;
@@ -66,22 +65,30 @@ fn is_react(event: Option<&Event>, k: u64, taken: AtomId) -> bool {
     }
 }
 
-/// How many packets are under way after the opening, how many of the three choices are made,
-/// whether the two that come next are, whether the events are the right ones, and whether the
-/// network and the book agree.
-fn forwarded(alloc: Global) -> Result<(u32, usize, bool, bool, bool), Front> {
-    let mut both = both_of(alloc, FORWARDED.as_bytes())?;
-    let packets = both.net.flights();
-    let deliver = Choice::Deliver { flight: 0 };
-    let made = make_all(alloc, &mut both, &[move_of(6), deliver, deliver])?;
-    let next = make_next(alloc, &mut both, 2)?;
-    let events = both.book.journal().as_slice();
-    let right = events.len() == 3
+/// Whether these are the move and the two reactions that come of the packets.
+fn are_forwarded(events: &[Event]) -> bool {
+    events.len() == 3
         && is_move(events.first(), atom(0, 6))
         && is_react(events.get(1), 4, atom(1, 2))
-        && is_react(events.get(2), 5, atom(1, 1));
+        && is_react(events.get(2), 5, atom(1, 1))
+}
+
+/// How many packets are under way after the opening, how many of the three choices are made,
+/// whether the two that come next are, whether the events are the right ones, and whether the
+/// network and the book agree where nothing is left.
+fn forward(alloc: Global, both: &mut Both) -> Result<(u32, usize, bool, bool, bool), Memory> {
+    let packets = both.net.flights();
+    let deliver = Choice::Deliver { flight: 0 };
+    let made = make_all(alloc, both, &[move_of(6), deliver, deliver])?;
+    let next = make_next(alloc, both, 2)?;
+    let right = are_forwarded(both.book.journal().as_slice());
     let agree = both.agree(alloc)? && both.net.next().is_none();
     Ok((packets, made, next, right, agree))
+}
+
+fn forwarded(alloc: Global) -> Result<(u32, usize, bool, bool, bool), Front> {
+    let mut both = both_of(alloc, FORWARDED.as_bytes())?;
+    Ok(forward(alloc, &mut both)?)
 }
 
 /// The first delivery forwards the packet to the site to which the location went, and the second
@@ -89,12 +96,6 @@ fn forwarded(alloc: Global) -> Result<(u32, usize, bool, bool, bool), Front> {
 #[test]
 fn a_packet_is_forwarded_after_a_move(rt: HostRuntime) {
     assert_eq!(rt; forwarded(rt.alloc()), Ok((1, 3, true, true, true)));
-}
-
-fn started(alloc: Global) -> Result<Net, Front> {
-    let program = program_of(alloc, MOVED.as_bytes())?;
-    let code = compile(alloc, &program)?;
-    Ok(Net::start(alloc, &program, &code)?)
 }
 
 /// Plays a list of few choices, where there were few events.
@@ -107,7 +108,7 @@ fn play(alloc: Global, net: &mut Net, choices: &[Choice]) -> Result<Played, Memo
 
 /// How many events come of a list of choices, how many of these are made, and how it stops.
 fn played(alloc: Global, choices: &[Choice]) -> Result<(usize, u64, PlayStop), Front> {
-    let mut net = started(alloc)?;
+    let mut net = net_of(alloc, MOVED.as_bytes())?;
     let played = play(alloc, &mut net, choices)?;
     Ok((played.events.len(), played.done, played.stop))
 }
@@ -124,20 +125,24 @@ fn a_request_is_met_once(rt: HostRuntime) {
 
 /// What comes next once the location has moved.
 fn next_after_move(alloc: Global) -> Result<Option<Choice>, Front> {
-    let mut net = started(alloc)?;
+    let mut net = net_of(alloc, MOVED.as_bytes())?;
     let _played = play(alloc, &mut net, &[move_of(4)])?;
     Ok(net.next())
+}
+
+/// Whether these are the move and the reaction of what comes of it.
+fn are_moved(events: &[Event]) -> bool {
+    events.len() == 2
+        && is_move(events.first(), atom(0, 4))
+        && is_react(events.get(1), 3, atom(1, 1))
 }
 
 /// Whether the two events of a move and this choice are the right ones, how they stop, and whether
 /// nothing comes next.
 fn moved_and(alloc: Global, then: Choice) -> Result<(bool, PlayStop, bool), Front> {
-    let mut net = started(alloc)?;
+    let mut net = net_of(alloc, MOVED.as_bytes())?;
     let played = play(alloc, &mut net, &[move_of(4), then])?;
-    let events = played.events.as_slice();
-    let right = events.len() == 2
-        && is_move(events.first(), atom(0, 4))
-        && is_react(events.get(1), 3, atom(1, 1));
+    let right = are_moved(played.events.as_slice());
     Ok((right, played.stop, net.next().is_none()))
 }
 

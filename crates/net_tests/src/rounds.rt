@@ -1,8 +1,7 @@
 // Rounds: each site is lent to one of some workers. The expected events were worked out by hand.
 
-use crate::both::program_of;
+use crate::both::net_of;
 use chem_model::{AtomId, Event, Journal, Memory, RuleId};
-use guard_compile::compile;
 use join_base::Front;
 use net_core::{Choice, Net};
 use std::alloc::Global;
@@ -26,22 +25,22 @@ const MANY: &str = "observe out/1; \
 
 const QUOTA: u32 = 5;
 
-fn net_of(alloc: Global, text: &str) -> Result<Net, Front> {
-    let program = program_of(alloc, text.as_bytes())?;
-    let code = compile(alloc, &program)?;
-    Ok(Net::start(alloc, &program, &code)?)
+/// Whether a network and so many workers are as a round wants them.
+fn is_small(net: &Net, workers: u32) -> bool {
+    net.events() <= 1_000 && net.sites() <= 1_000 && workers > 0 && workers <= 16
 }
 
 fn round<R: Threads + Sync>(
     rt: &R,
     alloc: Global,
-    net: Net,
+    net: Box<Net>,
     workers: u32,
-) -> Result<(Net, Journal), Memory> {
-    if net.events() > 1_000 || net.sites() > 1_000 || workers == 0 || workers > 16 {
+) -> Result<(Box<Net>, Journal), Memory> {
+    if !is_small(&net, workers) {
         return Err(Memory);
     }
-    net.round(rt, alloc, workers, QUOTA)
+    let (net, journal) = Box::into_inner(net).round(rt, alloc, workers, QUOTA)?;
+    Ok((Box::new(alloc, net)?, journal))
 }
 
 /// The rule of a reaction and the first message that it takes.
@@ -72,7 +71,7 @@ fn are_by_site(events: &[Event]) -> bool {
 }
 
 fn two_sites<R: Threads + Sync>(rt: &R, alloc: Global) -> Result<bool, Front> {
-    let net = net_of(alloc, TWO_SITES)?;
+    let net = net_of(alloc, TWO_SITES.as_bytes())?;
     let (_net, journal) = round(rt, alloc, net, 2)?;
     Ok(are_by_site(journal.as_slice()))
 }
@@ -91,7 +90,7 @@ fn opening_of(net: &Net) -> Option<Choice> {
 }
 
 fn opening(alloc: Global, text: &str) -> Result<Option<Choice>, Front> {
-    let net = net_of(alloc, text)?;
+    let net = net_of(alloc, text.as_bytes())?;
     Ok(opening_of(&net))
 }
 
@@ -107,7 +106,7 @@ fn is_made(alloc: Global, net: &mut Net, choice: &Choice) -> Result<bool, Memory
 }
 
 fn opened(alloc: Global) -> Result<bool, Front> {
-    let mut net = net_of(alloc, OPENS)?;
+    let mut net = net_of(alloc, OPENS.as_bytes())?;
     match opening_of(&net) {
         Some(choice) => Ok(is_made(alloc, &mut net, &choice)?),
         None => Ok(false),
@@ -132,7 +131,7 @@ fn are_move(choices: &[Choice], k: u64) -> (usize, bool) {
 }
 
 fn asked(alloc: Global) -> Result<(usize, bool), Front> {
-    let net = net_of(alloc, MOVES)?;
+    let net = net_of(alloc, MOVES.as_bytes())?;
     let choices = net.asks(alloc)?;
     Ok(are_move(choices.as_slice(), 4))
 }
@@ -172,9 +171,9 @@ type Left = (u64, usize, u32);
 fn next_round<R: Threads + Sync>(
     rt: &R,
     alloc: Global,
-    net: Net,
+    net: Box<Net>,
     workers: u32,
-) -> Result<(Net, Left), Memory> {
+) -> Result<(Box<Net>, Left), Memory> {
     let (net, journal) = round(rt, alloc, net, workers)?;
     let events = journal.as_slice();
     let left = (number_of(events), events.len(), net.flights());
@@ -187,7 +186,7 @@ fn two_rounds<R: Threads + Sync>(
     alloc: Global,
     workers: u32,
 ) -> Result<(Left, Left, usize), Front> {
-    let mut net = net_of(alloc, MANY)?;
+    let mut net = net_of(alloc, MANY.as_bytes())?;
     make_move(alloc, &mut net);
     let (net, first) = next_round(rt, alloc, net, workers)?;
     let (net, second) = next_round(rt, alloc, net, workers)?;

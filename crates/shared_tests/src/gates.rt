@@ -3,7 +3,6 @@ ghost use Rattle.std.specs.Prelude.{◌≡◌};
 
 use crate::passes::{Ended, close_all, turn_at, work};
 use crate::runs::begin;
-use crate::texts::program_of;
 use chem_model::{Memory, Program};
 use join_base::Front;
 use shared_net::{HoldGate, Run, Turn};
@@ -12,6 +11,7 @@ use std::marker::Brand;
 use std::sync::Wait;
 use std::sync::ledger::Blank;
 use std::thread::Threads;
+use worked_programs::program_of;
 
 /// Two sites of ten messages each.
 const TWENTY: &str = "site s [ x() => 0 : \
@@ -46,7 +46,7 @@ fn on_threads<R: Threads + Wait + Sync>(
     rt: &R,
     alloc: Global,
 ) -> Result<(bool, Option<Ended>), Front> {
-    let program = program_of(alloc, TWENTY)?;
+    let program = program_of(alloc, TWENTY.as_bytes())?;
     Ok(run_both::<Brand, R>(rt, alloc, &program, Blank::new(2))?)
 }
 
@@ -94,7 +94,7 @@ fn in_turn<R: Wait>(
     rt: &R,
     alloc: Global,
 ) -> Result<(bool, [Option<Turn>; 2], Option<Ended>), Front> {
-    let program = program_of(alloc, TWENTY)?;
+    let program = program_of(alloc, TWENTY.as_bytes())?;
     Ok(run_in_turn::<Brand, R>(rt, alloc, &program, Blank::new(2))?)
 }
 

@@ -125,8 +125,7 @@ pub fn close_all<L: Run>(alloc: Global, net: SharedNet<L>, passes: Passes<L>) ->
     requires some { 0 < L.parts }
     requires owners { HaveSameOwners (new_passes net.budget 1 L.parts) passes }
 {
-    match net.close(alloc, passes) {
-        Ok(closed) => end_of(alloc, &closed),
-        Err(_) => None,
-    }
+    let closed = net.close(alloc, passes).ok()?;
+    let closed = Box::new(alloc, closed).ok()?;
+    end_of(alloc, &closed)
 }

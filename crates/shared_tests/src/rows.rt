@@ -6,7 +6,7 @@ ghost use Rattle.env_store.specs.Reading.{IsCodeOf};
 ghost use Rattle.shared_net.specs.Mail.{IsMessageText};
 
 use crate::plain::{Told, agree, go, go_on, holds, mail_of, make, react, root_of};
-use crate::texts::{FIRST, MOVED, WITHIN, atom, loc, program_of};
+use crate::texts::{FIRST, MOVED, WITHIN, atom, loc};
 use chem_model::{Items, Memory, Name, Program, Texts};
 use env_store::Code;
 use guard_compile::compile;
@@ -19,6 +19,7 @@ use std::alloc::Global;
 use std::marker::Brand;
 use std::sync::ledger::Blank;
 use wire_packet::Msg;
+use worked_programs::program_of;
 
 // ---- openings
 
@@ -42,7 +43,7 @@ fn begin<L: Run>(
     program: &Program,
     code: &Code,
     blank: Blank,
-) -> Result<Begun<L>, Memory>
+) -> Result<Box<Begun<L>>, Memory>
     requires code { IsCodeOf program.now code.now }
     requires name { blank.name ≡ L.name }
     requires parts { blank.parts ≡ L.parts }
@@ -60,11 +61,12 @@ fn begin<L: Run>(
         tree,
         sites: sites.into_vec(),
     };
-    Ok(Begun {
+    let begun = Begun {
         opening,
         locked,
         passes,
-    })
+    };
+    Ok(Box::new(alloc, begun)?)
 }
 
 // The opening alone.
@@ -80,12 +82,8 @@ fn open<L: Run>(
     requires one { blank.parts ≡ 1 }
     requires program { program.now ≡ L.program }
 {
-    let Begun {
-        opening,
-        locked: _,
-        passes: _,
-    } = begin::<L>(alloc, program, code, blank)?;
-    Ok(opening)
+    let begun = begin::<L>(alloc, program, code, blank)?;
+    Ok(Box::into_inner(begun).opening)
 }
 
 // ---- a reaction, and the same reaction once more
@@ -140,6 +138,23 @@ struct Twice {
     second: Option<Reacted>,
 }
 
+fn react_both<L: Run>(
+    alloc: Global,
+    program: &Program,
+    code: &Code,
+    begun: &mut Begun<L>,
+    other: &mut Opening,
+) -> Twice {
+    let opening = &mut begun.opening;
+    let locked = &mut begun.locked;
+    let passes = &mut begun.passes;
+    Twice {
+        flight: no_mail(alloc, opening),
+        first: react_first(alloc, opening, program, code, locked, passes),
+        second: react_first(alloc, other, program, code, locked, passes),
+    }
+}
+
 fn react_twice<L: Run>(
     alloc: Global,
     program: &Program,
@@ -154,18 +169,11 @@ fn react_twice<L: Run>(
     requires program { program.now ≡ L.program }
 {
     let mut begun = begin::<L>(alloc, program, code, blank)?;
-    let opening = &mut begun.opening;
-    let locked = &mut begun.locked;
-    let passes = &mut begun.passes;
-    Ok(Twice {
-        flight: no_mail(alloc, opening),
-        first: react_first(alloc, opening, program, code, locked, passes),
-        second: react_first(alloc, other, program, code, locked, passes),
-    })
+    Ok(react_both(alloc, program, code, &mut begun, other))
 }
 
 fn run_twice(alloc: Global) -> Result<Twice, Front> {
-    let program = program_of(alloc, FIRST)?;
+    let program = program_of(alloc, FIRST.as_bytes())?;
     let code = compile(alloc, &program)?;
     let mut other = open::<Brand>(alloc, &program, &code, Blank::new(1))?;
     Ok(react_twice::<Brand>(alloc, &program, &code, Blank::new(1), &mut other)?)
@@ -273,6 +281,17 @@ struct Crossed {
     came: [Result<Came, Memory>; 2],
 }
 
+fn cross<L: Run>(alloc: Global, program: &Program, code: &Code, begun: &mut Begun<L>) -> Crossed {
+    let moved = Moved {
+        chosen: chosen(program, code, &begun.opening),
+        made: go_across(alloc, program, code, begun),
+        host: root_of(&begun.opening.tree, &loc(0, 1)),
+    };
+    let opening = &mut begun.opening;
+    let came = [comes(alloc, opening, 0), comes(alloc, opening, 1)];
+    Crossed { moved, came }
+}
+
 fn move_across<L: Run>(
     alloc: Global,
     program: &Program,
@@ -286,18 +305,11 @@ fn move_across<L: Run>(
     requires program { program.now ≡ L.program }
 {
     let mut begun = begin::<L>(alloc, program, code, blank)?;
-    let moved = Moved {
-        chosen: chosen(program, code, &begun.opening),
-        made: go_across(alloc, program, code, &mut begun),
-        host: root_of(&begun.opening.tree, &loc(0, 1)),
-    };
-    let opening = &mut begun.opening;
-    let came = [comes(alloc, opening, 0), comes(alloc, opening, 1)];
-    Ok(Crossed { moved, came })
+    Ok(cross(alloc, program, code, &mut begun))
 }
 
 fn across(alloc: Global) -> Result<Crossed, Front> {
-    let program = program_of(alloc, MOVED)?;
+    let program = program_of(alloc, MOVED.as_bytes())?;
     let code = compile(alloc, &program)?;
     Ok(move_across::<Brand>(alloc, &program, &code, Blank::new(1))?)
 }
@@ -317,6 +329,14 @@ fn make_first<L: Run>(
     make(alloc, site, tree, program, code, locked, passes)
 }
 
+fn move_here<L: Run>(alloc: Global, program: &Program, code: &Code, begun: &mut Begun<L>) -> Moved {
+    Moved {
+        chosen: chosen(program, code, &begun.opening),
+        made: make_first(alloc, program, code, begun),
+        host: root_of(&begun.opening.tree, &loc(0, 1)),
+    }
+}
+
 fn move_within<L: Run>(
     alloc: Global,
     program: &Program,
@@ -330,15 +350,11 @@ fn move_within<L: Run>(
     requires program { program.now ≡ L.program }
 {
     let mut begun = begin::<L>(alloc, program, code, blank)?;
-    Ok(Moved {
-        chosen: chosen(program, code, &begun.opening),
-        made: make_first(alloc, program, code, &mut begun),
-        host: root_of(&begun.opening.tree, &loc(0, 1)),
-    })
+    Ok(move_here(alloc, program, code, &mut begun))
 }
 
 fn within(alloc: Global) -> Result<Moved, Front> {
-    let program = program_of(alloc, WITHIN)?;
+    let program = program_of(alloc, WITHIN.as_bytes())?;
     let code = compile(alloc, &program)?;
     Ok(move_within::<Brand>(alloc, &program, &code, Blank::new(1))?)
 }

@@ -6,7 +6,6 @@ ghost use Rattle.shared_net.specs.Turning.{HaveSameOwners};
 use crate::cases::{Case, cases};
 use crate::counted::{CountGate, Passed};
 use crate::passes::{Ended, close_all, turn_at};
-use crate::texts::program_of;
 use chem_model::{Memory, Program};
 use guard_compile::compile;
 use join_base::Front;
@@ -15,6 +14,7 @@ use std::alloc::Global;
 use std::marker::Brand;
 use std::sync::Wait;
 use std::sync::ledger::Blank;
+use worked_programs::program_of;
 
 /// The number of the first turn that doesn't answer as wanted, and its answer.
 type Other = Option<(usize, Option<Turn>)>;
@@ -101,7 +101,7 @@ fn run_case<R: Wait>(
     alloc: Global,
     case: &Case,
 ) -> Result<(Other, Option<Ended>, Passed), Front> {
-    let program = program_of(alloc, case.text)?;
+    let program = program_of(alloc, case.text.as_bytes())?;
     if case.budget > 1_000_000 {
         return Err(Front::Memory);
     }

@@ -1,11 +1,6 @@
-// Programs of texts, and names of a run.
+// Texts, and names of a run.
 
-use chem_model::{AtomId, Loc, Program};
-use join_base::Front;
-use join_lex::lex;
-use join_parse::parse;
-use scope_check::check;
-use std::alloc::Global;
+use chem_model::{AtomId, Loc};
 
 /// The channel is 0.1 with its home 0.0, its rule 0.2, and the message of the opening 0.3.
 pub const FIRST: &str = "observe out/1; site s [ x(u) => out(u) : x(s) ]";
@@ -17,12 +12,6 @@ pub const MOVED: &str =
 /// The locations are 0.1 and 0.3, with the requests 0.6 and 0.8 to go. The target of the second one
 /// is no site.
 pub const WITHIN: &str = "site a [ m[ k() => 0 : go(a, k) ] and n[ j() => 0 : go(m, j) ] : 0 ]";
-
-pub fn program_of(alloc: Global, text: &str) -> Result<Program, Front> {
-    let tokens = lex(alloc, text.as_bytes())?;
-    let tree = parse(alloc, &tokens)?;
-    check(alloc, &tree)
-}
 
 pub fn loc(site: u32, k: u64) -> Loc {
     Loc { site, k }

@@ -18,9 +18,9 @@ use Rattle.shared_net.specs.Passes.{PassKept}
 use Rattle.shared_net.specs.Reports.{Reported}
 use Rattle.shared_net.specs.Turning.{HaveSameOwners}
 use Rattle.site_runner.specs.declared.outcome.Done.{Done}
-use Rattle.site_runner.specs.Free.{HasEnded, AreRows, AreFirst, GoesOnAlone, HasCause, IsMadeWith, IsFree}
+use Rattle.site_runner.specs.Free.{IsFinished, HasEnded, AreRows, AreFirst, GoesOnAlone, HasCause, IsMadeWith, IsFree}
 use Rattle.site_runner.specs.Run.{RunsOn}
-use Rattle.site_runner.specs.Schedule.{IsSchedule}
+use Rattle.site_runner.specs.Schedule.{IsSchedule, ScheduleOf}
 
 pub lent_whole : (old w : List PassKept) → length w ≡ length old → take (length old) (w ++ drop (length w) old) ≡ w
 lent_whole [] [] l = refl
@@ -145,3 +145,15 @@ module _ (sites : ℕ) (old w : List PassKept) (p : ProgramTerms) (budget : ℕ)
       → IfOk r (λ (d : Done). IsMadeWith report.workers p budget d.book.journal d.how)
       → IfOk r (λ (d : Done). IsFree sites (map (λ (p : PassKept). p.number) old) p budget d.book.journal d.how)
   lone_is_free report closes r made = with_rows report.workers closes.0 r made
+
+-- the run from a program's book before any event
+module _ (p : ProgramTerms) (budget : ℕ) (book : BookKept) (same : book.program ≡ p) where
+  pub is_finished : (r : Result BookKept Memory) → IfOk r (RunsOn book budget) → IfOk r (IsFinished p budget)
+  is_finished (Err e) run = tt
+  is_finished (Ok end) run = record { program = run.program ∙ same; within = run.within; ends = run.ends }
+
+  pub is_scheduled : book.journal ≡ [] → (r : Result BookKept Memory)
+      → IfOk r (λ (end : BookKept). book.journal ≡ [] → ScheduleOf book.program budget end.journal)
+      → IfOk r (λ (end : BookKept). ScheduleOf p budget end.journal)
+  is_scheduled none (Err e) whole = tt
+  is_scheduled none (Ok end) whole = subst (λ (q : ProgramTerms). ScheduleOf q budget end.journal) same (whole none)

@@ -211,31 +211,33 @@ fn make_rounds<R: Threads + Sync>(
     rt: &R,
     alloc: Global,
     net: Net,
-    book: Book,
+    book: &mut Book,
     workers: u32,
     budget: u32,
-) -> Result<Book, Memory>
+) -> Result<(), Memory>
     requires workers { (1 ≤ workers) × (workers ≤ 16) }
     requires budget { budget ≤ 1000000 }
-    requires within { length book.journal ≤ budget }
-    requires one { AreOne book net }
-    ensures rounds { IfOk result (λ after. (end : NetParts) × HaveRun
-        (AreRounds net.code (budget - length book.journal) net.net) net book end after) }
-    ensures within { IfOk result (λ after. length after.journal ≤ budget) }
-    ensures left { OnErr result (length book.journal < budget) }
+    requires within { length book.old.journal ≤ budget }
+    requires one { AreOne book.old net }
+    ensures rounds { OnOk result ((end : NetParts) × HaveRun
+        (AreRounds net.code (budget - length book.old.journal) net.net)
+        net book.old end book.new) }
+    ensures within { OnOk result (length book.new.journal ≤ budget) }
+    ensures left { OnErr result (length book.old.journal < budget) }
 {
     let mut net = net;
-    let mut run = book;
     'rounds: loop {
-        let before = run.journal().len();
+        let before = book.journal().len();
         if budget as usize - before < net.sites() as usize {
-            go_on(alloc, &mut net, &mut run, budget)?;
-            return Ok(run);
+            let went = go_on(alloc, &mut net, book, budget);
+            drop(net);
+            return went;
         }
-        net = one_round(rt, alloc, net, &mut run, workers, budget)?;
+        net = one_round(rt, alloc, net, book, workers, budget)?;
         few_under_way(&net);
-        if is_over(&net, before, run.journal().len()) {
-            return Ok(run);
+        if is_over(&net, before, book.journal().len()) {
+            drop(net);
+            return Ok(());
         }
     }
 }
@@ -269,9 +271,15 @@ pub fn rounds<R: Threads + Sync>(
 {
     are_one(&net, &book);
     stuck_is_quiet();
-    let book = make_rounds(rt, alloc, net, book, workers, budget)?;
-    Ok(Done {
-        book,
-        how: How::Rounds,
-    })
+    let mut run = book;
+    match make_rounds(rt, alloc, net, &mut run, workers, budget) {
+        Ok(()) => Ok(Done {
+            book: run,
+            how: How::Rounds,
+        }),
+        Err(memory) => {
+            drop(run);
+            Err(memory)
+        }
+    }
 }

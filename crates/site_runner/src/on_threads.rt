@@ -7,6 +7,7 @@ ghost use Rattle.shared_net.specs.Causes.{DifferInNumber, IsOfStarted};
 ghost use Rattle.shared_net.specs.Closes.{HaveBudget, IsAgreed};
 ghost use Rattle.site_runner.specs.Free.{HasEnded, IsFinished, IsMadeWith, IsFree};
 ghost use Rattle.site_runner.specs.Free.{first_workers};
+ghost use Rattle.site_runner.specs.Schedule.{ScheduleOf};
 
 use crate::one_thread::finish;
 use crate::outcome::{Done, How};
@@ -41,9 +42,25 @@ fn shared(alloc: Global, book: Book, report: Report, budget: u32) -> Result<Done
         IsMadeWith report.workers book.program budget done.book.journal done.how) }
 {
     let events = book.journal().len() as u64;
-    let book = finish(alloc, book, budget)?;
-    let how = How::Shared { events, report };
-    Ok(Done { book, how })
+    match finish(alloc, book, budget) {
+        Ok(book) => {
+            let how = How::Shared { events, report };
+            Ok(Done { book, how })
+        }
+        Err(memory) => {
+            drop(report);
+            Err(memory)
+        }
+    }
+}
+
+/// The book of the whole run on one thread.
+fn from_start(alloc: Global, program: &Program, budget: u32) -> Result<Book, Memory>
+    ensures run { IfOk result (IsFinished program.now budget) }
+    ensures whole { IfOk result (λ book. ScheduleOf program.now budget book.journal) }
+{
+    let book = Book::start(alloc, program)?;
+    finish(alloc, book, budget)
 }
 
 /// Makes the whole run on one thread, where the receipts don't agree with the book.
@@ -55,10 +72,16 @@ fn lone(alloc: Global, program: &Program, report: Report, budget: u32) -> Result
         IsMadeWith report.workers program.now budget done.book.journal done.how) }
 {
     let _cause = report.differs();
-    let book = Book::start(alloc, program)?;
-    let book = finish(alloc, book, budget)?;
-    let how = How::Lone(report);
-    Ok(Done { book, how })
+    match from_start(alloc, program, budget) {
+        Ok(book) => {
+            let how = How::Lone(report);
+            Ok(Done { book, how })
+        }
+        Err(memory) => {
+            drop(report);
+            Err(memory)
+        }
+    }
 }
 
 /// Lends one pass to each worker, closes the network, and finishes on one thread from its book.
@@ -89,10 +112,15 @@ pub fn free<L: Run + Send + Sync, G: Gate, R: Threads + Wait + Sync>(
     let mut passes = passes;
     net.work_all(rt, alloc, passes.as_mut_slice(), gate);
     if !have_ended(&passes, net.sites()) {
+        drop(net);
+        drop(passes);
         return Err(Memory);
     }
     match net.close(alloc, passes) {
-        Err(_) => Err(Memory),
+        Err(back) => {
+            drop(back);
+            Err(Memory)
+        }
         Ok(Closed::Agreed(book, report)) => shared(alloc, book, report, budget),
         Ok(Closed::Differs(report)) => lone(alloc, program, report, budget),
     }

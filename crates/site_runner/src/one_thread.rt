@@ -1,5 +1,5 @@
 // The run on one thread.
-ghost use Rattle.std.specs.Prelude.{◌≡◌, [], ◌<◌, ◌≤◌, ◌^◌, length, IfOk, OnErr};
+ghost use Rattle.std.specs.Prelude.{◌≡◌, [], ◌<◌, ◌≤◌, ◌^◌, length, IfOk, OnOk, OnErr};
 ghost use Rattle.trace_history.specs.Book.{IsStuck};
 ghost use Rattle.site_runner.specs.Schedule.{after, ScheduleOf, HasOneSchedule};
 ghost use Rattle.site_runner.specs.Run.{RunsOn};
@@ -25,8 +25,33 @@ fn after(sites: usize, site: u32) -> u32
     }
 }
 
-/// Makes the event that comes first, from the site after the last one's, until none is possible or
-/// the journal has `budget` events. It begins at the first site.
+// Makes the event that comes first, from the site after the last one's, until none is possible or
+// the journal has `budget` events. It begins at the first site.
+fn run_on(alloc: Global, book: &mut Book, budget: u32) -> Result<(), Memory>
+    requires { length book.old.journal ≤ budget }
+    ensures run { OnOk result (RunsOn book.old budget book.new) }
+    ensures whole { OnOk result (
+        book.old.journal ≡ [] → ScheduleOf book.old.program budget book.new.journal) }
+    ensures left { OnErr result (length book.old.journal < budget) }
+    ensures possible { OnErr result (IsStuck book.old → ⊥) }
+{
+    book.replays();
+    let program = book.program();
+    let sites = program.sites.len();
+    let mut from = 0;
+    for _place in book.journal().len()..budget as usize {
+        match book.first_enabled(alloc, from)? {
+            Some(found) => {
+                let _commit = book.commit(alloc, &found.event)?;
+                from = after(sites, found.site);
+            }
+            None => return Ok(()),
+        }
+    }
+    Ok(())
+}
+
+/// The run from a book, which it answers.
 pub(crate) fn finish(alloc: Global, book: Book, budget: u32) -> Result<Book, Memory>
     requires { length book.journal ≤ budget }
     ensures run { IfOk result (RunsOn book budget) }
@@ -36,20 +61,13 @@ pub(crate) fn finish(alloc: Global, book: Book, budget: u32) -> Result<Book, Mem
     ensures possible { OnErr result (IsStuck book → ⊥) }
 {
     let mut run = book;
-    run.replays();
-    let program = run.program();
-    let sites = program.sites.len();
-    let mut from = 0;
-    for _place in run.journal().len()..budget as usize {
-        match run.first_enabled(alloc, from)? {
-            Some(found) => {
-                let _commit = run.commit(alloc, &found.event)?;
-                from = after(sites, found.site);
-            }
-            None => return Ok(run),
+    match run_on(alloc, &mut run, budget) {
+        Ok(()) => Ok(run),
+        Err(memory) => {
+            drop(run);
+            Err(memory)
         }
     }
-    Ok(run)
 }
 
 /// Makes the event that comes first, from the site after the last one's, until none is possible or

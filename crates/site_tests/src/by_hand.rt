@@ -15,6 +15,12 @@ use std::alloc::Global;
 use std::process::Abort;
 use wire_packet::{Ask, GroupInst, Msg, Parcel, Request};
 
+/// A site that hosts its root alone.
+pub fn empty_site(alloc: Global) -> Result<Box<Site>, Memory> {
+    let site = Site::empty(alloc, 0)?;
+    Ok(Box::new(alloc, site)?)
+}
+
 /// Names that are one location.
 pub fn names_of(alloc: Global, place: Loc) -> Result<Names, Memory>
     ensures { IfOk result (λ names. names ≡ name.Place place ∷ []) }

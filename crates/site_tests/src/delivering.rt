@@ -1,7 +1,7 @@
 // A site that hosts its root alone, beside another site that hosts a location. The expected values
 // were worked out by hand.
 
-use crate::by_hand::{bare, tree_with};
+use crate::by_hand::{bare, empty_site, tree_with};
 use crate::calls::deliver_at;
 use chem_model::{AtomId, Loc, Memory, Name};
 use loc_tree::LocTree;
@@ -65,7 +65,7 @@ fn delivers(rt: &impl Abort, alloc: Global, site: &mut Site, tree: &LocTree) -> 
 
 #[test]
 fn a_message_goes_where_its_home_is(rt: HostRuntime) -> Result<(), Fail> {
-    let mut site = Site::empty(rt.alloc(), 0)?;
+    let mut site = empty_site(rt.alloc())?;
     let tree = tree_with(&rt, rt.alloc(), 2, BORN, 1)?;
     delivers(&rt, rt.alloc(), &mut site, &tree)?;
     Ok(())

@@ -1,7 +1,7 @@
 // A site that asks to halt, and to detect that it has halted. The expected values were worked out
 // by hand.
 
-use crate::by_hand::{ask_at, ask_halt, host_at, tree_with};
+use crate::by_hand::{ask_at, ask_halt, empty_site, host_at, tree_with};
 use crate::calls::halt_at;
 use crate::net::atom;
 use chem_model::{Loc, Memory, Name};
@@ -50,7 +50,7 @@ fn halts(rt: &impl Abort, site: &mut Site, tree: &mut LocTree) {
 
 #[test]
 fn a_location_halts_and_this_is_detected(rt: HostRuntime) -> Result<(), Fail> {
-    let mut site = Site::empty(rt.alloc(), 0)?;
+    let mut site = empty_site(rt.alloc())?;
     asks(&rt, &mut site)?;
     let mut tree = tree_with(&rt, rt.alloc(), 1, BORN, 0)?;
     halts(&rt, &mut site, &mut tree);

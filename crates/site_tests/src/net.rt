@@ -7,8 +7,8 @@ use crate::calls::{
     react_at,
 };
 use crate::shown::{expect_alive, expect_at, expect_out, expect_root, expect_sizes, first_sent};
-use crate::texts::{code_of, counts_of, open, sites_of, tree_of};
-use chem_model::{AtomId, Atoms, Items, Loc, Memory, Name, Nums, RuleId};
+use crate::texts::{code_of, open, sites_of, tree_of};
+use chem_model::{AtomId, Atoms, Items, Loc, Memory, Name, RuleId};
 use env_store::Code;
 use loc_tree::LocTree;
 use migration::move_ready;
@@ -53,7 +53,6 @@ fn atoms_of(alloc: Global, pairs: &[Pair]) -> Result<Atoms, Memory> {
 #[derive(Drop)]
 pub struct Net {
     pub code: Code,
-    pub counts: Nums,
     pub tree: LocTree,
     pub sites: Vec<Site>,
 }
@@ -74,19 +73,23 @@ fn opened(
     Ok(sites)
 }
 
-pub fn net_of(rt: &impl Abort, alloc: Global, text: &[u8]) -> Result<Net, Memory> {
-    let Some(code) = code_of(alloc, text) else {
-        return Err(Memory);
-    };
-    let counts = counts_of(alloc, &code)?;
-    let mut tree = tree_of(rt, alloc, &code)?;
-    let sites = opened(rt, alloc, &code, &mut tree)?;
-    Ok(Net {
-        code,
-        counts,
-        tree,
-        sites,
-    })
+// The tree and the opened sites of a code.
+fn opening_of(rt: &impl Abort, alloc: Global, code: &Code) -> Result<(LocTree, Vec<Site>), Memory> {
+    let mut tree = tree_of(rt, alloc, code)?;
+    let sites = opened(rt, alloc, code, &mut tree)?;
+    Ok((tree, sites))
+}
+
+fn net_with(rt: &impl Abort, alloc: Global, code: Code) -> Result<Box<Net>, Memory> {
+    let (tree, sites) = opening_of(rt, alloc, &code)?;
+    Ok(Box::new(alloc, Net { code, tree, sites })?)
+}
+
+pub fn net_of(rt: &impl Abort, alloc: Global, text: &[u8]) -> Result<Box<Net>, Memory> {
+    match code_of(alloc, text) {
+        Some(code) => net_with(rt, alloc, code),
+        None => Err(Memory),
+    }
 }
 
 /// How many numbers a site has made.
@@ -117,12 +120,7 @@ pub fn waits(
 
 // The reaction that is ready is made.
 fn made(rt: &impl Abort, alloc: Global, net: &mut Net, at: usize) -> Result<Effects, Memory> {
-    let Net {
-        code,
-        counts: _,
-        tree,
-        sites,
-    } = net;
+    let Net { code, tree, sites } = net;
     let Some(site) = sites.get_mut(at) else {
         return Err(Memory);
     };
@@ -237,12 +235,7 @@ fn poured(
     on: Name,
     args: Items<Name>,
 ) -> Result<Effects, Memory> {
-    let Net {
-        code: _,
-        counts,
-        tree,
-        sites,
-    } = net;
+    let Net { code, tree, sites } = net;
     let Some(site) = sites.get_mut(at) else {
         return Err(Memory);
     };
@@ -250,7 +243,7 @@ fn poured(
         site: site.number(),
         k: 0,
     };
-    emit_at(rt, alloc, site, tree, counts, root, on, args)
+    emit_at(rt, alloc, site, tree, &code.seen, root, on, args)
 }
 
 /// A message with the root's name is poured at the root on the first observed name.
@@ -320,16 +313,11 @@ pub fn moves(
     at: usize,
     id: Pair,
 ) -> Result<(), Memory> {
-    let Net {
-        code: _,
-        counts,
-        tree,
-        sites,
-    } = net;
+    let Net { code, tree, sites } = net;
     let Some(site) = sites.get_mut(at) else {
         return Err(Memory);
     };
-    let effects = move_at(rt, alloc, site, tree, counts, atom(id))?;
+    let effects = move_at(rt, alloc, site, tree, &code.seen, atom(id))?;
     expect_sizes(rt, &effects, [0, 0, 0]);
     Ok(())
 }
@@ -353,12 +341,7 @@ pub fn moves_on(
     at: usize,
     id: Pair,
 ) -> Result<(), Memory> {
-    let Net {
-        code,
-        counts: _,
-        tree,
-        sites,
-    } = net;
+    let Net { code, tree, sites } = net;
     assert!(rt; at < sites.len());
     let mut from = sites.remove(at);
     let Some(into) = sites.get_mut(at) else {
@@ -386,16 +369,11 @@ pub fn detects(
     at: usize,
     id: Pair,
 ) -> Result<(), Memory> {
-    let Net {
-        code: _,
-        counts,
-        tree,
-        sites,
-    } = net;
+    let Net { code, tree, sites } = net;
     let Some(site) = sites.get_mut(at) else {
         return Err(Memory);
     };
-    let effects = detect_at(rt, alloc, site, tree, counts, atom(id))?;
+    let effects = detect_at(rt, alloc, site, tree, &code.seen, atom(id))?;
     expect_sizes(rt, &effects, [0, 0, 0]);
     Ok(())
 }

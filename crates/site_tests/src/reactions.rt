@@ -73,12 +73,17 @@ fn calls_of_an_opened_site(rt: HostRuntime) -> Result<(), Fail> {
     Ok(())
 }
 
-// A site of the first example that hosts its root alone.
-fn empty(rt: &impl Abort, alloc: Global) -> Result<Net, Memory> {
-    let mut net = net_of(rt, alloc, first())?;
+// One site, which hosts its root alone.
+fn one_site(alloc: Global) -> Result<Vec<Site>, Memory> {
     let mut sites = Vec::new(alloc);
     sites.push(Site::empty(alloc, 0)?)?;
-    net.sites = sites;
+    Ok(sites)
+}
+
+// A site of the first example that hosts its root alone.
+fn empty(rt: &impl Abort, alloc: Global) -> Result<Box<Net>, Memory> {
+    let mut net = net_of(rt, alloc, first())?;
+    net.sites = one_site(alloc)?;
     Ok(net)
 }
 

@@ -62,12 +62,7 @@ fn told(alloc: Global, net: &Net) -> Result<Text, Memory> {
 
 // Whether the location is made to move.
 fn goes(rt: &impl Abort, alloc: Global, net: &mut Net) -> Result<bool, Memory> {
-    let Net {
-        code,
-        counts: _,
-        tree,
-        sites,
-    } = net;
+    let Net { code, tree, sites } = net;
     assert!(rt; sites.len() == 2);
     let mut from = sites.remove(0);
     let moved = match sites.get_mut(0) {

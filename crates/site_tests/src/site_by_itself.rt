@@ -1,7 +1,7 @@
 // A site with one group of one channel, which takes one argument. The expected values were worked
 // out by hand.
 
-use crate::by_hand::{ask_halt, drop_at, host_at, lay_at, names_of, put_at};
+use crate::by_hand::{ask_halt, drop_at, empty_site, host_at, lay_at, names_of, put_at};
 use crate::net::{atom, loc};
 use crate::texts::code_of;
 use chem_model::{Items, Loc, Memory};
@@ -87,7 +87,7 @@ fn takes_what_waited(rt: &impl Abort, alloc: Global, site: &mut Site) -> Result<
 
 #[test]
 fn a_message_waits_for_its_group(rt: HostRuntime) -> Result<(), Fail> {
-    let mut site = Site::empty(rt.alloc(), 0)?;
+    let mut site = empty_site(rt.alloc())?;
     takes_what_waited(&rt, rt.alloc(), &mut site)?;
     Ok(())
 }
@@ -107,7 +107,7 @@ fn takes_its_count(rt: &impl Abort, alloc: Global, site: &mut Site) -> Result<()
 
 #[test]
 fn a_wrong_count_stays_beside_the_queues(rt: HostRuntime) -> Result<(), Fail> {
-    let mut site = Site::empty(rt.alloc(), 0)?;
+    let mut site = empty_site(rt.alloc())?;
     takes_its_count(&rt, rt.alloc(), &mut site)?;
     Ok(())
 }
@@ -128,7 +128,7 @@ fn finds_requests(rt: &impl Abort, site: &mut Site) -> Result<(), Memory> {
 
 #[test]
 fn requests_are_found(rt: HostRuntime) -> Result<(), Fail> {
-    let mut site = Site::empty(rt.alloc(), 0)?;
+    let mut site = empty_site(rt.alloc())?;
     finds_requests(&rt, &mut site)?;
     Ok(())
 }
@@ -145,7 +145,7 @@ fn hosts_and_draws(rt: &impl Abort, site: &mut Site) -> Result<(), Memory> {
 
 #[test]
 fn a_location_is_hosted_and_numbers_are_drawn(rt: HostRuntime) -> Result<(), Fail> {
-    let mut site = Site::empty(rt.alloc(), 0)?;
+    let mut site = empty_site(rt.alloc())?;
     hosts_and_draws(&rt, &mut site)?;
     Ok(())
 }

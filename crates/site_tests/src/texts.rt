@@ -1,32 +1,19 @@
 // The code of a text, its tree, and its sites as they are opened.
 
-use chem_model::{Loc, Memory, Nums};
-use env_store::{Code, Locs};
+use chem_model::{Loc, Memory};
+use env_store::Code;
 use guard_compile::compile;
-use join_lex::lex;
-use join_parse::parse;
 use loc_tree::LocTree;
 use reducer::opening;
-use scope_check::check;
 use site_solution::{Effects, Site};
 use std::alloc::Global;
 use std::process::Abort;
+use worked_programs::program_of;
 
 /// The code of a text.
 pub fn code_of(alloc: Global, text: &[u8]) -> Option<Code> {
-    let tokens = lex(alloc, text).ok()?;
-    let tree = parse(alloc, &tokens).ok()?;
-    let program = check(alloc, &tree).ok()?;
+    let program = program_of(alloc, text).ok()?;
     compile(alloc, &program).ok()
-}
-
-/// The declared counts of its observed names.
-pub fn counts_of(alloc: Global, code: &Code) -> Result<Nums, Memory> {
-    code.seen.copy(alloc)
-}
-
-fn tops_of(alloc: Global, code: &Code) -> Result<Locs, Memory> {
-    code.tops.copy(alloc)
 }
 
 pub fn sites_of(code: &Code) -> u32 {
@@ -66,9 +53,8 @@ pub fn bear_all(
 
 /// The tree of the locations that the sites define, each under its site.
 pub fn tree_of(rt: &impl Abort, alloc: Global, code: &Code) -> Result<LocTree, Memory> {
-    let tops = tops_of(alloc, code)?;
     let mut tree = LocTree::start(alloc, sites_of(code))?;
-    for loc in tops.as_slice() {
+    for loc in code.tops.as_slice() {
         if !tree.holds(loc) {
             bear(rt, alloc, &mut tree, *loc, loc.site)?;
         }

@@ -2,27 +2,19 @@
 // worked out by hand.
 use chem_model::{Defn, DefnNode, Name, Pat, Proc, ProcNode, Program, Ref, Text};
 use join_base::{Front, Kind};
-use join_lex::lex;
-use join_parse::parse;
-use scope_check::check;
 use std::alloc::{AllocError, Global};
 use std::process::Abort;
 use std::test::Fail;
-
-fn program(alloc: Global, text: &[u8]) -> Result<Program, Front> {
-    let tokens = lex(alloc, text)?;
-    let tree = parse(alloc, &tokens)?;
-    check(alloc, &tree)
-}
+use worked_programs::program_of;
 
 fn expect_fault(rt: &impl Abort, alloc: Global, text: &[u8], kind: Kind, place: u32) {
-    let fault = program(alloc, text).err();
+    let fault = program_of(alloc, text).err();
     assert_eq!(rt; fault, Some(Front::Refused { kind, place }));
 }
 
 // That a text has a program with so many site-level binders and so many binders in all.
 fn expect_binders(rt: &impl Abort, alloc: Global, text: &[u8], tops: u32, all: usize) {
-    let found = match program(alloc, text) {
+    let found = match program_of(alloc, text) {
         Ok(p) => Some((p.tops, p.spell.len())),
         Err(_) => None,
     };
@@ -200,7 +192,7 @@ fn expect_first(rt: &impl Abort, p: &Program) {
 #[test]
 fn the_first_example(rt: HostRuntime) {
     let alloc = rt.alloc();
-    match program(alloc, b"observe out/1; site s [ x(u) => out(u) : x(s) ]") {
+    match program_of(alloc, b"observe out/1; site s [ x(u) => out(u) : x(s) ]") {
         Ok(p) => {
             expect_first(&rt, &p);
             match p.copy(alloc) {

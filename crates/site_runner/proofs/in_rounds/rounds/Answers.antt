@@ -3,10 +3,10 @@ use Rattle.site_runner.proofs.in_rounds.rounds.Goals as goal
 
 pub returns-clause-run : goal.returns-clause-run
 returns-clause-run g c =
-    let r = c.in_ok-book.ensures.rounds in
-    runs_in_rounds c.stuck_is_quiet.ensures c.args.budget c.args.net r.0 c.args.book c.in_ok-book.book c.are_one.ensures c.requires.within r.1 c.in_ok-book.ensures.within
+    let r = c.in-Ok.ensures.rounds in
+    runs_in_rounds c.stuck_is_quiet.ensures c.args.budget c.args.net r.0 c.args.book c.make_rounds.new.book c.are_one.ensures c.requires.within r.1 c.in-Ok.ensures.within
 
 pub returns-clause-whole : goal.returns-clause-whole
 returns-clause-whole g c =
-    let r = c.in_ok-book.ensures.rounds in
-    whole c.stuck_is_quiet.ensures c.args.budget c.args.net r.0 c.args.book c.in_ok-book.book c.are_one.ensures c.requires.within r.1
+    let r = c.in-Ok.ensures.rounds in
+    whole c.stuck_is_quiet.ensures c.args.budget c.args.net r.0 c.args.book c.make_rounds.new.book c.are_one.ensures c.requires.within r.1

@@ -7,15 +7,15 @@ use Rattle.site_runner.proofs.on_threads.shared.Goals as goal
 
 pub returns-clause-run : goal.returns-clause-run
 returns-clause-run c =
-    let run = c.in_ok-book.ensures.run in
+    let run = c.in-Ok.ensures.run in
     record { program = run.program; within = run.within; ends = run.ends }
 
 pub returns-clause-how : goal.returns-clause-how
 returns-clause-how c =
     let report : Reported = c.args.report in
-    let run = c.in_ok-book.ensures.run in
+    let run = c.in-Ok.ensures.run in
     let many : c.len-events.result ≡ length c.args.book.journal = c.len-events.ensures.count ∙ ap length c.journal.ensures in (
       ap (λ (d : Option Differs). record { workers = report.workers; differs = d }) c.requires.none,
-      are_first c.args.book.program c.args.budget report.workers c.args.book c.in_ok-book.book.journal c.len-events.result run.added c.requires.agreed many run.journal,
-      goes_on_alone c.args.book c.in_ok-book.book c.args.budget c.len-events.result many run,
+      are_first c.args.book.program c.args.budget report.workers c.args.book c.in-Ok.book.journal c.len-events.result run.added c.requires.agreed many run.journal,
+      goes_on_alone c.args.book c.in-Ok.book c.args.budget c.len-events.result many run,
     )
