@@ -242,11 +242,12 @@ fn write_block(
     let at = piece.next;
     let outside = layout.len();
     let count = rules(defs)?;
+    let next = at.inside()?.behind(count)?;
     let opened = open(alloc, defs)?;
     layout.extend(opened.order.as_slice())?;
+    instrs.push(Instr::Enter { block: at.block })?;
     let depth = layout.len();
     let names = opened.order.len();
-    let next = at.inside()?.behind(count)?;
     let mut defined = Defined::start(alloc, next);
     let mut named = opened.order;
     named.truncate(opened.channels.len());
@@ -263,7 +264,8 @@ fn write_block(
         defs,
         &mut defined,
     )?;
-    instrs.push(Instr::Enter { block: at.block })?;
+    drop(named);
+    drop(opened.channels);
     write(alloc, tops, layout, body, &mut defined.piece, instrs)?;
     instrs.push(Instr::Leave { count: names })?;
     layout.truncate(outside);
@@ -407,12 +409,12 @@ fn write_place(
 {
     let at = defined.piece.next;
     let count = rules(defs)?;
+    let next = at.behind(count)?;
     let depth = layout.len();
     let mut own = Binders::new(alloc);
     let mut counts = Items::new(alloc);
     name_place(named, &mut own, &mut counts, name, defs)?;
     let so_far = named.len();
-    let next = at.behind(count)?;
     let mut inner = Defined::start(alloc, next);
     let mut places = 0;
     write_defs(
@@ -427,6 +429,7 @@ fn write_place(
         defs,
         &mut inner,
     )?;
+    drop(own);
     named.truncate(so_far);
     let mut instrs = Items::new(alloc);
     write(alloc, tops, layout, body, &mut inner.piece, &mut instrs)?;
@@ -511,10 +514,12 @@ pub(crate) fn write_site(
 {
     let at = piece.next;
     let count = rules(defs)?;
+    let next = at.inside()?.behind(count)?;
     let opened = open(alloc, defs)?;
     let names = opened.order.len();
-    let next = at.inside()?.behind(count)?;
+    drop(opened.order);
     let mut defined = site_definitions(alloc, tops, at, next, &opened.channels, defs)?;
+    drop(opened.channels);
     let body = site_process(alloc, tops, process, &mut defined.piece)?;
     let levels = levels_of(alloc, at.level, defined.places)?;
     let own = Level {

@@ -1,10 +1,12 @@
 // The tree before any site is opened, and the opening of a site.
-ghost use Rattle.std.specs.Prelude.{◌≡◌, ◌<◌, length, slice_get, Some, IfOk};
+ghost use Rattle.std.specs.Prelude.{◌≡◌, ◌∷◌, [], ◌<◌, length, slice_get, Some, IfOk};
 ghost use Rattle.chem_model.specs.Each.{Each};
+ghost use Rattle.chem_model.specs.Opening.{root_of};
 ghost use Rattle.chem_model.specs.declared.name.Loc.{Loc as loc_seen};
 ghost use Rattle.env_store.specs.declared.code.SiteCode.{SiteCode as site_code};
 ghost use Rattle.loc_tree.specs.Tree.{unmarked_roots, bare};
 ghost use Rattle.net_laws.specs.Net.{with_births};
+ghost use Rattle.net_laws.specs.Opening.{empty_site};
 ghost use Rattle.net_laws.specs.Opened.{not_in, with_tops};
 ghost use Rattle.reducer.specs.Opens.{IsOfProgram, HasTops, Opens, IsOpenedFit};
 
@@ -46,6 +48,33 @@ fn not_in(alloc: Global, tree: &LocTree, locs: &[Loc]) -> Result<Locs, Memory>
     Ok(new)
 }
 
+// The effects of the opening of an empty site with this number.
+fn open_in(
+    alloc: Global,
+    site: &mut Site,
+    code: &Code,
+    tree: &LocTree,
+    number: u32,
+) -> Result<Effects, Memory>
+    requires number { number < length code.now.sites }
+    requires empty { site.old ≡ empty_site number 1 (root_of number ∷ []) }
+    ensures ok { IfOk result (λ effects. (s : site_code)
+        → slice_get code.now.sites number ≡ Some s
+        → Opens code.now tree.now number s site.new effects) }
+    ensures fit { IfOk result (λ effects. IsOfProgram code.now → HasTops code.now tree.now number
+        → IsOpenedFit code.now (with_births tree.now number effects.births) site.new) }
+{
+    code_is_kept(code);
+    let run = open(alloc, code, number)?;
+    let made = site.commit(alloc, code, tree, run, 0, &[])?;
+    let births = not_in(alloc, tree, made.births.as_slice())?;
+    Ok(Effects {
+        sends: made.sends,
+        outs: made.outs,
+        births,
+    })
+}
+
 /// The site with this number after its opening, and the effects of that. The births are the
 /// locations that the tree doesn't have; where it has the site-level ones, these are the others.
 pub fn opening(
@@ -61,15 +90,12 @@ pub fn opening(
     ensures fit { IfOk result (λ opened. IsOfProgram code.now → HasTops code.now tree.now number
         → IsOpenedFit code.now (with_births tree.now number opened.1.births) opened.0) }
 {
-    code_is_kept(code);
     let mut site = Site::empty(alloc, number)?;
-    let run = open(alloc, code, number)?;
-    let made = site.commit(alloc, code, tree, run, 0, &[])?;
-    let births = not_in(alloc, tree, made.births.as_slice())?;
-    let effects = Effects {
-        sends: made.sends,
-        outs: made.outs,
-        births,
-    };
-    Ok((site, effects))
+    match open_in(alloc, &mut site, code, tree, number) {
+        Ok(effects) => Ok((site, effects)),
+        Err(memory) => {
+            drop(site);
+            Err(memory)
+        }
+    }
 }

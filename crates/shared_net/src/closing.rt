@@ -100,7 +100,11 @@ fn finish<L: Run>(locked: Locked<L>, passes: Passes<L>, settled: Settled) -> Clo
 {
     let Settled { rows, differs } = settled;
     match differs {
-        Some(cause) => Closed::Differs(Report::new(rows, Some(cause))),
+        Some(cause) => {
+            drop(locked);
+            drop(passes);
+            Closed::Differs(Report::new(rows, Some(cause)))
+        }
         None => {
             let all = passes.into_share();
             let book = locked.into_book(all);

@@ -6,7 +6,9 @@ ghost use Rattle.chem_model.specs.Sound.{IsSound};
 ghost use Rattle.chem_model.specs.Runs.{IsRun};
 ghost use Rattle.chem_model.specs.Laws.{erase_all};
 ghost use Rattle.chem_model.specs.Apply.{states};
+ghost use Rattle.chem_model.specs.Opening.{opening};
 ghost use Rattle.trace_history.specs.Kept.{is_enabled};
+ghost use Rattle.trace_history.specs.inside.Waiting.{AreFiled};
 ghost use Rattle.trace_history.specs.Book.{Commits, IsAStart, IsAReduction, OnItsSolution};
 ghost use Rattle.trace_history.specs.Book.{IsStuck, IsQuiet, Finds, Replays};
 
@@ -89,9 +91,37 @@ impl Model for Book {
         × AreQueued b.older.table b.older.keys.keys };
 }
 
+// What is noted of a solution before its first event: guesses, and the rules by their channels.
+#[tactic(auto, using(crate::proofs::Filed::none_filed))]
+fn noted(alloc: Global, solution: &Numbered) -> Result<(Guesses, Waiting), Memory>
+    ensures { IfOk result (λ r.
+        AreFiled r.1.heads.items r.1.links.items solution.now.rules) }
+{
+    let mut guesses = Guesses::new(alloc);
+    note(alloc, &mut guesses, solution)?;
+    let mut waiting = Waiting::new(alloc)?;
+    file(alloc, &mut waiting, solution)?;
+    Ok((guesses, waiting))
+}
+
+// The opening of a program, and what is noted of it.
+fn opened(alloc: Global, program: &Program) -> Result<(Numbered, Guesses, Waiting), Memory>
+    ensures opening { IfOk result (λ r. r.0 ≡ opening program.now) }
+    ensures filed { IfOk result (λ r.
+        AreFiled r.2.heads.items r.2.links.items r.0.rules) }
+{
+    let solution = opening(alloc, program)?;
+    match noted(alloc, &solution) {
+        Ok((guesses, waiting)) => Ok((solution, guesses, waiting)),
+        Err(memory) => {
+            drop(solution);
+            Err(memory)
+        }
+    }
+}
+
 impl Book {
     /// The book of a program's opening, which stands for a start of the program.
-    #[tactic(auto, using(crate::proofs::Filed::none_filed))]
     pub fn start(alloc: Global, program: &Program) -> Result<Book, Memory>
         ensures opening { IfOk result (λ book.
             book ≡ record { program = program.now; journal = [] }) }
@@ -100,19 +130,20 @@ impl Book {
         opening_is_a_start();
         let _ = &program.tops;
         let program = program.copy(alloc)?;
-        let solution = opening(alloc, &program)?;
-        let mut guesses = Guesses::new(alloc);
-        note(alloc, &mut guesses, &solution)?;
-        let mut waiting = Waiting::new(alloc)?;
-        file(alloc, &mut waiting, &solution)?;
-        Ok(Book {
-            program,
-            journal: Items::new(alloc),
-            solution,
-            older: Older::new(alloc),
-            guesses,
-            waiting,
-        })
+        match opened(alloc, &program) {
+            Ok((solution, guesses, waiting)) => Ok(Book {
+                program,
+                journal: Items::new(alloc),
+                solution,
+                older: Older::new(alloc),
+                guesses,
+                waiting,
+            }),
+            Err(memory) => {
+                drop(program);
+                Err(memory)
+            }
+        }
     }
 
     /// Makes an event where it is possible, and appends it to the journal: what the book stands for
