@@ -1,7 +1,7 @@
 // What the code of a text has, as plain values.
 
 use chem_model::{Name, Names, Nums};
-use env_store::{Blocks, Bodies, Guard, Guards, Instr, Level, Levels, Locs, SiteCodes, Slot};
+use env_store::{Blocks, Bodies, Code, Guard, Guards, Instr, Level, Levels, Locs, SiteCodes, Slot};
 use guard_compile::{compile, top_names};
 use std::alloc::Global;
 use std::process::Abort;
@@ -19,12 +19,10 @@ pub struct Parts {
     pub sites: SiteCodes,
 }
 
-/// The parts of a copy of the code of a text.
-pub fn code_of(alloc: Global, text: &[u8]) -> Option<Parts> {
-    let program = program_of(alloc, text).ok()?;
-    let code = compile(alloc, &program).ok()?;
+/// The parts of a copy of a code.
+fn parts_of(alloc: Global, code: &Code) -> Option<Box<Parts>> {
     let copy = code.copy(alloc).ok()?;
-    Some(Parts {
+    let parts = Parts {
         guards: copy.guards,
         levels: copy.levels,
         blocks: copy.blocks,
@@ -32,7 +30,15 @@ pub fn code_of(alloc: Global, text: &[u8]) -> Option<Parts> {
         seen: copy.seen,
         tops: copy.tops,
         sites: copy.sites,
-    })
+    };
+    Box::new(alloc, parts).ok()
+}
+
+/// The parts of a copy of the code of a text.
+pub fn code_of(alloc: Global, text: &[u8]) -> Option<Box<Parts>> {
+    let program = program_of(alloc, text).ok()?;
+    let code = compile(alloc, &program).ok()?;
+    parts_of(alloc, &code)
 }
 
 /// The names of the site-level binders of a text.

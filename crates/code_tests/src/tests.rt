@@ -1,12 +1,14 @@
 // The expected values were worked out by hand.
 
 use crate::code::{
-    code_of, expect_block, expect_counts, expect_enter, expect_guard, expect_leave, expect_level,
-    expect_mask, expect_send, expect_sizes, guard_body, observed, place_body, site_body, tops_of,
+    Parts, code_of, expect_block, expect_counts, expect_enter, expect_guard, expect_leave,
+    expect_level, expect_mask, expect_send, expect_sizes, guard_body, observed, place_body,
+    site_body, tops_of,
 };
 use chem_model::{Loc, Name};
 use env_store::Slot;
 use std::alloc::{AllocError, Global};
+use std::process::Abort;
 use std::test::Fail;
 
 const ROOT: Loc = Loc { site: 0, k: 0 };
@@ -19,42 +21,55 @@ fn channel(k: u64) -> Name {
     }
 }
 
+// The level of the first example, and its guard.
+fn expect_one_level(rt: &impl Abort, code: &Parts) {
+    expect_sizes(rt, code, [1, 1, 1, 2, 1]);
+    expect_level(rt, code, 0, [0, 0, 1], None);
+    expect_counts(rt, code, 0, 1, Some(1));
+    expect_guard(rt, code, 0, [0, 0, 1]);
+    expect_mask(rt, code, 0, &[1]);
+    assert_eq!(rt; code.seen.as_slice(), [1].as_slice());
+    assert_eq!(rt; code.tops.as_slice(), [ROOT].as_slice());
+}
+
+// The bodies of its rule and of its site.
+fn expect_two_bodies(rt: &impl Abort, code: &Parts) {
+    let rule = guard_body(code, 0);
+    expect_send(rt, code, rule, 0, observed(), Some(Slot::Env(0)));
+    let root = Slot::Known(Name::Place(ROOT));
+    let process = site_body(code);
+    expect_send(rt, code, process, 0, Slot::Known(channel(1)), Some(root));
+}
+
 #[test]
 fn the_first_example(rt: HostRuntime) -> Result<(), Fail> {
     let alloc = rt.alloc();
     let text = b"observe out/1; site s [ x(u) => out(u) : x(s) ]";
     let code = code_of(alloc, text).ok_or("no code")?;
-    expect_sizes(&rt, &code, [1, 1, 1, 2, 1]);
-    expect_level(&rt, &code, 0, [0, 0, 1], None);
-    expect_counts(&rt, &code, 0, 1, Some(1));
-    expect_guard(&rt, &code, 0, [0, 0, 1]);
-    expect_mask(&rt, &code, 0, &[1]);
-    let rule = guard_body(&code, 0);
-    expect_send(&rt, &code, rule, 0, observed(), Some(Slot::Env(0)));
-    let root = Slot::Known(Name::Place(ROOT));
-    let process = site_body(&code);
-    expect_send(&rt, &code, process, 0, Slot::Known(channel(1)), Some(root));
-    assert_eq!(rt; code.seen.as_slice(), [1].as_slice());
-    assert_eq!(rt; code.tops.as_slice(), [ROOT].as_slice());
+    expect_one_level(&rt, &code);
+    expect_two_bodies(&rt, &code);
     let tops = tops_of(alloc, text).ok_or("no names")?;
     assert_eq!(rt; tops.as_slice(), [Name::Place(ROOT), channel(1)].as_slice());
     Ok(())
 }
 
 /// The rule receives `u`, and the block within names the inner `x`.
+fn expect_inner_name(rt: &impl Abort, code: &Parts) {
+    expect_sizes(rt, code, [2, 2, 2, 3, 1]);
+    expect_level(rt, code, 1, [2, 1, 1], None);
+    let rule = guard_body(code, 0);
+    expect_enter(rt, code, rule, 0, 1);
+    expect_send(rt, code, rule, 1, Slot::Env(1), Some(Slot::Env(0)));
+    expect_leave(rt, code, rule, 2, 1);
+    let inner = guard_body(code, 1);
+    expect_send(rt, code, inner, 0, observed(), Some(Slot::Env(2)));
+}
+
 #[test]
 fn the_inner_name_hides_the_outer_one(rt: HostRuntime) -> Result<(), Fail> {
-    let alloc = rt.alloc();
     let text = b"observe out/1; site s [ x(u) => def x(v) => out(v) in x(u) : x(s) ]";
-    let code = code_of(alloc, text).ok_or("no code")?;
-    expect_sizes(&rt, &code, [2, 2, 2, 3, 1]);
-    expect_level(&rt, &code, 1, [2, 1, 1], None);
-    let rule = guard_body(&code, 0);
-    expect_enter(&rt, &code, rule, 0, 1);
-    expect_send(&rt, &code, rule, 1, Slot::Env(1), Some(Slot::Env(0)));
-    expect_leave(&rt, &code, rule, 2, 1);
-    let inner = guard_body(&code, 1);
-    expect_send(&rt, &code, inner, 0, observed(), Some(Slot::Env(2)));
+    let code = code_of(rt.alloc(), text).ok_or("no code")?;
+    expect_inner_name(&rt, &code);
     Ok(())
 }
 
@@ -76,49 +91,63 @@ fn nested() -> &'static [u8] {
 /// The levels are the site's, the outer `def`'s, the inner one's, and those of `m` and `n`. The
 /// names of the outer block are `b`, `m`, `k` and `n`, and the inner rule stands
 /// under these, `u` and `c`.
+fn expect_five_levels(rt: &impl Abort, code: &Parts) {
+    expect_sizes(rt, code, [5, 5, 3, 8, 1]);
+    expect_counts(rt, code, 0, 65, Some(0));
+    expect_level(rt, code, 0, [0, 0, 2], None);
+    expect_level(rt, code, 1, [4, 2, 1], None);
+    expect_level(rt, code, 2, [6, 3, 1], None);
+    expect_level(rt, code, 3, [4, 4, 1], Some(0));
+    expect_level(rt, code, 4, [4, 5, 0], Some(1));
+    expect_block(rt, code, 0, &[0], 65);
+    expect_block(rt, code, 1, &[1, 3, 4], 4);
+    expect_block(rt, code, 2, &[2], 1);
+}
+
+fn expect_five_guards(rt: &impl Abort, code: &Parts) {
+    expect_guard(rt, code, 0, [0, 2, 3]);
+    expect_guard(rt, code, 2, [1, 0, 1]);
+    expect_guard(rt, code, 3, [2, 0, 1]);
+    expect_guard(rt, code, 4, [3, 0, 1]);
+    expect_mask(rt, code, 0, &[1, 0]);
+    expect_mask(rt, code, 1, &[u64::MAX - 1, 1]);
+}
+
 #[test]
 fn levels_and_guards(rt: HostRuntime) -> Result<(), Fail> {
-    let alloc = rt.alloc();
-    let code = code_of(alloc, nested()).ok_or("no code")?;
-    expect_sizes(&rt, &code, [5, 5, 3, 8, 1]);
-    expect_counts(&rt, &code, 0, 65, Some(0));
-    expect_level(&rt, &code, 0, [0, 0, 2], None);
-    expect_level(&rt, &code, 1, [4, 2, 1], None);
-    expect_level(&rt, &code, 2, [6, 3, 1], None);
-    expect_level(&rt, &code, 3, [4, 4, 1], Some(0));
-    expect_level(&rt, &code, 4, [4, 5, 0], Some(1));
-    expect_block(&rt, &code, 0, &[0], 65);
-    expect_block(&rt, &code, 1, &[1, 3, 4], 4);
-    expect_block(&rt, &code, 2, &[2], 1);
-    expect_guard(&rt, &code, 0, [0, 2, 3]);
-    expect_guard(&rt, &code, 2, [1, 0, 1]);
-    expect_guard(&rt, &code, 3, [2, 0, 1]);
-    expect_guard(&rt, &code, 4, [3, 0, 1]);
-    expect_mask(&rt, &code, 0, &[1, 0]);
-    expect_mask(&rt, &code, 1, &[u64::MAX - 1, 1]);
+    let code = code_of(rt.alloc(), nested()).ok_or("no code")?;
+    expect_five_levels(&rt, &code);
+    expect_five_guards(&rt, &code);
     Ok(())
+}
+
+fn expect_rules(rt: &impl Abort, code: &Parts) {
+    let rule = guard_body(code, 0);
+    expect_enter(rt, code, rule, 0, 4);
+    let root = Slot::Known(Name::Place(ROOT));
+    expect_send(rt, code, rule, 1, Slot::Env(0), Some(root));
+    expect_leave(rt, code, rule, 2, 4);
+    let within = guard_body(code, 2);
+    expect_enter(rt, code, within, 0, 1);
+    expect_send(rt, code, within, 1, Slot::Env(5), None);
+    let inner = guard_body(code, 3);
+    expect_send(rt, code, inner, 0, observed(), Some(Slot::Env(4)));
+}
+
+fn expect_places(rt: &impl Abort, code: &Parts) {
+    let at_m = guard_body(code, 4);
+    expect_send(rt, code, at_m, 0, Slot::Env(0), Some(Slot::Env(1)));
+    expect_send(rt, code, place_body(code, 3), 0, Slot::Env(2), None);
+    let of_n = place_body(code, 4);
+    expect_send(rt, code, of_n, 0, Slot::Env(0), Some(Slot::Env(3)));
 }
 
 /// The bodies of the same text.
 #[test]
 fn bodies_of_nested_levels(rt: HostRuntime) -> Result<(), Fail> {
-    let alloc = rt.alloc();
-    let code = code_of(alloc, nested()).ok_or("no code")?;
-    let rule = guard_body(&code, 0);
-    expect_enter(&rt, &code, rule, 0, 4);
-    let root = Slot::Known(Name::Place(ROOT));
-    expect_send(&rt, &code, rule, 1, Slot::Env(0), Some(root));
-    expect_leave(&rt, &code, rule, 2, 4);
-    let within = guard_body(&code, 2);
-    expect_enter(&rt, &code, within, 0, 1);
-    expect_send(&rt, &code, within, 1, Slot::Env(5), None);
-    let inner = guard_body(&code, 3);
-    expect_send(&rt, &code, inner, 0, observed(), Some(Slot::Env(4)));
-    let at_m = guard_body(&code, 4);
-    expect_send(&rt, &code, at_m, 0, Slot::Env(0), Some(Slot::Env(1)));
-    expect_send(&rt, &code, place_body(&code, 3), 0, Slot::Env(2), None);
-    let of_n = place_body(&code, 4);
-    expect_send(&rt, &code, of_n, 0, Slot::Env(0), Some(Slot::Env(3)));
+    let code = code_of(rt.alloc(), nested()).ok_or("no code")?;
+    expect_rules(&rt, &code);
+    expect_places(&rt, &code);
     Ok(())
 }
 

@@ -1,4 +1,5 @@
 // A network, and a book that makes the same events.
+ghost use Rattle.env_store.specs.Reading.{IsCodeOf};
 
 use chem_model::{Event, Memory, Out, Program};
 use env_store::Code;
@@ -33,11 +34,13 @@ pub enum Step {
 /// The network of a text after its opening.
 pub fn net_of(alloc: Global, text: &[u8]) -> Result<Box<Net>, Front> {
     let program = program_of(alloc, text)?;
-    let code = compile(alloc, &program)?;
+    let code = Box::new(alloc, compile(alloc, &program)?)?;
     Ok(net_with(alloc, &program, &code)?)
 }
 
-fn net_with(alloc: Global, program: &Program, code: &Code) -> Result<Box<Net>, Memory> {
+fn net_with(alloc: Global, program: &Program, code: &Code) -> Result<Box<Net>, Memory>
+    requires { IsCodeOf program.now code.now }
+{
     let net = Net::start(alloc, program, code)?;
     Ok(Box::new(alloc, net)?)
 }
@@ -47,7 +50,9 @@ fn book_with(alloc: Global, program: &Program) -> Result<Box<Book>, Memory> {
     Ok(Box::new(alloc, book)?)
 }
 
-fn both_with(alloc: Global, program: &Program, code: &Code) -> Result<Both, Memory> {
+fn both_with(alloc: Global, program: &Program, code: &Code) -> Result<Both, Memory>
+    requires { IsCodeOf program.now code.now }
+{
     let net = net_with(alloc, program, code)?;
     Ok(Both {
         net,
@@ -60,7 +65,7 @@ fn both_with(alloc: Global, program: &Program, code: &Code) -> Result<Both, Memo
 /// The network and the book of a text, each after its opening.
 pub fn both_of(alloc: Global, text: &[u8]) -> Result<Both, Front> {
     let program = program_of(alloc, text)?;
-    let code = compile(alloc, &program)?;
+    let code = Box::new(alloc, compile(alloc, &program)?)?;
     Ok(both_with(alloc, &program, &code)?)
 }
 

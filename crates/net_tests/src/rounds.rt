@@ -25,18 +25,13 @@ const MANY: &str = "observe out/1; \
 
 const QUOTA: u32 = 5;
 
-/// Whether a network and so many workers are as a round wants them.
-fn is_small(net: &Net, workers: u32) -> bool {
-    net.events() <= 1_000 && net.sites() <= 1_000 && workers > 0 && workers <= 16
-}
-
 fn round<R: Threads + Sync>(
     rt: &R,
     alloc: Global,
     net: Box<Net>,
     workers: u32,
 ) -> Result<(Box<Net>, Journal), Memory> {
-    if !is_small(&net, workers) {
+    if net.events() > 1_000 || net.sites() > 1_000 || workers == 0 || workers > 16 {
         return Err(Memory);
     }
     let (net, journal) = Box::into_inner(net).round(rt, alloc, workers, QUOTA)?;

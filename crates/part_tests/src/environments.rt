@@ -1,5 +1,5 @@
 // Environments by their worked row, and copies of code.
-use chem_model::{Items, Loc, Name};
+use chem_model::{Items, Loc, Memory, Name};
 use env_store::{Guard, Instr, Level, Mask, Slot, copy_instrs, extend, lookup};
 use std::alloc::Global;
 use std::process::Abort;
@@ -18,29 +18,35 @@ fn one_name_more(rt: HostRuntime) -> Result<(), Fail> {
     Ok(())
 }
 
-fn expect_guard(rt: &impl Abort, alloc: Global) -> Result<(), Fail> {
-    let guard = Guard {
+fn a_guard(alloc: Global) -> Result<Guard, Memory> {
+    let words = Items::from_slice(alloc, &[5])?;
+    Ok(Guard {
         level: 1,
-        mask: Mask {
-            words: Items::from_slice(alloc, &[5])?,
-        },
+        mask: Mask { words },
         chans: Items::from_slice(alloc, &[2, 0])?,
         body: 3,
         births: 4,
         sends: 6,
-    };
-    let copy = guard.copy(alloc)?;
+    })
+}
+
+fn expect_guard(rt: &impl Abort, guard: &Guard) {
     assert_eq!(rt;
-        (copy.level, copy.body, copy.births, copy.sends),
+        (guard.level, guard.body, guard.births, guard.sends),
         (1, 3, 4, 6)
     );
-    assert_eq!(rt; copy.mask.words.as_slice(), [5u64].as_slice());
-    assert_eq!(rt; copy.chans.as_slice(), [2u32, 0].as_slice());
+    assert_eq!(rt; guard.mask.words.as_slice(), [5u64].as_slice());
+    assert_eq!(rt; guard.chans.as_slice(), [2u32, 0].as_slice());
+}
+
+fn expect_copied_guard(rt: &impl Abort, alloc: Global) -> Result<(), Memory> {
+    let copy = a_guard(alloc)?.copy(alloc)?;
+    expect_guard(rt, &copy);
     Ok(())
 }
 
-fn expect_level(rt: &impl Abort, alloc: Global) -> Result<(), Fail> {
-    let level = Level {
+fn a_level(alloc: Global) -> Result<Level, Memory> {
+    Ok(Level {
         block: 1,
         place: Some(2),
         counts: Items::from_slice(alloc, &[3])?,
@@ -48,15 +54,25 @@ fn expect_level(rt: &impl Abort, alloc: Global) -> Result<(), Fail> {
         first: 5,
         guards: 6,
         body: Some(7),
-    };
-    let copy = level.copy(alloc)?;
-    assert_eq!(rt; (copy.block, copy.place, copy.body), (1, Some(2), Some(7)));
-    assert_eq!(rt; (copy.depth, copy.first, copy.guards), (4, 5, 6));
-    assert_eq!(rt; copy.counts.as_slice(), [3u32].as_slice());
+    })
+}
+
+fn expect_level(rt: &impl Abort, level: &Level) {
+    assert_eq!(rt;
+        (level.block, level.place, level.body),
+        (1, Some(2), Some(7))
+    );
+    assert_eq!(rt; (level.depth, level.first, level.guards), (4, 5, 6));
+    assert_eq!(rt; level.counts.as_slice(), [3u32].as_slice());
+}
+
+fn expect_copied_level(rt: &impl Abort, alloc: Global) -> Result<(), Memory> {
+    let copy = a_level(alloc)?.copy(alloc)?;
+    expect_level(rt, &copy);
     Ok(())
 }
 
-fn expect_instrs(rt: &impl Abort, alloc: Global) -> Result<(), Fail> {
+fn expect_copied_instrs(rt: &impl Abort, alloc: Global) -> Result<(), Memory> {
     let mut list = Items::new(alloc);
     list.push(Instr::Enter { block: 1 })?;
     list.push(Instr::Leave { count: 2 })?;
@@ -67,7 +83,8 @@ fn expect_instrs(rt: &impl Abort, alloc: Global) -> Result<(), Fail> {
 
 #[test]
 fn copies_are_equal(rt: HostRuntime) -> Result<(), Fail> {
-    expect_guard(&rt, rt.alloc())?;
-    expect_level(&rt, rt.alloc())?;
-    expect_instrs(&rt, rt.alloc())
+    expect_copied_guard(&rt, rt.alloc())?;
+    expect_copied_level(&rt, rt.alloc())?;
+    expect_copied_instrs(&rt, rt.alloc())?;
+    Ok(())
 }

@@ -147,15 +147,22 @@ fn has_bytes(alloc: Global, packet: &Packet, bytes: &[u8]) -> bool {
     }
 }
 
+/// Whether the message and the parcel that are made have their bytes.
+fn are_spelled(alloc: Global) -> Result<bool, Memory> {
+    let parcel = made_parcel(alloc)?;
+    Ok(
+        has_bytes(alloc, &made_message(alloc)?, message())
+            && has_bytes(alloc, &parcel, small_parcel()),
+    )
+}
+
 #[test]
-fn there_and_back(rt: HostRuntime) -> Result<(), Fail> {
+fn there_and_back(rt: HostRuntime) {
     let alloc = rt.alloc();
-    assert!(rt; has_bytes(alloc, &made_message(alloc)?, message()));
-    assert!(rt; has_bytes(alloc, &made_parcel(alloc)?, small_parcel()));
+    assert_eq!(rt; are_spelled(alloc), Ok(true));
     assert!(rt; is_again(alloc, message()));
     assert!(rt; is_again(alloc, small_parcel()));
     assert!(rt; is_again(alloc, full_parcel()));
-    Ok(())
 }
 
 /// That the bytes, cut at each place, are wrong at the field within which they end.
@@ -256,15 +263,24 @@ fn with_changes(
     Ok(())
 }
 
-#[test]
-fn wrong_fields(rt: HostRuntime) -> Result<(), Fail> {
-    let alloc = rt.alloc();
-    with_changes(&rt, alloc, message(), message_changes())?;
-    with_changes(&rt, alloc, small_parcel(), small_parcel_changes())?;
-    with_changes(&rt, alloc, full_parcel(), full_parcel_changes())?;
+fn with_all_changes(rt: &impl Abort, alloc: Global) -> Result<(), Memory> {
+    with_changes(rt, alloc, message(), message_changes())?;
+    with_changes(rt, alloc, small_parcel(), small_parcel_changes())?;
+    with_changes(rt, alloc, full_parcel(), full_parcel_changes())
+}
+
+fn with_a_byte_more(rt: &impl Abort, alloc: Global) -> Result<(), Memory> {
     assert_eq!(rt; place_behind(alloc, message())?, 52);
     assert_eq!(rt; place_behind(alloc, small_parcel())?, 57);
     assert_eq!(rt; place_behind(alloc, full_parcel())?, 352);
+    Ok(())
+}
+
+#[test]
+fn wrong_fields(rt: HostRuntime) -> Result<(), Fail> {
+    let alloc = rt.alloc();
+    with_all_changes(&rt, alloc)?;
+    with_a_byte_more(&rt, alloc)?;
     assert_eq!(rt; place_of(alloc, &[3]), 0);
     assert_eq!(rt; place_of(alloc, &[2, 0, 0, 0, 0]), 5);
     Ok(())

@@ -1,10 +1,11 @@
 // Two roots and a location that is born, moves and dies. The expected values were worked out by
 // hand.
-ghost use Rattle.std.specs.Prelude.{◌≡◌};
+ghost use Rattle.std.specs.Prelude.{◌≡◌, ◌<◌};
 
 use crate::crossing::crosses;
-use chem_model::Loc;
+use chem_model::{Loc, Memory};
 use loc_tree::LocTree;
+use std::alloc::Global;
 use std::process::Abort;
 use std::test::Fail;
 
@@ -43,31 +44,54 @@ fn kill(rt: &impl Abort, tree: &mut LocTree, loc: &Loc) {
     tree.kill(loc);
 }
 
-#[test]
-fn a_location_moves_and_dies_with_its_root(rt: HostRuntime) -> Result<(), Fail> {
-    let mut tree = LocTree::start(rt.alloc(), 2)?;
-    crosses(&tree);
-    let here = loc(0, 0);
-    let there = loc(1, 0);
+// The location 0.1 is born under the first root.
+fn bear(rt: &impl Abort, alloc: Global, tree: &mut LocTree) -> Result<(), Memory>
+    requires { 0 < tree.old.roots }
+{
     let born = loc(0, 1);
     assert!(rt; !tree.holds(&born));
     assert!(rt; tree.fresh(0, 1));
-    tree.reserve(rt.alloc(), 1)?;
+    tree.reserve(alloc, 1)?;
     tree.birth(born, 0);
     assert!(rt; !tree.fresh(0, 1));
     assert!(rt; tree.fresh(0, 2));
     assert!(rt; !tree.fresh(1, 0));
     assert!(rt; tree.fresh(2, 0));
-    expect_root(&rt, &tree, &born, 0);
-    expect_move(&rt, &tree, &born, &there, true);
-    expect_move(&rt, &tree, &born, &here, true);
-    expect_move(&rt, &tree, &here, &there, false);
-    expect_move(&rt, &tree, &born, &born, false);
-    rehost(&rt, &mut tree, &born, &there);
-    kill(&rt, &mut tree, &there);
-    expect_root(&rt, &tree, &born, 1);
-    expect_alive(&rt, &tree, &born, false);
-    expect_alive(&rt, &tree, &here, true);
-    expect_move(&rt, &tree, &born, &here, false);
+    Ok(())
+}
+
+fn expect_born(rt: &impl Abort, tree: &LocTree) {
+    let (here, there, born) = (loc(0, 0), loc(1, 0), loc(0, 1));
+    expect_root(rt, tree, &born, 0);
+    expect_move(rt, tree, &born, &there, true);
+    expect_move(rt, tree, &born, &here, true);
+    expect_move(rt, tree, &here, &there, false);
+    expect_move(rt, tree, &born, &born, false);
+}
+
+fn move_and_die(rt: &impl Abort, tree: &mut LocTree) {
+    let (here, there, born) = (loc(0, 0), loc(1, 0), loc(0, 1));
+    rehost(rt, tree, &born, &there);
+    kill(rt, tree, &there);
+    expect_root(rt, tree, &born, 1);
+    expect_alive(rt, tree, &born, false);
+    expect_alive(rt, tree, &here, true);
+    expect_move(rt, tree, &born, &here, false);
+}
+
+fn live(rt: &impl Abort, alloc: Global, tree: &mut LocTree) -> Result<(), Memory>
+    requires { 0 < tree.old.roots }
+{
+    bear(rt, alloc, tree)?;
+    expect_born(rt, tree);
+    move_and_die(rt, tree);
+    Ok(())
+}
+
+#[test]
+fn a_location_moves_and_dies_with_its_root(rt: HostRuntime) -> Result<(), Fail> {
+    let mut tree = LocTree::start(rt.alloc(), 2)?;
+    crosses(&tree);
+    live(&rt, rt.alloc(), &mut tree)?;
     Ok(())
 }

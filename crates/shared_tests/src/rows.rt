@@ -174,7 +174,7 @@ fn react_twice<L: Run>(
 
 fn run_twice(alloc: Global) -> Result<Twice, Front> {
     let program = program_of(alloc, FIRST.as_bytes())?;
-    let code = compile(alloc, &program)?;
+    let code = Box::new(alloc, compile(alloc, &program)?)?;
     let mut other = open::<Brand>(alloc, &program, &code, Blank::new(1))?;
     Ok(react_twice::<Brand>(alloc, &program, &code, Blank::new(1), &mut other)?)
 }
@@ -310,7 +310,7 @@ fn move_across<L: Run>(
 
 fn across(alloc: Global) -> Result<Crossed, Front> {
     let program = program_of(alloc, MOVED.as_bytes())?;
-    let code = compile(alloc, &program)?;
+    let code = Box::new(alloc, compile(alloc, &program)?)?;
     Ok(move_across::<Brand>(alloc, &program, &code, Blank::new(1))?)
 }
 
@@ -355,7 +355,7 @@ fn move_within<L: Run>(
 
 fn within(alloc: Global) -> Result<Moved, Front> {
     let program = program_of(alloc, WITHIN.as_bytes())?;
-    let code = compile(alloc, &program)?;
+    let code = Box::new(alloc, compile(alloc, &program)?)?;
     Ok(move_within::<Brand>(alloc, &program, &code, Blank::new(1))?)
 }
 

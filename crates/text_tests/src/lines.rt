@@ -22,8 +22,11 @@ fn read(alloc: Global, words: &[&str]) -> Result<Asked, WordEnd> {
 }
 
 /// That these words ask for this.
-fn asks(rt: &impl Abort, alloc: Global, words: &[&str], asked: Asked) {
-    assert_eq!(rt; read(alloc, words), Ok(asked));
+fn asks(rt: &impl Abort, alloc: Global, words: &[&str], asked: &Asked) {
+    assert!(rt;
+        matches!(read(alloc, words), Ok(found) if found == *asked),
+        "{words:?}"
+    );
 }
 
 /// That these words are not of the line's form.
@@ -31,63 +34,85 @@ fn refuses(rt: &impl Abort, alloc: Global, words: &[&str]) {
     assert_eq!(rt; read(alloc, words), Err(WordEnd::Form));
 }
 
+/// Lines, each with what it asks for.
+const LINES: &[(&[&str], Asked)] = &[
+    (&["alone"], PLAIN),
+    (&["--", "alone"], PLAIN),
+    (
+        &["--budget", "1000000", "alone"],
+        Asked {
+            budget: 1_000_000,
+            ..PLAIN
+        },
+    ),
+    (
+        &["run", "--workers=2", "--log"],
+        Asked {
+            by: By::Run,
+            workers: 2,
+            log: true,
+            ..PLAIN
+        },
+    ),
+    (&["gen", "5", "--by", "rounds"], FIVE),
+    (&["--by=rounds", "gen", "--", "0000005"], FIVE),
+];
+
+/// What asks for a ring of five in rounds.
+const FIVE: Asked = Asked {
+    by: By::Rounds,
+    ring: Some(5),
+    ..PLAIN
+};
+
 #[test]
 fn lines_that_are_read(rt: HostRuntime) {
-    let alloc = rt.alloc();
-    asks(&rt, alloc, &["alone"], PLAIN);
-    asks(&rt, alloc, &["--", "alone"], PLAIN);
-    let most = Asked {
-        budget: 1_000_000,
-        ..PLAIN
-    };
-    asks(&rt, alloc, &["--budget", "1000000", "alone"], most);
-    let logged = Asked {
-        by: By::Run,
-        workers: 2,
-        log: true,
-        ..PLAIN
-    };
-    asks(&rt, alloc, &["run", "--workers=2", "--log"], logged);
-    let five = Asked {
-        by: By::Rounds,
-        ring: Some(5),
-        ..PLAIN
-    };
-    asks(&rt, alloc, &["gen", "5", "--by", "rounds"], five);
-    asks(&rt, alloc, &["--by=rounds", "gen", "--", "0000005"], five);
+    for (words, asked) in LINES {
+        asks(&rt, rt.alloc(), *words, asked);
+    }
 }
 
 /// Modes, plain words and options that don't go together.
+const NO_LINES: &[&[&str]] = &[
+    &[],
+    &["fly"],
+    &["-"],
+    &["gen"],
+    &["gen", "65"],
+    &["alone", "5"],
+    &["gen", "5", "6"],
+    &["gen", "5", "--log"],
+    &["run", "--by", "run"],
+    &["--help"],
+    &["run", "--", "--log"],
+];
+
 #[test]
 fn words_that_are_no_line(rt: HostRuntime) {
-    let alloc = rt.alloc();
-    refuses(&rt, alloc, &[]);
-    refuses(&rt, alloc, &["fly"]);
-    refuses(&rt, alloc, &["-"]);
-    refuses(&rt, alloc, &["gen"]);
-    refuses(&rt, alloc, &["gen", "65"]);
-    refuses(&rt, alloc, &["alone", "5"]);
-    refuses(&rt, alloc, &["gen", "5", "6"]);
-    refuses(&rt, alloc, &["gen", "5", "--log"]);
-    refuses(&rt, alloc, &["run", "--by", "run"]);
-    refuses(&rt, alloc, &["--help"]);
-    refuses(&rt, alloc, &["run", "--", "--log"]);
+    for words in NO_LINES {
+        refuses(&rt, rt.alloc(), *words);
+    }
 }
 
 /// Options that are given twice, and values that are none.
+const NO_OPTIONS: &[&[&str]] = &[
+    &["alone", "--budget", "5", "--budget=5"],
+    &["alone", "--log", "--log"],
+    &["alone", "--log="],
+    &["alone", "--budget", "1000001"],
+    &["alone", "--budget", "00000001"],
+    &["alone", "--budget="],
+    &["alone", "--budget", "-1"],
+    &["alone", "--budget"],
+    &["run", "--workers=0"],
+    &["gen", "5", "--by=gen"],
+];
+
 #[test]
 fn options_that_are_refused(rt: HostRuntime) {
-    let alloc = rt.alloc();
-    refuses(&rt, alloc, &["alone", "--budget", "5", "--budget=5"]);
-    refuses(&rt, alloc, &["alone", "--log", "--log"]);
-    refuses(&rt, alloc, &["alone", "--log="]);
-    refuses(&rt, alloc, &["alone", "--budget", "1000001"]);
-    refuses(&rt, alloc, &["alone", "--budget", "00000001"]);
-    refuses(&rt, alloc, &["alone", "--budget="]);
-    refuses(&rt, alloc, &["alone", "--budget", "-1"]);
-    refuses(&rt, alloc, &["alone", "--budget"]);
-    refuses(&rt, alloc, &["run", "--workers=0"]);
-    refuses(&rt, alloc, &["gen", "5", "--by=gen"]);
+    for words in NO_OPTIONS {
+        refuses(&rt, rt.alloc(), *words);
+    }
 }
 
 /// Copies are equal.

@@ -51,32 +51,38 @@ fn the_least_place_comes_first(rt: HostRuntime) {
     expect_fault(&rt, alloc, places, Kind::Scope5, 15);
 }
 
+/// What stands twice.
+const TWICE: &[(&[u8], Kind, u32)] = &[
+    (b"site s [ s() => 0 : 0 ]", Kind::Scope3, 9),
+    (b"site s [ x(u, u) => 0 : 0 ]", Kind::Scope4, 14),
+    (b"site s [ x() | x() => 0 : 0 ]", Kind::Scope5, 15),
+    (
+        b"observe out/0; site s [ out() => 0 : 0 ]",
+        Kind::Scope3,
+        24,
+    ),
+];
+
 #[test]
 fn what_stands_twice(rt: HostRuntime) {
-    let alloc = rt.alloc();
-    expect_fault(&rt, alloc, b"site s [ s() => 0 : 0 ]", Kind::Scope3, 9);
-    expect_fault(&rt, alloc, b"site s [ x(u, u) => 0 : 0 ]", Kind::Scope4, 14);
-    expect_fault(
-        &rt,
-        alloc,
-        b"site s [ x() | x() => 0 : 0 ]",
-        Kind::Scope5,
-        15,
-    );
-    let observed = b"observe out/0; site s [ out() => 0 : 0 ]";
-    expect_fault(&rt, alloc, observed, Kind::Scope3, 24);
+    for (text, kind, place) in TWICE {
+        expect_fault(&rt, rt.alloc(), *text, *kind, *place);
+    }
 }
+
+/// What is used wrongly.
+const WRONG: &[(&[u8], Kind, u32)] = &[
+    (b"site s [ x() => 0 and x(u) => 0 : 0 ]", Kind::Arity2, 22),
+    (b"site s [ none : s() ]", Kind::Arity3, 16),
+    (b"site s [ x() => 0 : go(x, x) ]", Kind::Arity4, 23),
+    (b"site s [ x(u) => 0 : fail(s, x) ]", Kind::Arity1, 29),
+];
 
 #[test]
 fn what_is_used_wrongly(rt: HostRuntime) {
-    let alloc = rt.alloc();
-    let counts = b"site s [ x() => 0 and x(u) => 0 : 0 ]";
-    expect_fault(&rt, alloc, counts, Kind::Arity2, 22);
-    expect_fault(&rt, alloc, b"site s [ none : s() ]", Kind::Arity3, 16);
-    let head = b"site s [ x() => 0 : go(x, x) ]";
-    expect_fault(&rt, alloc, head, Kind::Arity4, 23);
-    let cont = b"site s [ x(u) => 0 : fail(s, x) ]";
-    expect_fault(&rt, alloc, cont, Kind::Arity1, 29);
+    for (text, kind, place) in WRONG {
+        expect_fault(&rt, rt.alloc(), *text, *kind, *place);
+    }
 }
 
 // So many sites of 18 bytes each.

@@ -1,59 +1,64 @@
 // Texts with their tokens and faults. The expected values were worked out by hand.
 use join_base::{Front, Kind};
-use join_lex::{Key, Kind2, Sign, Tokens, lex};
+use join_lex::{Key, Kind2, Sign, Token, Tokens, lex};
 use std::alloc::{AllocError, Global};
 use std::process::Abort;
 use std::test::Fail;
 
-// The token at an index, and that it stands there.
-fn token<'a>(
-    rt: &impl Abort,
-    tokens: &'a Tokens,
-    index: usize,
-    span: (u32, u32),
-) -> Option<&'a Kind2> {
-    let token = tokens.list.as_slice().get(index)?;
-    assert_eq!(rt; token.span.from, span.0);
-    assert_eq!(rt; token.span.upto, span.1);
-    Some(&token.kind)
+/// What a token is to be.
+#[derive(Clone, Copy)]
+enum Want {
+    Key(Key),
+    Sign(Sign),
+    Number(u32),
+    Name(&'static [u8]),
 }
 
-fn expect_key(rt: &impl Abort, tokens: &Tokens, index: usize, span: (u32, u32), key: Key) {
-    let found = match token(rt, tokens, index, span) {
-        Some(Kind2::Key(found)) => Some(*found),
-        _ => None,
-    };
-    assert_eq!(rt; found, Some(key));
+/// A token: where it begins, where it ends, and what it is.
+type Row = (u32, u32, Want);
+
+fn is_wanted(kind: &Kind2, want: Want) -> bool {
+    match (kind, want) {
+        (Kind2::Key(found), Want::Key(key)) => *found == key,
+        (Kind2::Sign(found), Want::Sign(sign)) => *found == sign,
+        (Kind2::Number(found), Want::Number(value)) => *found == value,
+        (Kind2::Ident(found), Want::Name(name)) => found.as_slice() == name,
+        _ => false,
+    }
 }
 
-fn expect_sign(rt: &impl Abort, tokens: &Tokens, index: usize, span: (u32, u32), sign: Sign) {
-    let found = match token(rt, tokens, index, span) {
-        Some(Kind2::Sign(found)) => Some(*found),
-        _ => None,
-    };
-    assert_eq!(rt; found, Some(sign));
-}
-
-fn expect_number(rt: &impl Abort, tokens: &Tokens, index: usize, span: (u32, u32), value: u32) {
-    let found = match token(rt, tokens, index, span) {
-        Some(Kind2::Number(found)) => Some(*found),
-        _ => None,
-    };
-    assert_eq!(rt; found, Some(value));
-}
-
-fn expect_name(rt: &impl Abort, tokens: &Tokens, index: usize, span: (u32, u32), name: &[u8]) {
-    let found = match token(rt, tokens, index, span) {
-        Some(Kind2::Ident(found)) => Some(found.as_slice()),
-        _ => None,
-    };
-    assert_eq!(rt; found, Some(name));
+fn expect_token(rt: &impl Abort, token: &Token, row: &Row) {
+    assert_eq!(rt; (token.span.from, token.span.upto), (row.0, row.1));
+    assert!(rt; is_wanted(&token.kind, row.2));
 }
 
 // That a text has so many tokens and bytes.
 fn expect_size(rt: &impl Abort, tokens: &Tokens, count: usize, bytes: u32) {
     assert_eq!(rt; tokens.list.len(), count);
     assert_eq!(rt; tokens.length, bytes);
+}
+
+// The token at an index.
+fn expect_at(rt: &impl Abort, tokens: &Tokens, index: usize, row: &Row) {
+    match tokens.list.as_slice().get(index) {
+        Some(token) => expect_token(rt, token, row),
+        None => assert!(rt; false),
+    }
+}
+
+fn expect_each(rt: &impl Abort, tokens: &Tokens, rows: &[Row], bytes: u32) {
+    expect_size(rt, tokens, rows.len(), bytes);
+    for (at, row) in rows.iter().enumerate() {
+        expect_at(rt, tokens, at, row);
+    }
+}
+
+// That a text has these tokens and no others.
+fn expect_tokens(rt: &impl Abort, alloc: Global, text: &[u8], rows: &[Row]) {
+    match lex(alloc, text) {
+        Ok(tokens) => expect_each(rt, &tokens, rows, text.len() as u32),
+        Err(_) => assert!(rt; false),
+    }
 }
 
 fn expect_fault(rt: &impl Abort, alloc: Global, text: &[u8], kind: Kind, place: u32) {
@@ -66,102 +71,108 @@ fn many(alloc: Global, byte: u8, count: usize) -> Result<Vec<u8>, AllocError> {
     vec![in alloc; byte; count]
 }
 
-#[test]
-fn a_least_program(rt: HostRuntime) -> Result<(), Fail> {
-    let tokens = lex(rt.alloc(), b"site s [ none : 0 ]")?;
-    expect_size(&rt, &tokens, 7, 19);
-    expect_key(&rt, &tokens, 0, (0, 4), Key::Site);
-    expect_name(&rt, &tokens, 1, (5, 6), b"s");
-    expect_sign(&rt, &tokens, 2, (7, 8), Sign::SquareLeft);
-    expect_key(&rt, &tokens, 3, (9, 13), Key::Void);
-    expect_sign(&rt, &tokens, 4, (14, 15), Sign::Colon);
-    expect_number(&rt, &tokens, 5, (16, 17), 0);
-    expect_sign(&rt, &tokens, 6, (18, 19), Sign::SquareRight);
-    Ok(())
-}
+const LEAST_PROGRAM: &[Row] = &[
+    (0, 4, Want::Key(Key::Site)),
+    (5, 6, Want::Name(b"s")),
+    (7, 8, Want::Sign(Sign::SquareLeft)),
+    (9, 13, Want::Key(Key::Void)),
+    (14, 15, Want::Sign(Sign::Colon)),
+    (16, 17, Want::Number(0)),
+    (18, 19, Want::Sign(Sign::SquareRight)),
+];
 
 #[test]
-fn every_keyword(rt: HostRuntime) -> Result<(), Fail> {
-    let tokens = lex(rt.alloc(), b"observe site def in and go fail halt none")?;
-    expect_size(&rt, &tokens, 9, 41);
-    expect_key(&rt, &tokens, 0, (0, 7), Key::Observe);
-    expect_key(&rt, &tokens, 1, (8, 12), Key::Site);
-    expect_key(&rt, &tokens, 2, (13, 16), Key::Def);
-    expect_key(&rt, &tokens, 3, (17, 19), Key::Inside);
-    expect_key(&rt, &tokens, 4, (20, 23), Key::And);
-    expect_key(&rt, &tokens, 5, (24, 26), Key::Go);
-    expect_key(&rt, &tokens, 6, (27, 31), Key::Fail);
-    expect_key(&rt, &tokens, 7, (32, 36), Key::Halt);
-    expect_key(&rt, &tokens, 8, (37, 41), Key::Void);
-    Ok(())
+fn a_least_program(rt: HostRuntime) {
+    expect_tokens(&rt, rt.alloc(), b"site s [ none : 0 ]", LEAST_PROGRAM);
 }
+
+const KEYWORDS: &[Row] = &[
+    (0, 7, Want::Key(Key::Observe)),
+    (8, 12, Want::Key(Key::Site)),
+    (13, 16, Want::Key(Key::Def)),
+    (17, 19, Want::Key(Key::Inside)),
+    (20, 23, Want::Key(Key::And)),
+    (24, 26, Want::Key(Key::Go)),
+    (27, 31, Want::Key(Key::Fail)),
+    (32, 36, Want::Key(Key::Halt)),
+    (37, 41, Want::Key(Key::Void)),
+];
 
 #[test]
-fn every_sign(rt: HostRuntime) -> Result<(), Fail> {
-    let tokens = lex(rt.alloc(), b"=>:|()[],;/")?;
-    expect_size(&rt, &tokens, 10, 11);
-    expect_sign(&rt, &tokens, 0, (0, 2), Sign::Arrow);
-    expect_sign(&rt, &tokens, 1, (2, 3), Sign::Colon);
-    expect_sign(&rt, &tokens, 2, (3, 4), Sign::Bar);
-    expect_sign(&rt, &tokens, 3, (4, 5), Sign::ParenLeft);
-    expect_sign(&rt, &tokens, 4, (5, 6), Sign::ParenRight);
-    expect_sign(&rt, &tokens, 5, (6, 7), Sign::SquareLeft);
-    expect_sign(&rt, &tokens, 6, (7, 8), Sign::SquareRight);
-    expect_sign(&rt, &tokens, 7, (8, 9), Sign::Comma);
-    expect_sign(&rt, &tokens, 8, (9, 10), Sign::Semicolon);
-    expect_sign(&rt, &tokens, 9, (10, 11), Sign::Slash);
-    Ok(())
+fn every_keyword(rt: HostRuntime) {
+    let text = b"observe site def in and go fail halt none";
+    expect_tokens(&rt, rt.alloc(), text, KEYWORDS);
 }
+
+const SIGNS: &[Row] = &[
+    (0, 2, Want::Sign(Sign::Arrow)),
+    (2, 3, Want::Sign(Sign::Colon)),
+    (3, 4, Want::Sign(Sign::Bar)),
+    (4, 5, Want::Sign(Sign::ParenLeft)),
+    (5, 6, Want::Sign(Sign::ParenRight)),
+    (6, 7, Want::Sign(Sign::SquareLeft)),
+    (7, 8, Want::Sign(Sign::SquareRight)),
+    (8, 9, Want::Sign(Sign::Comma)),
+    (9, 10, Want::Sign(Sign::Semicolon)),
+    (10, 11, Want::Sign(Sign::Slash)),
+];
 
 #[test]
-fn runs_end_where_they_must(rt: HostRuntime) -> Result<(), Fail> {
-    let tokens = lex(rt.alloc(), b"0and inX_9 007 0255")?;
-    expect_size(&rt, &tokens, 5, 19);
-    expect_number(&rt, &tokens, 0, (0, 1), 0);
-    expect_key(&rt, &tokens, 1, (1, 4), Key::And);
-    expect_name(&rt, &tokens, 2, (5, 10), b"inX_9");
-    expect_number(&rt, &tokens, 3, (11, 14), 7);
-    expect_number(&rt, &tokens, 4, (15, 19), 255);
-    Ok(())
+fn every_sign(rt: HostRuntime) {
+    expect_tokens(&rt, rt.alloc(), b"=>:|()[],;/", SIGNS);
 }
+
+const RUNS: &[Row] = &[
+    (0, 1, Want::Number(0)),
+    (1, 4, Want::Key(Key::And)),
+    (5, 10, Want::Name(b"inX_9")),
+    (11, 14, Want::Number(7)),
+    (15, 19, Want::Number(255)),
+];
 
 #[test]
-fn comments(rt: HostRuntime) -> Result<(), Fail> {
-    let tokens = lex(rt.alloc(), b"1 # 2")?;
-    expect_size(&rt, &tokens, 1, 5);
-    expect_number(&rt, &tokens, 0, (0, 1), 1);
-
-    let tokens = lex(rt.alloc(), b"#\xff\x80$\n1")?;
-    expect_size(&rt, &tokens, 1, 6);
-    expect_number(&rt, &tokens, 0, (5, 6), 1);
-
-    let tokens = lex(rt.alloc(), b"# 2\r;\n 4")?;
-    expect_size(&rt, &tokens, 1, 8);
-    expect_number(&rt, &tokens, 0, (7, 8), 4);
-    Ok(())
+fn runs_end_where_they_must(rt: HostRuntime) {
+    expect_tokens(&rt, rt.alloc(), b"0and inX_9 007 0255", RUNS);
 }
+
+const BEFORE_A_COMMENT: &[Row] = &[(0, 1, Want::Number(1))];
+
+const BEHIND_A_COMMENT: &[Row] = &[(5, 6, Want::Number(1))];
+
+const BEHIND_A_LINE: &[Row] = &[(7, 8, Want::Number(4))];
 
 #[test]
-fn bytes_that_begin_no_token(rt: HostRuntime) -> Result<(), Fail> {
-    expect_fault(&rt, rt.alloc(), b"=", Kind::Lex2, 0);
-    expect_fault(&rt, rt.alloc(), b"x = > y", Kind::Lex2, 2);
-    expect_fault(&rt, rt.alloc(), b"site [ $", Kind::Lex2, 7);
-    expect_fault(&rt, rt.alloc(), b"# a\nX", Kind::Lex2, 4);
-    expect_fault(&rt, rt.alloc(), b"0 _ 256", Kind::Lex2, 2);
-    Ok(())
+fn comments(rt: HostRuntime) {
+    expect_tokens(&rt, rt.alloc(), b"1 # 2", BEFORE_A_COMMENT);
+    expect_tokens(&rt, rt.alloc(), b"#\xff\x80$\n1", BEHIND_A_COMMENT);
+    expect_tokens(&rt, rt.alloc(), b"# 2\r;\n 4", BEHIND_A_LINE);
 }
+
+/// Texts, and where the first byte stands that begins no token.
+const NO_TOKENS: &[(&[u8], u32)] = &[
+    (b"=", 0),
+    (b"x = > y", 2),
+    (b"site [ $", 7),
+    (b"# a\nX", 4),
+    (b"0 _ 256", 2),
+];
+
+#[test]
+fn bytes_that_begin_no_token(rt: HostRuntime) {
+    for (text, place) in NO_TOKENS {
+        expect_fault(&rt, rt.alloc(), *text, Kind::Lex2, *place);
+    }
+}
+
+const ONE_NUMBER: &[Row] = &[(0, 300_000, Want::Number(0))];
 
 #[test]
 fn numbers_that_are_too_large(rt: HostRuntime) -> Result<(), Fail> {
     expect_fault(&rt, rt.alloc(), b"x 0256 $", Kind::Lex3, 2);
-
     let digits = many(rt.alloc(), b'1', 300_000)?;
     expect_fault(&rt, rt.alloc(), &digits, Kind::Lex3, 0);
-
     let zeros = many(rt.alloc(), b'0', 300_000)?;
-    let tokens = lex(rt.alloc(), &zeros)?;
-    expect_size(&rt, &tokens, 1, 300_000);
-    expect_number(&rt, &tokens, 0, (0, 300_000), 0);
+    expect_tokens(&rt, rt.alloc(), &zeros, ONE_NUMBER);
     Ok(())
 }
 
@@ -169,23 +180,26 @@ fn numbers_that_are_too_large(rt: HostRuntime) -> Result<(), Fail> {
 fn the_longest_texts(rt: HostRuntime) -> Result<(), Fail> {
     let long = many(rt.alloc(), b' ', 1_048_577)?;
     expect_fault(&rt, rt.alloc(), &long, Kind::Lex1, 1_048_576);
-
     let whole = many(rt.alloc(), b' ', 1_048_576)?;
-    let tokens = lex(rt.alloc(), &whole)?;
-    expect_size(&rt, &tokens, 0, 1_048_576);
-
-    let bars = many(rt.alloc(), b'|', 1_048_576)?;
-    let tokens = lex(rt.alloc(), &bars)?;
-    expect_size(&rt, &tokens, 1_048_576, 1_048_576);
-    expect_sign(&rt, &tokens, 1_048_575, (1_048_575, 1_048_576), Sign::Bar);
+    expect_tokens(&rt, rt.alloc(), &whole, &[]);
     Ok(())
 }
 
 #[test]
+fn the_most_tokens(rt: HostRuntime) -> Result<(), Fail> {
+    let bars = many(rt.alloc(), b'|', 1_048_576)?;
+    let tokens = lex(rt.alloc(), &bars)?;
+    expect_size(&rt, &tokens, 1_048_576, 1_048_576);
+    let last = (1_048_575, 1_048_576, Want::Sign(Sign::Bar));
+    expect_at(&rt, &tokens, 1_048_575, &last);
+    Ok(())
+}
+
+const COPIED: &[Row] = &[(0, 1, Want::Name(b"x")), (2, 3, Want::Number(7))];
+
+#[test]
 fn copies(rt: HostRuntime) -> Result<(), Fail> {
     let tokens = lex(rt.alloc(), b"x 7")?.copy(rt.alloc())?;
-    expect_size(&rt, &tokens, 2, 3);
-    expect_name(&rt, &tokens, 0, (0, 1), b"x");
-    expect_number(&rt, &tokens, 1, (2, 3), 7);
+    expect_each(&rt, &tokens, COPIED, 3);
     Ok(())
 }

@@ -10,8 +10,9 @@ use std::alloc::Global;
 
 /// The program of a text, or its first fault: the lexical one, else the grammar's, else that of
 /// scope or arity.
-pub fn program_of(alloc: Global, text: &[u8]) -> Result<Program, Front> {
+pub fn program_of(alloc: Global, text: &[u8]) -> Result<Box<Program>, Front> {
     let tokens = lex(alloc, text)?;
     let tree = parse(alloc, &tokens)?;
-    check(alloc, &tree)
+    let program = check(alloc, &tree)?;
+    Ok(Box::new(alloc, program)?)
 }

@@ -1,5 +1,6 @@
 -- The walk is going on; it stops at a receipt that isn't fresh, or ends.
-use Rattle.std.proofs.Common.{◌≡◌, ℕ, ◌+◌, ◌<◌, List, ◌∷◌, length, map, drop, refl, ◌∙◌, subst, Some, None, arith, rules}
+use Rattle.std.proofs.Common.{◌≡◌, ℕ, ◌+◌, ◌<◌, List, [], ◌∷◌, length, map, drop, refl, sym, ◌∙◌, subst, Some, None, arith, rules}
+use Rattle.std.proofs.lemmas.List.{drop_all}
 use Rattle.std.proofs.lemmas.Option.{slice_get_within}
 use Rattle.chem_model.specs.Each.{Each}
 use Rattle.chem_model.specs.declared.event.Event.{Event}
@@ -7,12 +8,12 @@ use Rattle.chem_laws.proofs.Lists.{Each-weaker}
 use Rattle.shared_net.specs.declared.receipt.Receipt.{Receipt}
 use Rattle.shared_net.specs.declared.report.Worked.{Worked}
 use Rattle.shared_net.specs.Passes.{PassKept, Rise}
-use Rattle.shared_net.specs.Agrees.{row_of}
-use Rattle.shared_net.specs.Causes.{IsCause, HasPlace}
+use Rattle.shared_net.specs.Agrees.{row_of, all_receipts, Agrees}
+use Rattle.shared_net.specs.Causes.{IsCause, HasPlace, DifferInNumber}
 use Rattle.shared_net.specs.Causes.{IsShownBy}
 use Rattle.shared_net.specs.inside.Walk.{IsFresh, LooksAll, Marks}
 use Rattle.shared_net.proofs.Members.{drop-at, map-at, map-within, OneOf-at}
-use Rattle.shared_net.proofs.Going.{IsGoing, goes, stops}
+use Rattle.shared_net.proofs.Going.{IsGoing, starts, goes, ends, stops}
 use Rattle.shared_net.proofs.Excludes.{excludes}
 use Rattle.shared_net.proofs.inside.compare.Goals as goal
 
@@ -63,3 +64,26 @@ loop-pass-preserved g c =
     let rises : Rise 0 p.budget p.receipts = subst (λ (rs : List Receipt). Rise 0 p.budget rs) c.receipts.ensures.receipts c.receipts.ensures.rise in
     let marked : Marks slots p.number p.receipts new = subst (λ (n : ℕ). Marks slots n p.receipts new) mine (subst (λ (rs : List Receipt). Marks slots c.number-number.result rs new) held c.mark.ensures.marks) in
     goes journal (map row_of ps) (row_of p) rest slots new p.budget going all_free rises marked c.mark.ensures.length (λ (k : ℕ) (has : HasPlace k (row_of p)). OneOf-at (λ (w : Worked). (w.number ≡ p.number) × HasPlace k w) (map row_of ps) i (row_of p) (map-within row_of ps i l) (map-at row_of ps i p l c.pass-item.is) (refl, has))
+
+pub loop-pass-init : goal.loop-pass-init
+loop-pass-init g c =
+    let ps = c.as_slice-pass-items.result.now in
+    let journal = c.as_slice-journal.result.now in
+    let slots = c.in_ok-slots.slots.items in
+    let apart : DifferInNumber (map row_of ps) = subst (λ (xs : List PassKept). DifferInNumber (map row_of xs)) (sym c.as_slice-pass-items.ensures) c.requires in
+    starts journal (map row_of ps) slots (search rules) (search rules) apart
+
+pub returns-clause-cause : goal.returns-clause-cause
+returns-clause-cause g c =
+    let ps = c.as_slice-pass-items.result.now in
+    let journal = c.as_slice-journal.result.now in
+    let slots = c.loop-pass.slots.items in
+    let none : drop c.loop-pass.pass-index ps ≡ [] = drop_all c.loop-pass.pass-index ps c.loop-pass-test.false in
+    let going : IsGoing journal (map row_of ps) [] slots = subst (λ (xs : List PassKept). IsGoing journal (map row_of ps) (map row_of xs) slots) none c.loop-pass.invariant in
+    let all = ends journal (map row_of ps) slots going in
+    let same : ps ≡ c.args.passes.now = c.as_slice-pass-items.ensures in
+    let book : journal ≡ c.args.locked.now.book.journal = search rules in
+    subst (λ (xs : List PassKept). Agrees c.args.locked.now.book.journal (all_receipts (map row_of xs))) same (subst (λ (j : List Event). Agrees j (all_receipts (map row_of ps))) book all)
+
+pub returns-clause-exact : goal.returns-clause-exact
+returns-clause-exact g c = λ agrees. refl

@@ -10,11 +10,11 @@ pub returns-then-budget-before-clause-rounds : goal.returns-then-budget-before-c
 returns-then-budget-before-clause-rounds g c =
     let before : c.len-before.result ≡ length c.rounds.book.journal = c.len-before.ensures.count ∙ ap length c.journal.ensures in
     let few : c.args.budget - length c.rounds.book.journal < length c.rounds.net.net.sites = subst (λ (k : ℕ). c.args.budget - length c.rounds.book.journal < k) c.sites.ensures (subst (λ (k : ℕ). c.args.budget - k < c.sites.result) before c.if-budget-before.true) in
-    on_ok_so c.go_on.result (λ went. (c.go_on.new.net, few_ends c.args.budget c.args.net c.rounds.net c.go_on.new.net c.args.book.now c.rounds.book c.go_on.new.book c.rounds.invariant.way few went)) c.go_on.ensures.goes
+    on_ok_so c.go_on-went.result (λ went. (c.go_on-went.new.net, few_ends c.args.budget c.args.net c.rounds.net c.go_on-went.new.net c.args.book.now c.rounds.book c.go_on-went.new.book c.rounds.invariant.way few went)) c.go_on-went.ensures.goes
 
 pub returns-then-budget-before-clause-left : goal.returns-then-budget-before-clause-left
 returns-then-budget-before-clause-left g c =
-    on_err_so c.go_on.result (λ low. was_left c.args.budget c.args.book.now c.rounds.book c.rounds.invariant.way.added c.rounds.invariant.way.book_is low) c.go_on.ensures.left
+    on_err_so c.go_on-went.result (λ low. was_left c.args.budget c.args.book.now c.rounds.book c.rounds.invariant.way.added c.rounds.invariant.way.book_is low) c.go_on-went.ensures.left
 
 pub returns-then-is_over-clause-rounds : goal.returns-then-is_over-clause-rounds
 returns-then-is_over-clause-rounds g c =
@@ -49,4 +49,4 @@ returns-in_err-net-clause-left g c =
     let many : length c.rounds.net.net.sites ≤ c.args.budget - length c.rounds.book.journal = subst (λ (k : ℕ). k ≤ c.args.budget - length c.rounds.book.journal) c.sites.ensures (subst (λ (k : ℕ). c.sites.result ≤ c.args.budget - k) before c.if-budget-before.false) in
     let low : length c.rounds.book.journal < c.args.budget = omega arith in
     let left : length c.args.book.now.journal < c.args.budget = was_left c.args.budget c.args.book.now c.rounds.book c.rounds.invariant.way.added c.rounds.invariant.way.book_is low in
-    on_err c.from_residual-in_err-net.result left
+    on_err c.from_residual.result left

@@ -51,8 +51,8 @@ returns-in-Ok-Agreed-clause-how g c =
     let closes = closes_of_all old w c.args.net.program c.args.program.now c.args.net.budget c.args.budget (Agreed book report) whole c.requires.program c.requires.budget (rw c.in-Ok-Agreed.field-0-is at c.in-Ok-Agreed.ensures.closed) in
     shared_is_free c.args.net.sites old w c.args.program.now c.args.budget same ended book report closes c.shared.result c.shared.ensures.how
 
-pub returns-clause-how : goal.returns-clause-how
-returns-clause-how g c =
+pub returns-in-Ok-Differs-clause-how : goal.returns-in-Ok-Differs-clause-how
+returns-in-Ok-Differs-clause-how g c =
     let old = c.args.passes in
     let w : List PassKept = c.work_all.new.passes in
     let same : HaveSameOwners old w = rw c.as_mut_slice.ensures.passes at c.work_all.ensures in

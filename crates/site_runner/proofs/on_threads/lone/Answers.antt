@@ -3,8 +3,8 @@ use Rattle.std.proofs.Common.{refl}
 use Rattle.site_runner.proofs.Carried.{has_cause}
 use Rattle.site_runner.proofs.on_threads.lone.Goals as goal
 
-pub returns-clause-how : goal.returns-clause-how
-returns-clause-how c = (
+pub returns-in-Ok-clause-how : goal.returns-in-Ok-clause-how
+returns-in-Ok-clause-how c = (
   refl,
   has_cause c.args.program.now c.args.report c.requires.some c.differs-cause.ensures.cause c.requires.started,
   c.in-Ok.ensures.whole,

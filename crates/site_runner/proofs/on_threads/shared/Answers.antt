@@ -5,13 +5,13 @@ use Rattle.shared_net.specs.Reports.{Reported}
 use Rattle.site_runner.proofs.Carried.{are_first, goes_on_alone}
 use Rattle.site_runner.proofs.on_threads.shared.Goals as goal
 
-pub returns-clause-run : goal.returns-clause-run
-returns-clause-run c =
+pub returns-in-Ok-clause-run : goal.returns-in-Ok-clause-run
+returns-in-Ok-clause-run c =
     let run = c.in-Ok.ensures.run in
     record { program = run.program; within = run.within; ends = run.ends }
 
-pub returns-clause-how : goal.returns-clause-how
-returns-clause-how c =
+pub returns-in-Ok-clause-how : goal.returns-in-Ok-clause-how
+returns-in-Ok-clause-how c =
     let report : Reported = c.args.report in
     let run = c.in-Ok.ensures.run in
     let many : c.len-events.result ≡ length c.args.book.journal = c.len-events.ensures.count ∙ ap length c.journal.ensures in (
