@@ -1,4 +1,5 @@
 // A book, and the plain program that does the same on copies of whole lists.
+ghost use Rattle.std.specs.Prelude.{◌≡◌, [], IfOk};
 
 use crate::by_lists::first_by_lists;
 use chem_model::{Event, Memory, Named, Numbered, Out, Program};
@@ -29,7 +30,9 @@ pub enum End {
 }
 
 /// The book of a program, before any event.
-pub fn book_with(alloc: Global, program: &Program) -> Result<Box<Book>, Memory> {
+pub fn book_with(alloc: Global, program: &Program) -> Result<Box<Book>, Memory>
+    ensures { IfOk result (λ book. book.value.journal ≡ []) }
+{
     let book = Book::start(alloc, program)?;
     Ok(Box::new(alloc, book)?)
 }

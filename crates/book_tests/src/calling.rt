@@ -20,7 +20,7 @@ fn program_of(alloc: Global, text: &str) -> Result<Program, Front> {
 /// What a program shows after the event that comes first, where one is possible.
 fn after_one_event(alloc: Global, program: &Program) -> Result<Text, Memory> {
     let _ = &program.tops;
-    let mut book = Book::start(alloc, program)?;
+    let mut book = Box::new(alloc, Book::start(alloc, program)?)?;
     if let Some(found) = book.first_enabled(alloc, 0)? {
         book.commit(alloc, &found.event)?;
     }

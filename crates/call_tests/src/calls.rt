@@ -28,7 +28,7 @@ enum By {
     OneThreadAfterAll,
 }
 
-fn by(how: &How) -> By {
+fn made_by(how: &How) -> By {
     match how {
         How::Alone => By::OneThread,
         How::Rounds => By::Rounds,
@@ -48,7 +48,7 @@ struct Outcome {
 
 fn told(alloc: Global, done: &Done) -> Result<Outcome, Memory> {
     Ok(Outcome {
-        by: by(&done.how),
+        by: made_by(&done.how),
         quiet: done.book.quiet(),
         events: done.book.journal().len(),
         text: trace_bytes(alloc, &done.book, Ending::Quiescent)?,

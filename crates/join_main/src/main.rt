@@ -25,34 +25,31 @@ fn words_after_name(rt: &HostRuntime) -> io::Result<Vec<String>> {
     Ok(words.collect(rt.alloc())?)
 }
 
-/// Runs the program by these words, and answers its status.
-fn run(rt: &HostRuntime, words: &[String]) -> u8 {
+fn main(rt: HostRuntime) -> ExitCode {
+    let words = match words_after_name(&rt) {
+        Ok(words) => words,
+        Err(error) if error.kind() == io::ErrorKind::OutOfMemory => {
+            let _ = rt.eprintln(OUT_OF_MEMORY_LINE);
+            return ExitCode::from(OUT_OF_MEMORY);
+        }
+        Err(_) => {
+            let _ = rt.eprintln(USAGE_LINE);
+            return ExitCode::from(USAGE);
+        }
+    };
     let mut source = StdSource::new(rt.stdin());
     let mut out = StdSink::new(rt.stdout());
     let mut err = StdSink::new(rt.stderr());
-    let team = Threaded::new(rt);
     let ended = run_join(
         rt.alloc(),
-        words,
+        words.as_slice(),
         &mut source,
         &mut out,
         &mut err,
         &OpenGate,
-        &team,
+        &Threaded::new(&rt),
     );
-    ended.status
-}
-
-fn main(rt: HostRuntime) -> ExitCode {
-    match words_after_name(&rt) {
-        Ok(words) => ExitCode::from(run(&rt, words.as_slice())),
-        Err(error) if error.kind() == io::ErrorKind::OutOfMemory => {
-            let _ = rt.eprintln(OUT_OF_MEMORY_LINE);
-            ExitCode::from(OUT_OF_MEMORY)
-        }
-        Err(_) => {
-            let _ = rt.eprintln(USAGE_LINE);
-            ExitCode::from(USAGE)
-        }
-    }
+    let status = ended.status;
+    drop(ended);
+    ExitCode::from(status)
 }

@@ -154,10 +154,9 @@ pub fn agree<L: Run>(alloc: Global, locked: &Locked<L>, passes: &Passes<L>) -> O
     if passes.as_slice().len() != 1 {
         return None;
     }
-    match compare(alloc, locked, passes) {
-        Ok(differs) => Some(differs.is_none()),
-        Err(_) => None,
-    }
+    let differs = compare(alloc, locked, passes).ok()?;
+    let differs = Box::new(alloc, differs).ok()?;
+    Some(differs.is_none())
 }
 
 /// Whether a message with this id waits at a location of the site.

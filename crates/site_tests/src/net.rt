@@ -343,14 +343,12 @@ pub fn moves_on(
 ) -> Result<(), Memory> {
     let Net { code, tree, sites } = net;
     assert!(rt; at < sites.len());
-    let mut from = sites.remove(at);
-    let Some(into) = sites.get_mut(at) else {
+    let (front, back) = sites.split_at_mut(at + 1);
+    let (Some(from), Some(into)) = (front.last_mut(), back.first_mut()) else {
         return Err(Memory);
     };
-    let effects = move_over(rt, alloc, &mut from, into, tree, code, atom(id))?;
+    let effects = move_over(rt, alloc, from, into, tree, code, atom(id))?;
     expect_sizes(rt, &effects, [0, 0, 0]);
-    assert!(rt; at <= sites.len());
-    sites.insert(at, from)?;
     Ok(())
 }
 

@@ -64,13 +64,13 @@ fn told(alloc: Global, net: &Net) -> Result<Text, Memory> {
 fn goes(rt: &impl Abort, alloc: Global, net: &mut Net) -> Result<bool, Memory> {
     let Net { code, tree, sites } = net;
     assert!(rt; sites.len() == 2);
-    let mut from = sites.remove(0);
-    let moved = match sites.get_mut(0) {
-        Some(into) => move_over(rt, alloc, &mut from, into, tree, code, atom((0, 10))).is_ok(),
-        None => false,
-    };
-    sites.insert(0, from)?;
-    Ok(moved)
+    let (front, back) = sites.split_at_mut(1);
+    match (front.first_mut(), back.first_mut()) {
+        (Some(from), Some(into)) => {
+            Ok(move_over(rt, alloc, from, into, tree, code, atom((0, 10))).is_ok())
+        }
+        _ => Ok(false),
+    }
 }
 
 // Whether the location moved; where memory ran out on the way, the sites and the tree are as they

@@ -1,4 +1,6 @@
 // Runs of the sources and sinks. The expected values were worked out by hand.
+ghost use Rattle.std.specs.Prelude.{◌<◌};
+
 use chem_model::{Items, Memory};
 use join_base::{
     Failed, MemSink, MemSource, ReadEnd, Sink, Source, StdSink, StdSource, read_all, write_piece,
@@ -6,6 +8,7 @@ use join_base::{
 use std::alloc::Global;
 use std::io;
 use std::io::Write;
+use std::process::Abort;
 use std::test::Fail;
 
 const PROGRAM: &[u8] = b"observe out/1; site s [ x(u) => out(u) : x(s) ]";
@@ -17,47 +20,74 @@ fn program(alloc: Global, fails: &[u32]) -> Result<MemSource, Memory> {
     Ok(MemSource::new(bytes, 16, fails))
 }
 
-#[test]
-fn reads_a_program_piece_by_piece(rt: HostRuntime) -> Result<(), Fail> {
-    let mut source = program(rt.alloc(), &[])?;
+fn expect_pieces(rt: &impl Abort, source: &mut MemSource) {
     let mut buffer = [0u8; 64];
     for want in [16, 16, 15, 0] {
         assert_eq!(rt; source.read(&mut buffer), Ok(want));
     }
+}
 
+#[test]
+fn reads_a_program_piece_by_piece(rt: HostRuntime) -> Result<(), Fail> {
     let mut source = program(rt.alloc(), &[])?;
-    let text = read_all(rt.alloc(), &mut source, 1_048_576)?;
-    assert_eq!(rt; text.as_slice(), PROGRAM);
-    assert_eq!(rt; text.len(), 47);
+    expect_pieces(&rt, &mut source);
     Ok(())
 }
 
 #[test]
-fn ends_without_a_text(rt: HostRuntime) -> Result<(), Fail> {
+fn reads_a_whole_program(rt: HostRuntime) -> Result<(), Fail> {
+    let mut source = program(rt.alloc(), &[])?;
+    let text = read_all(rt.alloc(), &mut source, 1_048_576)?;
+    assert_eq!(rt; text.as_slice(), PROGRAM);
+    Ok(())
+}
+
+// How reading ends where this call fails, if it ends without a text.
+fn end_of(alloc: Global, limit: u32, call: u32) -> Result<Option<ReadEnd>, Memory>
+    requires { limit < 100 }
+{
+    let mut source = program(alloc, &[call])?;
+    Ok(read_all(alloc, &mut source, limit).err())
+}
+
+#[test]
+fn ends_without_a_text(rt: HostRuntime) {
     for (limit, call, want) in [
         (47, 9, None),
         (46, 9, Some(ReadEnd::TooLong)),
         (47, 2, Some(ReadEnd::ReadFault)),
     ] {
-        let mut source = program(rt.alloc(), &[call])?;
-        let end = read_all(rt.alloc(), &mut source, limit).err();
-        assert_eq!(rt; end, want, "limit {limit}, failing call {call}");
+        let end = end_of(rt.alloc(), limit, call);
+        assert_eq!(rt; end, Ok(want), "limit {limit}, failing call {call}");
     }
-    Ok(())
+}
+
+// That it takes the first two of three bytes.
+fn expect_full(rt: &impl Abort, sink: &mut MemSink) {
+    assert_eq!(rt; write_piece(sink, b"abc"), Err(Failed));
+    assert_eq!(rt; sink.taken(), b"ab".as_slice());
 }
 
 #[test]
 fn holds_what_fits(rt: HostRuntime) -> Result<(), Fail> {
     let mut full = MemSink::new(rt.alloc(), 2, 8, Items::new(rt.alloc()))?;
-    assert_eq!(rt; write_piece(&mut full, b"abc"), Err(Failed));
-    assert_eq!(rt; full.taken(), b"ab".as_slice());
+    expect_full(&rt, &mut full);
+    Ok(())
+}
 
+// That its second write fails, and the next one goes on.
+fn expect_a_fault(rt: &impl Abort, sink: &mut MemSink) {
+    assert_eq!(rt; write_piece(sink, b"out(s)"), Err(Failed));
+    assert_eq!(rt; sink.taken(), b"out(".as_slice());
+    assert_eq!(rt; write_piece(sink, b"s)"), Ok(()));
+    assert_eq!(rt; sink.taken(), b"out(s)".as_slice());
+}
+
+#[test]
+fn holds_what_came_before_a_fault(rt: HostRuntime) -> Result<(), Fail> {
     let fails = Items::from_slice(rt.alloc(), &[2])?;
     let mut sink = MemSink::new(rt.alloc(), 100, 4, fails)?;
-    assert_eq!(rt; write_piece(&mut sink, b"out(s)"), Err(Failed));
-    assert_eq!(rt; sink.taken(), b"out(".as_slice());
-    assert_eq!(rt; write_piece(&mut sink, b"s)"), Ok(()));
-    assert_eq!(rt; sink.taken(), b"out(s)".as_slice());
+    expect_a_fault(&rt, &mut sink);
     Ok(())
 }
 

@@ -1,6 +1,8 @@
 // Texts with their programs and faults, read from the first byte on. The expected values were
 // worked out by hand.
-use chem_model::{Defn, DefnNode, Name, Pat, Proc, ProcNode, Program, Ref, Text};
+use chem_model::{
+    Defn, DefnNode, Name, Pat, Proc, ProcNode, Program, Ref, SeenDecl, SiteTerm, Text,
+};
 use join_base::{Front, Kind};
 use std::alloc::{AllocError, Global};
 use std::process::Abort;
@@ -171,21 +173,18 @@ fn expect_rule(rt: &impl Abort, defs: &[Defn]) {
     }
 }
 
-// The program of the first example.
-fn expect_first(rt: &impl Abort, p: &Program) {
-    assert_eq!(rt; p.tops, 2);
-    assert_eq!(rt; p.spell.len(), 3);
-    expect_spelling(rt, p.spell.as_slice(), 0, b"s");
-    expect_spelling(rt, p.spell.as_slice(), 1, b"x");
-    expect_spelling(rt, p.spell.as_slice(), 2, b"u");
-    match p.seen.as_slice() {
+fn expect_seen(rt: &impl Abort, seen: &[SeenDecl]) {
+    match seen {
         [out] => {
             assert_eq!(rt; out.count, 1);
             assert_eq!(rt; out.spell.as_slice(), b"out".as_slice());
         }
         _ => assert!(rt; false),
     }
-    match p.sites.as_slice() {
+}
+
+fn expect_site(rt: &impl Abort, sites: &[SiteTerm]) {
+    match sites {
         [site] => {
             assert_eq!(rt; site.name, 0);
             expect_rule(rt, site.defs.as_slice());
@@ -193,6 +192,16 @@ fn expect_first(rt: &impl Abort, p: &Program) {
         }
         _ => assert!(rt; false),
     }
+}
+
+// The program of the first example.
+fn expect_first(rt: &impl Abort, p: &Program) {
+    assert_eq!(rt; (p.tops, p.spell.len()), (2, 3));
+    for (at, name) in [b"s".as_slice(), b"x", b"u"].iter().enumerate() {
+        expect_spelling(rt, p.spell.as_slice(), at, *name);
+    }
+    expect_seen(rt, p.seen.as_slice());
+    expect_site(rt, p.sites.as_slice());
 }
 
 #[test]
