@@ -3,7 +3,7 @@ ghost use denote.Param.Send.{IsSync};
 
 use chem_model::{Items, Journal, Memory, Program};
 use join_base::{MemSink, MemSource, Source};
-use join_top::{Ended, FreeTeam, Gate, How, OpenGate, Team, Threaded, run_join};
+use join_top::{Ended, FreeTeam, Gate, How, Kept, OpenGate, Team, Threaded, run_join};
 use std::alloc::Global;
 use std::marker::Sync;
 use std::process::Abort;
@@ -155,6 +155,16 @@ pub fn call<R: AllocGlobal + Abort + Threads + Wait + Sync>(
     call_into(rt, words, source, out, roomy_sink(alloc)?)
 }
 
+fn parts_of(kept: Kept) -> (Program, Journal) {
+    let Kept {
+        program,
+        journal,
+        how,
+    } = kept;
+    drop(how);
+    (program, journal)
+}
+
 /// The program and the journal of a run of a text on one thread, where one was kept.
 pub fn kept_by<R: AllocGlobal + Abort + Threads + Wait + Sync>(
     rt: &R,
@@ -177,11 +187,10 @@ pub fn kept_by<R: AllocGlobal + Abort + Threads + Wait + Sync>(
         &OpenGate,
         &team,
     )?;
-    Ok(
-        Box::into_inner(ended)
-            .kept
-            .map(|kept| (kept.program, kept.journal)),
-    )
+    match Box::into_inner(ended).kept {
+        Some(kept) => Ok(Some(parts_of(kept))),
+        None => Ok(None),
+    }
 }
 
 impl Outcome {
