@@ -19,28 +19,29 @@ use worked_programs::program_of;
 const MOVE: &str =
     "observe out/1; site a [ m[ k() => out(m) : go(b, k) ] : 0 ] site b [ none : 0 ]";
 
-/// How a run was made: by free workers with the number of their events.
+/// How a run was made, without its report: on free threads with the number of events that the
+/// workers made.
 #[derive(Clone, Copy, PartialEq, Eq, Debug)]
-enum By {
-    OneThread,
+enum Made {
+    Alone,
     Rounds,
-    FreeWorkers(u64),
-    OneThreadAfterAll,
+    Shared(u64),
+    Lone,
 }
 
-fn made_by(how: &How) -> By {
+fn how_made(how: &How) -> Made {
     match how {
-        How::Alone => By::OneThread,
-        How::Rounds => By::Rounds,
-        How::Shared { events, .. } => By::FreeWorkers(*events),
-        How::Lone(_) => By::OneThreadAfterAll,
+        How::Alone => Made::Alone,
+        How::Rounds => Made::Rounds,
+        How::Shared { events, .. } => Made::Shared(*events),
+        How::Lone(_) => Made::Lone,
     }
 }
 
 /// What a run left, as plain values.
 #[derive(Drop)]
 struct Outcome {
-    by: By,
+    made: Made,
     quiet: bool,
     events: usize,
     text: Text,
@@ -48,7 +49,7 @@ struct Outcome {
 
 fn told(alloc: Global, done: &Done) -> Result<Outcome, Memory> {
     Ok(Outcome {
-        by: made_by(&done.how),
+        made: how_made(&done.how),
         quiet: done.book.quiet(),
         events: done.book.journal().len(),
         text: trace_bytes(alloc, &done.book, Ending::Quiescent)?,
@@ -86,8 +87,8 @@ fn by_two_free_workers<R: AllocGlobal + Threads + Wait + Sync>(
 }
 
 /// That a run was made as wanted, ended quiet with two events, and shows the location.
-fn expect_move(rt: &impl Abort, run: &Outcome, by: By) {
-    assert_eq!(rt; run.by, by);
+fn expect_move(rt: &impl Abort, run: &Outcome, made: Made) {
+    assert_eq!(rt; run.made, made);
     assert!(rt; run.quiet);
     assert_eq!(rt; run.events, 2);
     assert_eq!(rt; run.text.as_slice(), b"out(m)\nquiescent\n".as_slice());
@@ -96,12 +97,8 @@ fn expect_move(rt: &impl Abort, run: &Outcome, by: By) {
 #[test]
 fn a_move_by_the_three_calls(rt: HostRuntime) -> Result<(), Fail> {
     let program = program_of(rt.alloc(), MOVE.as_bytes())?;
-    expect_move(&rt, &on_one_thread(rt.alloc(), &program)?, By::OneThread);
-    expect_move(&rt, &by_two_workers(&rt, &program)?, By::Rounds);
-    expect_move(
-        &rt,
-        &by_two_free_workers(&rt, &program)?,
-        By::FreeWorkers(2),
-    );
+    expect_move(&rt, &on_one_thread(rt.alloc(), &program)?, Made::Alone);
+    expect_move(&rt, &by_two_workers(&rt, &program)?, Made::Rounds);
+    expect_move(&rt, &by_two_free_workers(&rt, &program)?, Made::Shared(2));
     Ok(())
 }
