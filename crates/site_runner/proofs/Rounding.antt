@@ -1,6 +1,6 @@
 -- The parts of a run in rounds: what was made so far is the beginning of what the schedule says.
 use Rattle.std.proofs.Common.{◌≡◌, ℕ, zero, suc, ◌+◌, ◌-◌, ◌*◌, ◌^◌, ◌/◌, ◌<◌, ◌≤◌, List, [], ◌∷◌, ◌++◌, Option, Some, None, Bool, true, false, cond, refl, ap, sym, ◌∙◌, subst, arith, length, length-append, append_assoc, append-nil, ◌⊎◌, inl, inr, is_some, take, drop, slice_index_or, min}
-use Rattle.std.specs.Prelude.{Result, Ok, Err, OnOk, OnErr}
+use Rattle.std.specs.Prelude.{Result, Ok, Err, OnErr}
 use Rattle.std.specs.List.{range_with_len}
 use Rattle.chem_model.specs.declared.event.AtomId.{AtomId}
 use Rattle.chem_model.specs.declared.event.Event.{Event}
@@ -76,11 +76,7 @@ pub on_err : {X Y P : Type 0} (o : Result X Y) → P → OnErr o P
 on_err (Ok x) h = tt
 on_err (Err y) h = h
 
--- what is said of each answer, from what is said of it in other words
-pub on_ok_so : {X Y P Q : Type 0} (o : Result X Y) → (P → Q) → OnOk o P → OnOk o Q
-on_ok_so (Ok x) so h = so h
-on_ok_so (Err y) so h = tt
-
+-- what is said of a failure, from what is said of it in other words
 pub on_err_so : {X Y P Q : Type 0} (o : Result X Y) → (P → Q) → OnErr o P → OnErr o Q
 on_err_so (Ok x) so h = tt
 on_err_so (Err y) so h = so h

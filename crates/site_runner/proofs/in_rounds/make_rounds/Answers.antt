@@ -1,6 +1,7 @@
 -- Each round goes on from the one before, until one makes nothing and leaves nothing under way, or few events are left.
 use Rattle.std.proofs.Common.{◌≡◌, ◌∙◌, ◌-◌, ◌<◌, ◌≤◌, ap, sym, subst, length, ℕ, [], arith}
-use Rattle.site_runner.proofs.Rounding.{begins, Rounds, few_ends, idle_ends, round_goes, round_falls, some_sites, was_left, on_err, on_ok_so, on_err_so}
+use Rattle.shared_net.proofs.Results.{on_ok}
+use Rattle.site_runner.proofs.Rounding.{begins, Rounds, few_ends, idle_ends, round_goes, round_falls, some_sites, was_left, on_err, on_err_so}
 use Rattle.site_runner.proofs.in_rounds.make_rounds.Goals as goal
 
 pub rounds-init : goal.rounds-init
@@ -10,7 +11,7 @@ pub returns-then-budget-before-clause-rounds : goal.returns-then-budget-before-c
 returns-then-budget-before-clause-rounds g c =
     let before : c.len-before.result ≡ length c.rounds.book.journal = c.len-before.ensures.count ∙ ap length c.journal.ensures in
     let few : c.args.budget - length c.rounds.book.journal < length c.rounds.net.net.sites = subst (λ (k : ℕ). c.args.budget - length c.rounds.book.journal < k) c.sites.ensures (subst (λ (k : ℕ). c.args.budget - k < c.sites.result) before c.if-budget-before.true) in
-    on_ok_so c.go_on-went.result (λ went. (c.go_on-went.new.net, few_ends c.args.budget c.args.net c.rounds.net c.go_on-went.new.net c.args.book.now c.rounds.book c.go_on-went.new.book c.rounds.invariant.way few went)) c.go_on-went.ensures.goes
+    on_ok _ _ c.go_on-went.result (λ went. (c.go_on-went.new.net, few_ends c.args.budget c.args.net c.rounds.net c.go_on-went.new.net c.args.book.now c.rounds.book c.go_on-went.new.book c.rounds.invariant.way few went)) c.go_on-went.ensures.goes
 
 pub returns-then-budget-before-clause-left : goal.returns-then-budget-before-clause-left
 returns-then-budget-before-clause-left g c =
