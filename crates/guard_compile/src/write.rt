@@ -264,8 +264,6 @@ fn write_block(
         defs,
         &mut defined,
     )?;
-    drop(named);
-    drop(opened.channels);
     write(alloc, tops, layout, body, &mut defined.piece, instrs)?;
     instrs.push(Instr::Leave { count: names })?;
     layout.truncate(outside);
