@@ -8,14 +8,14 @@ use Rattle.chem_model.specs.Fill.{Naming}
 use Rattle.chem_laws.proofs.Lists.{append_nil}
 use Rattle.env_store.specs.declared.code.Instr.{Instr}
 use Rattle.env_store.specs.declared.code.Instr.TheVariants as instr
-use Rattle.env_store.specs.declared.code.Block.{Block}
+use Rattle.env_store.specs.declared.code.Level.{Level}
 use Rattle.env_store.specs.Layout.{rules_in, new_channels, new_counts, place_order, places_order, order}
 use Rattle.guard_compile.specs.declared.write.At.{At}
 use Rattle.guard_compile.specs.declared.write.Piece.{Piece}
 use Rattle.guard_compile.specs.declared.write.Defined.{Defined}
 use Rattle.guard_compile.specs.inside.Written.{Wrote, behind, inside, above, no_definitions, write}
 use Rattle.guard_compile.specs.inside.Written.{write_defs, write_def}
-use Rattle.guard_compile.specs.inside.Appends.{Appends, AppendsDefined}
+use Rattle.guard_compile.specs.inside.Appends.{Appends, AppendsDefined, whole_block, whole_place, place_defs, place_process, in_place, place_level}
 
 pub take_front : (xs ys : List ℕ) → take (length xs) (xs ++ ys) ≡ xs
 take_front [] ys = refl
@@ -69,24 +69,17 @@ module _ (tops : Naming) (at : At) (y : List ℕ) (ds : Definitions) (p : Proces
       (λ i. (next_is i, (f.channels_are i, (inner_is i, named_is i))))
       (subst (λ (q : Defined). AppendsDefined q d (write_defs tops q.piece.next at.block 0 at.level channels inner named ds)) g a)
 
-  pub block_written : (o : Result (Unit {0}) Memory) (old new within : Piece) (levels : List ℕ) (blocks : List Block) → at ≡ old.next
+  pub block_written : (o : Result (Unit {0}) Memory) (old new within : Piece)
       → Appends d.piece within (write tops d.piece.next later p).piece
-      → levels ≡ at.level ∷ d.places
-      → blocks ≡ old.blocks ++ record { levels = levels; names = many } ∷ []
-      → OnOk o (new.next ≡ within.next)
-      → OnOk o (new.levels ≡ old.levels ++ record { block = at.block; place = None; counts = counts; depth = depth; first = at.guard; guards = count; body = None } ∷ within.levels)
-      → OnOk o (new.guards ≡ old.guards ++ (d.guards ++ within.guards))
-      → OnOk o (new.blocks ≡ blocks ++ within.blocks)
-      → OnOk o (new.bodies ≡ old.bodies ++ within.bodies)
+      → OnOk o (Appends old new (whole_block at depth count many counts (record { guards = d.guards; places = d.places; piece = within })))
       → OnOk o (Appends old new (write tops at y (Def ds p)).piece)
-  block_written (Err m) old new within levels blocks same b l k h1 h2 h3 h4 h5 = tt
-  block_written (Ok u) old new within levels blocks same b l k h1 h2 h3 h4 h5 = (
-    h1 ∙ w.0,
-    h2 ∙ (λ i. old.levels ++ record { block = at.block; place = None; counts = f.counts_are i; depth = depth_is i; first = at.guard; guards = f.count_is i; body = None } ∷ (w.1 ∙ ap (λ x. x ++ W.piece.levels) e.2.1) i),
-    h3 ∙ (λ i. old.guards ++ (e.0 i ++ (w.2 ∙ ap (λ x. x ++ W.piece.guards) e.2.2) i)),
-    h4 ∙ ap (λ x. x ++ within.blocks) k ∙ append_assoc old.blocks (record { levels = levels; names = many } ∷ []) within.blocks
-        ∙ (λ i. old.blocks ++ record { levels = (l ∙ ap (λ ns. at.level ∷ ns) e.1) i; names = many_is i } ∷ (w.3 ∙ ap (λ x. x ++ W.piece.blocks) e.2.3) i),
-    h5 ∙ (λ i. old.bodies ++ (w.4 ∙ ap (λ x. x ++ W.piece.bodies) e.2.4) i),
+  block_written (Err m) old new within b h = tt
+  block_written (Ok u) old new within b h = (
+    h.0 ∙ w.0,
+    h.1 ∙ (λ i. old.levels ++ record { block = at.block; place = None; counts = f.counts_are i; depth = depth_is i; first = at.guard; guards = f.count_is i; body = None } ∷ (w.1 ∙ ap (λ x. x ++ W.piece.levels) e.2.1) i),
+    h.2 ∙ (λ i. old.guards ++ (e.0 i ++ (w.2 ∙ ap (λ x. x ++ W.piece.guards) e.2.2) i)),
+    h.3 ∙ (λ i. old.blocks ++ record { levels = at.level ∷ e.1 i; names = many_is i } ∷ (w.3 ∙ ap (λ x. x ++ W.piece.blocks) e.2.3) i),
+    h.4 ∙ (λ i. old.bodies ++ (w.4 ∙ ap (λ x. x ++ W.piece.bodies) e.2.4) i),
   )
     where
       w : Appends d.piece within W.piece
@@ -109,19 +102,6 @@ pub cut_back : (o : Result (Unit {0}) Memory) (old more long cut : List ℕ) (co
 cut_back (Err m) old more long cut count e f g = tt
 cut_back (Ok u) old more long cut count e f g = g ∙ (λ i. take (e i) (f i)) ∙ take_front old more
 
-pub named_back : (o : Result (Unit {0}) Memory) (whole so_far more long cut : List ℕ) (count : ℕ) → so_far ≡ whole → count ≡ length so_far → long ≡ so_far ++ more → cut ≡ take count long → OnOk o (cut ≡ whole)
-named_back (Err m) whole so_far more long cut count s e f g = tt
-named_back (Ok u) whole so_far more long cut count s e f g = g ∙ (λ i. take (e i) (f i)) ∙ take_front so_far more ∙ s
-
-pub record PlaceAs (at : At) (z acc : List ℕ) (x : Ref) (es : Definitions) (count : ℕ) (next : At) (own counts named later : List ℕ) (depth : ℕ) : Type 0 where
-  pub count_is : count ≡ rules_in es
-  pub next_is : next ≡ behind at count
-  pub own_is : own ≡ new_channels (acc ++ binder_of x) es
-  pub counts_are : counts ≡ new_counts (acc ++ binder_of x) es
-  pub named_is : named ≡ acc ++ place_order acc x es
-  pub later_is : later ≡ z
-  pub depth_is : depth ≡ length z
-
 -- a body that is done is put behind a piece
 pub record BodyPut (old new : Piece) (number : ℕ) (is : List Instr) : Type 0 where
   pub number_is : number ≡ old.next.body
@@ -131,30 +111,66 @@ pub record BodyPut (old new : Piece) (number : ℕ) (is : List Instr) : Type 0 w
   pub guards_are : new.guards ≡ old.guards
   pub blocks_are : new.blocks ≡ old.blocks
 
-pub place_written : (o : Result (Unit {0}) Memory) (tops : Naming) (block place : ℕ) (z acc : List ℕ) (x : Ref) (es : Definitions) (p : Process) (old : Defined) (new mid last : Piece) (count : ℕ) (next : At)
-    (own counts named later : List ℕ) (depth : ℕ) (start d : Defined) (places : List ℕ) (is : List Instr) (number : ℕ) → start ≡ no_definitions next → PlaceAs old.piece.next z acc x es count next own counts named later depth
-    → AppendsDefined start d (write_defs tops start.piece.next block 0 old.piece.next.level own z named es)
-    → Appends d.piece mid (write tops d.piece.next later p).piece
-    → is ≡ (write tops d.piece.next later p).instrs
-    → BodyPut mid last number is
-    → places ≡ old.places ++ old.piece.next.level ∷ []
-    → OnOk o (new.next ≡ last.next)
-    → OnOk o (new.levels ≡ old.piece.levels ++ record { block = block; place = Some place; counts = counts; depth = depth; first = old.piece.next.guard; guards = count; body = Some number } ∷ last.levels)
-    → OnOk o (new.guards ≡ old.piece.guards ++ (d.guards ++ last.guards))
-    → OnOk o (new.blocks ≡ old.piece.blocks ++ last.blocks)
-    → OnOk o (new.bodies ≡ old.piece.bodies ++ last.bodies)
-    → OnOk o (AppendsDefined old (record { guards = old.guards; places = places; piece = new }) (write_def tops old.piece.next block place 0 [] z acc (Place x es p)))
-place_written (Err m) tops block place z acc x es p old new mid last count next own counts named later depth start d places is number g f a b c u v h1 h2 h3 h4 h5 = tt
-place_written (Ok n) tops block place z acc x es p old new mid last count next own counts named later depth start d places is number g f a b c u v h1 h2 h3 h4 h5 = (
-  sym (append_nil old.guards),
-  v,
+module _ (tops : Naming) (block number : ℕ) (z acc : List ℕ) (x : Ref) (es : Definitions) (p : Process) (old d : Defined) (mid last : Piece) (own named later : List ℕ) (is : List Instr) (done : ℕ)
+    (own_is : own ≡ new_channels (acc ++ binder_of x) es) (named_is : named ≡ acc ++ place_order acc x es) (later_is : later ≡ z)
+    (a : AppendsDefined old d (write_defs tops old.piece.next block 0 number own z named es))
+    (b : Appends d.piece mid (write tops d.piece.next later p).piece)
+    (c : is ≡ (write tops d.piece.next later p).instrs)
+    (u : BodyPut mid last done is) where
+  abbrev in_defs : Defined
+  in_defs = place_defs tops old.piece.next block number z acc x es
+
+  abbrev in_process : Wrote
+  in_process = place_process tops old.piece.next block number z acc x es p
+
+  in_defs_are : AppendsDefined old d in_defs
+  in_defs_are = subst (λ (q : List ℕ × List ℕ). AppendsDefined old d (write_defs tops old.piece.next block 0 number q.0 z q.1 es)) (λ i. (own_is i, named_is i)) a
+
+  in_process_is : Appends d.piece mid in_process.piece
+  in_process_is = subst (λ (q : At × List ℕ). Appends d.piece mid (write tops q.0 q.1 p).piece) (λ i. (in_defs_are.2.0 i, later_is i)) b
+
+  instrs_are : is ≡ in_process.instrs
+  instrs_are = c ∙ (λ i. (write tops (in_defs_are.2.0 i) (later_is i) p).instrs)
+
+  -- the number of its body
+  pub place_number : done ≡ in_process.piece.next.body
+  place_number = u.number_is ∙ ap (λ (q : At). q.body) in_process_is.0
+
+  pub place_within : AppendsDefined old (record { guards = d.guards; places = d.places; piece = last }) (in_place tops old.piece.next block number z acc x es p)
+  place_within =
+      let e = in_defs_are in
+      let w = in_process_is in
+      let D = in_defs.piece in
+      let W = in_process.piece in (
+        e.0,
+        e.1,
+        (
+          u.next_is ∙ ap above w.0,
+          u.levels_are ∙ w.1 ∙ (λ i. e.2.1 i ++ sym (append_nil W.levels) i) ∙ append_assoc old.piece.levels D.levels (W.levels ++ []),
+          u.guards_are ∙ w.2 ∙ (λ i. e.2.2 i ++ sym (append_nil W.guards) i) ∙ append_assoc old.piece.guards D.guards (W.guards ++ []),
+          u.blocks_are ∙ w.3 ∙ (λ i. e.2.3 i ++ sym (append_nil W.blocks) i) ∙ append_assoc old.piece.blocks D.blocks (W.blocks ++ []),
+          u.bodies_are ∙ (λ j. w.4 j ++ instrs_are j ∷ []) ∙ append_assoc d.piece.bodies W.bodies (in_process.instrs ∷ []) ∙ ap (λ y. y ++ (W.bodies ++ in_process.instrs ∷ [])) e.2.4
+              ∙ append_assoc old.piece.bodies D.bodies (W.bodies ++ in_process.instrs ∷ []),
+        ),
+      )
+
+-- a place with its level, where the level begins with these
+pub place_written : (o : Result (Unit {0}) Memory) (tops : Naming) (block place : ℕ) (z acc : List ℕ) (x : Ref) (es : Definitions) (p : Process) (old new : Defined) (count depth : ℕ) (counts : List ℕ) (next : At) (own : Level) (start d : Defined)
+    → start ≡ no_definitions next → count ≡ rules_in es → next ≡ behind old.piece.next count → depth ≡ length z → counts ≡ []
+    → AppendsDefined start d (in_place tops start.piece.next block old.piece.next.level z acc x es p)
+    → own ≡ place_level tops start.piece.next block old.piece.next.level z acc x es p (record { block = block; place = Some place; counts = counts; depth = depth; first = old.piece.next.guard; guards = count; body = None })
+    → OnOk o (AppendsDefined old new (whole_place old.piece.next.level own d))
+    → OnOk o (AppendsDefined old new (write_def tops old.piece.next block place 0 [] z acc (Place x es p)))
+place_written (Err m) tops block place z acc x es p old new count depth counts next own start d g many from deep none a own_is h = tt
+place_written (Ok n) tops block place z acc x es p old new count depth counts next own start d g many from deep none a own_is h = (
+  h.0,
+  h.1,
   (
-    h1 ∙ u.next_is ∙ ap above w.0,
-    h2 ∙ (λ i. old.piece.levels ++ record { block = block; place = Some place; counts = f.counts_are i; depth = f.depth_is i; first = at.guard; guards = f.count_is i; body = Some ((u.number_is ∙ ap (λ (q : At). q.body) w.0) i) }
-        ∷ (u.levels_are ∙ w.1 ∙ (λ j. e.2.1 j ++ sym (append_nil W.piece.levels) j)) i),
-    h3 ∙ (λ i. old.piece.guards ++ (e.0 i ++ (u.guards_are ∙ w.2 ∙ (λ j. e.2.2 j ++ sym (append_nil W.piece.guards) j)) i)),
-    h4 ∙ (λ i. old.piece.blocks ++ (u.blocks_are ∙ w.3 ∙ (λ j. e.2.3 j ++ sym (append_nil W.piece.blocks) j)) i),
-    h5 ∙ (λ i. old.piece.bodies ++ (u.bodies_are ∙ (λ j. w.4 j ++ is_is j ∷ []) ∙ append_assoc d.piece.bodies W.piece.bodies (W.instrs ∷ []) ∙ ap (λ y. y ++ (W.piece.bodies ++ W.instrs ∷ [])) e.2.4) i),
+    h.2.0 ∙ e.2.0,
+    h.2.1 ∙ (λ i. old.piece.levels ++ level_is i ∷ e.2.1 i),
+    h.2.2 ∙ (λ i. old.piece.guards ++ (e.0 i ++ e.2.2 i)),
+    h.2.3 ∙ ap (λ y. old.piece.blocks ++ y) e.2.3,
+    h.2.4 ∙ ap (λ y. old.piece.bodies ++ y) e.2.4,
   ),
 )
   where
@@ -164,19 +180,12 @@ place_written (Ok n) tops block place z acc x es p old new mid last count next o
     at1 : At
     at1 = behind at (rules_in es)
 
-    D : Defined
-    D = write_defs tops at1 block 0 at.level (new_channels (acc ++ binder_of x) es) z (acc ++ place_order acc x es) es
+    start_is : start ≡ no_definitions at1
+    start_is = g ∙ ap (λ (q : At). no_definitions q) (from ∙ ap (behind at) many)
 
-    e : AppendsDefined (no_definitions at1) d D
-    e = subst (λ (q : At × (List ℕ × List ℕ)). AppendsDefined (no_definitions q.0) d (write_defs tops q.0 block 0 at.level q.1.0 z q.1.1 es))
-        (λ i. ((f.next_is ∙ ap (behind at) f.count_is) i, (f.own_is i, f.named_is i)))
-        (subst (λ (q : Defined). AppendsDefined q d (write_defs tops q.piece.next block 0 at.level own z named es)) g a)
+    e : AppendsDefined (no_definitions at1) d (in_place tops at1 block at.level z acc x es p)
+    e = subst (λ (q : Defined). AppendsDefined q d (in_place tops q.piece.next block at.level z acc x es p)) start_is a
 
-    W : Wrote
-    W = write tops D.piece.next z p
-
-    w : Appends d.piece mid W.piece
-    w = subst (λ (q : At × List ℕ). Appends d.piece mid (write tops q.0 q.1 p).piece) (λ i. (e.2.0 i, f.later_is i)) b
-
-    is_is : is ≡ W.instrs
-    is_is = c ∙ (λ i. (write tops (e.2.0 i) (f.later_is i) p).instrs)
+    level_is : own ≡ place_level tops at1 block at.level z acc x es p (record { block = block; place = Some place; counts = []; depth = length z; first = at.guard; guards = rules_in es; body = None })
+    level_is = own_is
+        ∙ (λ i. place_level tops ((start_is i).piece.next) block at.level z acc x es p (record { block = block; place = Some place; counts = none i; depth = deep i; first = at.guard; guards = many i; body = None }))

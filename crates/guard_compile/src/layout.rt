@@ -3,7 +3,8 @@ ghost use Rattle.std.specs.Prelude.{◌≡◌, [], ◌++◌, IfOk, OnOk};
 ghost use Rattle.chem_model.specs.Process.{definitions};
 ghost use Rattle.chem_model.specs.Binders.{binder_of, params_of};
 ghost use Rattle.env_store.specs.Layout.{new_ref, count_ref, new_in, counts_in, new_channels};
-ghost use Rattle.env_store.specs.Layout.{new_counts, place_order, places_order, order};
+ghost use Rattle.env_store.specs.Layout.{new_counts, place_order, places_order};
+ghost use Rattle.guard_compile.specs.inside.Appends.{AreBlockNames};
 ghost use Rattle.guard_compile.specs.inside.Written.{slot_or, slots_or, channel_of, channels_of};
 
 use crate::binders::Binders;
@@ -174,10 +175,7 @@ pub(crate) struct Opened {
 }
 
 pub(crate) fn open(alloc: Global, defs: &Defs) -> Result<Opened, Memory>
-    ensures channels { IfOk result (λ opened. opened.channels ≡ new_channels []
-        (definitions defs.now)) }
-    ensures counts { IfOk result (λ opened. opened.counts ≡ new_counts [] (definitions defs.now)) }
-    ensures order { IfOk result (λ opened. opened.order ≡ order (definitions defs.now)) }
+    ensures { IfOk result (λ opened. AreBlockNames (definitions defs.now) opened) }
 {
     let mut order = Binders::new(alloc);
     let mut channels = Binders::new(alloc);

@@ -1,17 +1,19 @@
 // The members that a process adds to the code's lists.
 ghost use Rattle.std.specs.Prelude.{◌≡◌, [], ◌∷◌, ◌++◌, ◌+◌, IfOk, OnOk, Some, length};
 ghost use Rattle.chem_model.specs.Process.{definitions, processes, Def, Rule, Place};
-ghost use Rattle.env_store.specs.Layout.{place_in, places_order};
+ghost use Rattle.env_store.specs.Layout.{place_in, places_order, rules_in};
 ghost use Rattle.guard_compile.specs.inside.Written.{behind, inside, above, no_definitions};
 ghost use Rattle.guard_compile.specs.inside.Written.{write as written, write_all as written_all};
 ghost use Rattle.guard_compile.specs.inside.Written.{write_def as written_def};
 ghost use Rattle.guard_compile.specs.inside.Written.{write_defs as written_defs};
 ghost use Rattle.guard_compile.specs.inside.Written.{with_body, site_piece, site_code};
-ghost use Rattle.guard_compile.specs.inside.Appends.{Appends, AppendsDefined};
+ghost use Rattle.guard_compile.specs.inside.Appends.{Appends, AppendsDefined, AreBlockNames};
+ghost use Rattle.guard_compile.specs.inside.Appends.{whole_block, whole_place, in_place};
+ghost use Rattle.guard_compile.specs.inside.Appends.{place_level};
 
 use crate::binders::Binders;
 use crate::count::{births, rules, sends, sum};
-use crate::layout::{channels, name_place, open, push_params, slot, slots};
+use crate::layout::{Opened, channels, name_place, open, push_params, slot, slots};
 use crate::mask::mask;
 use crate::names::NameTable;
 use chem_model::{Defn, DefnNode, Defs, Items, Memory, Nums, Pats, Proc, ProcNode, Procs, Ref};
@@ -19,6 +21,7 @@ use env_store::{
     Block, Blocks, Bodies, Guard, Guards, Instr, Instrs, Level, Levels, Mask, SiteCode,
 };
 use std::alloc::Global;
+use std::mem;
 
 /// The next number of each list.
 #[derive(Clone, Copy, PartialEq, Eq, Debug)]
@@ -110,35 +113,77 @@ impl Defined {
 }
 
 /// The levels of a block: its own, and then those of its places.
-fn levels_of(alloc: Global, own: u32, places: Nums) -> Result<Nums, Memory>
-    ensures { IfOk result (λ levels. levels ≡ own ∷ places) }
+fn levels_of(alloc: Global, own: u32, places: &mut Nums) -> Result<Nums, Memory>
+    ensures { IfOk result (λ levels. levels ≡ own ∷ places.old) }
 {
-    let mut places = places;
     let mut levels = Items::new(alloc);
     levels.push(own)?;
-    levels.append(&mut places)?;
+    levels.append(places)?;
     Ok(levels)
 }
 
 /// Appends a level with its guards, and then what is within it.
-fn put_level(piece: &mut Piece, level: Level, guards: Guards, within: Piece) -> Result<(), Memory>
-    ensures next { OnOk result (piece.new.next ≡ within.next) }
-    ensures levels { OnOk result (piece.new.levels ≡ piece.old.levels ++ level ∷ within.levels) }
-    ensures guards { OnOk result (piece.new.guards ≡ piece.old.guards ++ (guards
-        ++ within.guards)) }
-    ensures blocks { OnOk result (piece.new.blocks ≡ piece.old.blocks ++ within.blocks) }
-    ensures bodies { OnOk result (piece.new.bodies ≡ piece.old.bodies ++ within.bodies) }
+fn put_level(piece: &mut Piece, level: Level, defined: &mut Defined) -> Result<(), Memory>
+    ensures next { OnOk result (piece.new.next ≡ defined.old.piece.next) }
+    ensures levels { OnOk result (piece.new.levels ≡ piece.old.levels
+        ++ level ∷ defined.old.piece.levels) }
+    ensures guards { OnOk result (piece.new.guards ≡ piece.old.guards
+        ++ (defined.old.guards ++ defined.old.piece.guards)) }
+    ensures blocks { OnOk result (piece.new.blocks ≡ piece.old.blocks
+        ++ defined.old.piece.blocks) }
+    ensures bodies { OnOk result (piece.new.bodies ≡ piece.old.bodies
+        ++ defined.old.piece.bodies) }
 {
-    let mut guards = guards;
-    let mut within = within;
     piece.levels.push(level)?;
-    piece.levels.append(&mut within.levels)?;
-    piece.guards.append(&mut guards)?;
-    piece.guards.append(&mut within.guards)?;
-    piece.blocks.append(&mut within.blocks)?;
-    piece.bodies.append(&mut within.bodies)?;
-    piece.next = within.next;
+    piece.levels.append(&mut defined.piece.levels)?;
+    piece.guards.append(&mut defined.guards)?;
+    piece.guards.append(&mut defined.piece.guards)?;
+    piece.blocks.append(&mut defined.piece.blocks)?;
+    piece.bodies.append(&mut defined.piece.bodies)?;
+    piece.next = defined.piece.next;
     Ok(())
+}
+
+/// Appends a block with its own level, and then what is within it.
+fn put_block(
+    alloc: Global,
+    at: At,
+    depth: u32,
+    count: u32,
+    names: u32,
+    opened: &mut Opened,
+    defined: &mut Defined,
+    piece: &mut Piece,
+) -> Result<(), Memory>
+    ensures { OnOk result (Appends piece.old piece.new
+        (whole_block at depth count names opened.old.counts defined.old)) }
+{
+    let levels = levels_of(alloc, at.level, &mut defined.places)?;
+    let own = Level {
+        block: at.block,
+        place: None,
+        counts: mem::replace(&mut opened.counts, Items::new(alloc)),
+        depth,
+        first: at.guard,
+        guards: count,
+        body: None,
+    };
+    piece.blocks.push(Block { levels, names })?;
+    put_level(piece, own, defined)
+}
+
+/// Appends a place with its level, and then what is within it.
+fn put_place(
+    number: u32,
+    level: Level,
+    inner: &mut Defined,
+    defined: &mut Defined,
+) -> Result<(), Memory>
+    ensures { OnOk result (AppendsDefined defined.old defined.new
+        (whole_place number level inner.old)) }
+{
+    defined.places.push(number)?;
+    put_level(&mut defined.piece, level, inner)
 }
 
 /// Appends a body that is done, and answers its number.
@@ -239,46 +284,75 @@ fn write_block(
         (definitions defs.now) body.now)).instrs) }
     ensures layout { OnOk result (layout.new ≡ layout.old) }
 {
+    let count = rules(defs)?;
+    let next = piece.next.inside()?.behind(count)?;
+    let mut opened = open(alloc, defs)?;
+    let mut defined = Defined::start(alloc, next);
+    let written = write_opened(
+        alloc,
+        tops,
+        count,
+        &mut opened,
+        &mut defined,
+        layout,
+        defs,
+        body,
+        piece,
+        instrs,
+    );
+    drop(opened);
+    drop(defined);
+    written
+}
+
+/// Writes a block whose names are drawn, and of which nothing is written yet.
+#[cycle(write)]
+fn write_opened(
+    alloc: Global,
+    tops: &NameTable,
+    count: u32,
+    opened: &mut Opened,
+    defined: &mut Defined,
+    layout: &mut Binders,
+    defs: &Defs,
+    body: &Proc,
+    piece: &mut Piece,
+    instrs: &mut Instrs,
+) -> Result<(), Memory>
+    requires count { count ≡ rules_in (definitions defs.now) }
+    requires opened { AreBlockNames (definitions defs.now) opened.old }
+    requires defined { defined.old ≡ no_definitions (behind (inside piece.old.next) count) }
+    ensures piece { OnOk result (Appends piece.old piece.new
+        (written tops.now piece.old.next layout.old (Def
+        (definitions defs.now) body.now)).piece) }
+    ensures instrs { OnOk result (instrs.new ≡ instrs.old ++
+        (written tops.now piece.old.next layout.old (Def
+        (definitions defs.now) body.now)).instrs) }
+    ensures layout { OnOk result (layout.new ≡ layout.old) }
+{
     let at = piece.next;
     let outside = layout.len();
-    let count = rules(defs)?;
-    let next = at.inside()?.behind(count)?;
-    let opened = open(alloc, defs)?;
     layout.extend(opened.order.as_slice())?;
     instrs.push(Instr::Enter { block: at.block })?;
     let depth = layout.len();
     let names = opened.order.len();
-    let mut defined = Defined::start(alloc, next);
-    let mut named = opened.order;
-    named.truncate(opened.channels.len());
-    let mut places = 0;
+    opened.order.truncate(opened.channels.len());
     write_defs(
         alloc,
         tops,
         at.block,
-        &mut places,
+        &mut 0,
         at.level,
         &opened.channels,
         layout,
-        &mut named,
+        &mut opened.order,
         defs,
-        &mut defined,
+        defined,
     )?;
     write(alloc, tops, layout, body, &mut defined.piece, instrs)?;
     instrs.push(Instr::Leave { count: names })?;
     layout.truncate(outside);
-    let levels = levels_of(alloc, at.level, defined.places)?;
-    let own = Level {
-        block: at.block,
-        place: None,
-        counts: opened.counts,
-        depth,
-        first: at.guard,
-        guards: count,
-        body: None,
-    };
-    piece.blocks.push(Block { levels, names })?;
-    put_level(piece, own, defined.guards, defined.piece)
+    put_block(alloc, at, depth, count, names, opened, defined, piece)
 }
 
 /// Writes definitions of one level, in a block of which so many places have been written.
@@ -408,74 +482,110 @@ fn write_place(
     let at = defined.piece.next;
     let count = rules(defs)?;
     let next = at.behind(count)?;
-    let depth = layout.len();
-    let mut own = Binders::new(alloc);
-    let mut counts = Items::new(alloc);
-    name_place(named, &mut own, &mut counts, name, defs)?;
-    let so_far = named.len();
+    let mut level = Level {
+        block,
+        place: Some(place),
+        counts: Items::new(alloc),
+        depth: layout.len(),
+        first: at.guard,
+        guards: count,
+        body: None,
+    };
     let mut inner = Defined::start(alloc, next);
-    let mut places = 0;
+    let written = write_within(
+        alloc, tops, at.level, layout, named, name, defs, body, &mut level, &mut inner,
+    );
+    match written {
+        Ok(()) => {
+            let put = put_place(at.level, level, &mut inner, defined);
+            drop(inner);
+            put
+        }
+        Err(memory) => {
+            drop(level);
+            drop(inner);
+            Err(memory)
+        }
+    }
+}
+
+/// Writes what is within a place, whose level has this number, and says of it in the level how many
+/// arguments its channels take, and which body it has.
+#[cycle(write)]
+fn write_within(
+    alloc: Global,
+    tops: &NameTable,
+    number: u32,
+    layout: &mut Binders,
+    named: &mut Binders,
+    name: Ref,
+    defs: &Defs,
+    body: &Proc,
+    level: &mut Level,
+    inner: &mut Defined,
+) -> Result<(), Memory>
+    ensures inner { OnOk result (AppendsDefined inner.old inner.new
+        (in_place tops.now inner.old.piece.next level.old.block number layout.old named.old name
+        (definitions defs.now) body.now)) }
+    ensures level { OnOk result (level.new ≡ place_level tops.now inner.old.piece.next
+        level.old.block number layout.old named.old name (definitions defs.now) body.now
+        level.old) }
+    ensures named { OnOk result (named.new ≡ named.old ++ place_in named.old (Place name
+        (definitions defs.now) body.now)) }
+    ensures layout { OnOk result (layout.new ≡ layout.old) }
+{
+    let mut own = Binders::new(alloc);
+    name_place(named, &mut own, &mut level.counts, name, defs)?;
+    let so_far = named.len();
     write_defs(
         alloc,
         tops,
-        block,
-        &mut places,
-        at.level,
+        level.block,
+        &mut 0,
+        number,
         &own,
         layout,
         named,
         defs,
-        &mut inner,
+        inner,
     )?;
     drop(own);
     named.truncate(so_far);
     let mut instrs = Items::new(alloc);
     write(alloc, tops, layout, body, &mut inner.piece, &mut instrs)?;
-    let number = put_body(&mut inner.piece, instrs)?;
-    defined.places.push(at.level)?;
-    let own = Level {
-        block,
-        place: Some(place),
-        counts,
-        depth,
-        first: at.guard,
-        guards: count,
-        body: Some(number),
-    };
-    put_level(&mut defined.piece, own, inner.guards, inner.piece)
+    let done = put_body(&mut inner.piece, instrs)?;
+    level.body = Some(done);
+    Ok(())
 }
 
-/// Writes the definitions of a site behind these numbers.
+/// Writes the definitions of a site.
 fn site_definitions(
     alloc: Global,
     tops: &NameTable,
     at: At,
-    next: At,
     channels: &Binders,
     defs: &Defs,
-) -> Result<Defined, Memory>
-    ensures { IfOk result (λ defined. AppendsDefined (no_definitions next) defined
-        (written_defs tops.now next at.block 0 at.level channels.now [] channels.now
-        (definitions defs.now))) }
+    defined: &mut Defined,
+) -> Result<(), Memory>
+    ensures { OnOk result (AppendsDefined defined.old defined.new
+        (written_defs tops.now defined.old.piece.next at.block 0 at.level channels.now []
+        channels.now (definitions defs.now))) }
 {
-    let mut defined = Defined::start(alloc, next);
     let mut layout = Binders::new(alloc);
     let mut named = Binders::new(alloc);
     named.extend(channels.as_slice())?;
-    let mut places = 0;
     write_defs(
         alloc,
         tops,
         at.block,
-        &mut places,
+        &mut 0,
         at.level,
         channels,
         &mut layout,
         &mut named,
         defs,
-        &mut defined,
-    )?;
-    Ok(defined)
+        defined,
+    )
 }
 
 /// Writes the process of a site, and answers the number of its body.
@@ -510,27 +620,49 @@ pub(crate) fn write_site(
     ensures code { IfOk result (λ code. code ≡
         site_code tops.now piece.old.next (definitions defs.now) process.now) }
 {
-    let at = piece.next;
     let count = rules(defs)?;
-    let next = at.inside()?.behind(count)?;
-    let opened = open(alloc, defs)?;
-    let names = opened.order.len();
-    drop(opened.order);
-    let mut defined = site_definitions(alloc, tops, at, next, &opened.channels, defs)?;
-    drop(opened.channels);
+    let next = piece.next.inside()?.behind(count)?;
+    let mut opened = open(alloc, defs)?;
+    let mut defined = Defined::start(alloc, next);
+    let code = write_opened_site(
+        alloc,
+        tops,
+        count,
+        &mut opened,
+        &mut defined,
+        defs,
+        process,
+        piece,
+    );
+    drop(opened);
+    drop(defined);
+    code
+}
+
+/// Writes a site whose names are drawn, and of which nothing is written yet.
+fn write_opened_site(
+    alloc: Global,
+    tops: &NameTable,
+    count: u32,
+    opened: &mut Opened,
+    defined: &mut Defined,
+    defs: &Defs,
+    process: &Proc,
+    piece: &mut Piece,
+) -> Result<SiteCode, Memory>
+    requires count { count ≡ rules_in (definitions defs.now) }
+    requires opened { AreBlockNames (definitions defs.now) opened.old }
+    requires defined { defined.old ≡ no_definitions (behind (inside piece.old.next) count) }
+    ensures piece { OnOk result (Appends piece.old piece.new
+        (site_piece tops.now piece.old.next (definitions defs.now) process.now)) }
+    ensures code { IfOk result (λ code. code ≡
+        site_code tops.now piece.old.next (definitions defs.now) process.now) }
+{
+    let at = piece.next;
+    site_definitions(alloc, tops, at, &opened.channels, defs, defined)?;
     let body = site_process(alloc, tops, process, &mut defined.piece)?;
-    let levels = levels_of(alloc, at.level, defined.places)?;
-    let own = Level {
-        block: at.block,
-        place: None,
-        counts: opened.counts,
-        depth: 0,
-        first: at.guard,
-        guards: count,
-        body: None,
-    };
-    piece.blocks.push(Block { levels, names })?;
-    put_level(piece, own, defined.guards, defined.piece)?;
+    let names = opened.order.len();
+    put_block(alloc, at, 0, count, names, opened, defined, piece)?;
     Ok(SiteCode {
         block: at.block,
         body,

@@ -31,24 +31,30 @@ invariant-write_defs-loop-definition l =
     × (l.named ++ places_order l.named (definitions (drop l.definition-index l.definition-items)) ≡ l.initial.named ++ places_order l.initial.named (definitions l.definition-items))
     × (l.layout ≡ l.initial.layout)
 
--- a step to a part counts twice, so that one function may hand a term on to another
+-- a step to a part counts three times, so that one function may hand a term on to another, and that to a third
 abbrev pub decreases-write : goal.decreases-write
-decreases-write l = 2 * process_depth l.process.now
+decreases-write l = 3 * process_depth l.process.now
 
 abbrev pub decreases-write_all : goal.decreases-write_all
-decreases-write_all l = 2 * procs_depth l.members.now
+decreases-write_all l = 3 * procs_depth l.members.now
 
 abbrev pub decreases-write_defs : goal.decreases-write_defs
-decreases-write_defs l = 2 * defs_depth l.defs.now
+decreases-write_defs l = 3 * defs_depth l.defs.now
 
 abbrev pub decreases-write_def : goal.decreases-write_def
-decreases-write_def l = 2 * definition_depth l.definition.now
+decreases-write_def l = 3 * definition_depth l.definition.now
 
 abbrev pub decreases-write_block : goal.decreases-write_block
-decreases-write_block l = 2 * max (defs_depth l.defs.now) (process_depth l.body.now) + 1
+decreases-write_block l = 3 * max (defs_depth l.defs.now) (process_depth l.body.now) + 2
+
+abbrev pub decreases-write_opened : goal.decreases-write_opened
+decreases-write_opened l = 3 * max (defs_depth l.defs.now) (process_depth l.body.now) + 1
 
 abbrev pub decreases-write_rule : goal.decreases-write_rule
-decreases-write_rule l = 2 * process_depth l.body.now + 1
+decreases-write_rule l = 3 * process_depth l.body.now + 1
 
 abbrev pub decreases-write_place : goal.decreases-write_place
-decreases-write_place l = 2 * max (defs_depth l.defs.now) (process_depth l.body.now) + 1
+decreases-write_place l = 3 * max (defs_depth l.defs.now) (process_depth l.body.now) + 2
+
+abbrev pub decreases-write_within : goal.decreases-write_within
+decreases-write_within l = 3 * max (defs_depth l.defs.now) (process_depth l.body.now) + 1

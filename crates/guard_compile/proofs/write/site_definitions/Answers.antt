@@ -1,9 +1,9 @@
 use Rattle.std.proofs.Common.{◌++◌, ap, ◌∙◌}
 use Rattle.chem_model.specs.Process.{definitions}
-use Rattle.guard_compile.proofs.Sites.{definitions_begun}
+use Rattle.guard_compile.proofs.Sites.{site_defs_written}
 use Rattle.guard_compile.proofs.write.site_definitions.Goals as goal
 
 pub returns : goal.returns
 returns c =
-    definitions_begun c.args.tops.now c.args.at c.args.next c.args.channels.now c.new-layout.result c.extend.new.self (definitions c.args.defs.now) c.start-defined.result c.write_defs.new.defined
-    c.start-defined.ensures c.new-layout.ensures (c.in_ok-extend.ensures ∙ ap (λ ns. ns ++ c.as_slice.result.now) c.new-named.ensures ∙ c.as_slice.ensures) c.in_ok-write_defs.ensures.defined
+    site_defs_written c.write_defs.result c.args.tops.now c.args.at c.args.channels.now c.new-layout.result c.extend.new.self (definitions c.args.defs.now) c.args.defined.now c.write_defs.new.defined
+    c.new-layout.ensures (c.in_ok-extend.ensures ∙ ap (λ ns. ns ++ c.as_slice.result.now) c.new-named.ensures ∙ c.as_slice.ensures) c.write_defs.ensures.defined
