@@ -32,11 +32,16 @@ fn after_one_event(alloc: Global, program: &Program) -> Result<Text, Memory> {
     trace_bytes(alloc, &book, ending)
 }
 
+/// What the program of a text shows after one event.
+fn shown_of(alloc: Global, text: &str) -> Result<Text, Front> {
+    let program = Box::new(alloc, program_of(alloc, text)?)?;
+    Ok(after_one_event(alloc, &program)?)
+}
+
 #[test]
 fn the_lines_of_the_document(rt: HostRuntime) -> Result<(), Fail> {
     let text = "observe out/1; site s [ x(u) => out(u) : x(s) ]";
-    let program = program_of(rt.alloc(), text).or(Err("the text is refused"))?;
-    let shown = after_one_event(rt.alloc(), &program)?;
+    let shown = shown_of(rt.alloc(), text).or(Err("nothing is shown"))?;
     assert_eq!(rt; shown.as_slice(), b"out(s)\nquiescent\n".as_slice());
     Ok(())
 }

@@ -1,8 +1,8 @@
 // Logs read back, and bytes that are no log. The places were counted by hand.
-use chem_model::{AtomId, Event};
+use chem_model::{AtomId, Event, Memory};
 use std::alloc::Global;
 use std::test::Fail;
-use trace_text::{LogEnd, log_of_parts, read_log};
+use trace_text::{Log, LogEnd, log_of_parts, read_log};
 
 /// The log of a run of one event.
 const LOG: &[u8] =
@@ -80,6 +80,20 @@ const WRONG: &[(&[u8], u64)] = &[
     ),
 ];
 
+// The proof of a function that names a table goes over the table at each step, so each is handed
+// out by one that does nothing else.
+fn log_of_one_event() -> &'static [u8] {
+    LOG
+}
+
+fn fields() -> &'static [usize] {
+    FIELDS
+}
+
+fn wrong() -> &'static [(&'static [u8], u64)] {
+    WRONG
+}
+
 /// Where bytes are wrong first, if they are no log.
 fn wrong_at(alloc: Global, bytes: &[u8]) -> Result<Option<u64>, Fail> {
     match read_log(alloc, bytes) {
@@ -92,7 +106,7 @@ fn wrong_at(alloc: Global, bytes: &[u8]) -> Result<Option<u64>, Fail> {
 /// The last field of `LOG` that begins at this place or before.
 fn field_before(place: usize) -> u64 {
     let mut last = 0;
-    for field in FIELDS {
+    for field in fields() {
         if *field <= place {
             last = *field as u64;
         }
@@ -102,29 +116,35 @@ fn field_before(place: usize) -> u64 {
 
 #[test]
 fn the_first_field_that_is_wrong(rt: HostRuntime) -> Result<(), Fail> {
-    for (place, _) in LOG.iter().enumerate() {
-        let (front, _) = LOG.split_at(place);
+    let log = log_of_one_event();
+    for (place, _) in log.iter().enumerate() {
+        let (front, _) = log.split_at(place);
         assert_eq!(rt; wrong_at(rt.alloc(), front)?, Some(field_before(place)));
     }
-    for (bytes, place) in WRONG {
+    for (bytes, place) in wrong() {
         assert_eq!(rt; wrong_at(rt.alloc(), bytes)?, Some(*place));
     }
     Ok(())
 }
 
-/// The text of the log that was read, from its copy.
-fn spelled_again(alloc: Global, bytes: &[u8]) -> Result<bool, LogEnd> {
-    let read = read_log(alloc, bytes)?;
-    let log = read.copy(alloc).map_err(|_memory| LogEnd::Memory)?;
+/// Whether a copy of a log has the text that the log was read from.
+fn copy_is_spelled(alloc: Global, log: &Log, bytes: &[u8]) -> Result<bool, Memory> {
+    let log = Box::new(alloc, log.copy(alloc)?)?;
     let text = log_of_parts(
         alloc,
         log.source.as_slice(),
         log.budget,
         &log.events,
         log.trace.as_slice(),
-    )
-    .map_err(|_memory| LogEnd::Memory)?;
+    )?;
     Ok(text.as_slice() == bytes)
+}
+
+fn spelled_again(alloc: Global, bytes: &[u8]) -> Result<bool, LogEnd> {
+    let log = read_log(alloc, bytes)?;
+    let is_same = copy_is_spelled(alloc, &log, bytes);
+    drop(log);
+    is_same.map_err(|_memory| LogEnd::Memory)
 }
 
 /// The last atom that the first event of a log takes.
@@ -142,7 +162,7 @@ fn logs_there_and_back(rt: HostRuntime) {
         site: 4_294_967_295,
         k: 18_446_744_073_709_551_615,
     };
-    assert_eq!(rt; spelled_again(rt.alloc(), LOG), Ok(true));
+    assert_eq!(rt; spelled_again(rt.alloc(), log_of_one_event()), Ok(true));
     assert_eq!(rt; spelled_again(rt.alloc(), EACH_KIND), Ok(true));
     assert_eq!(rt; last_taken(rt.alloc(), EACH_KIND), Ok(Some(last)));
 }

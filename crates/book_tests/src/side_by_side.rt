@@ -3,8 +3,9 @@
 use crate::both::{End, both_of};
 use join_base::Front;
 use std::alloc::{AllocError, Global};
+use std::process::Abort;
 use std::test::Fail;
-use worked_texts::{examples_of_locations, examples_of_messages, runs};
+use worked_texts::{Case, examples, runs};
 
 /// So many events of a worked text are made at most.
 const EVENTS: u32 = 100;
@@ -56,26 +57,39 @@ fn is_fine(outcome: &Result<Outcome, Front>) -> bool {
     }
 }
 
-#[test]
-fn worked_texts_in_both(rt: HostRuntime) -> Result<(), Fail> {
-    for case in runs() {
-        let source = case.source(rt.alloc())?;
-        let made = outcome(rt.alloc(), source.as_slice(), EVENTS);
+/// That each of these texts is made in both alike.
+fn expect_fine(rt: &impl Abort, alloc: Global, cases: &[Case]) -> Result<(), Fail> {
+    for case in cases {
+        let source = case.source(alloc)?;
+        let made = outcome(alloc, source.as_slice(), EVENTS);
         assert!(rt; is_fine(&made), "{made:?}");
     }
     Ok(())
 }
 
-/// Each example ends, after as many events as it has.
+#[test]
+fn worked_texts_in_both(rt: HostRuntime) -> Result<(), Fail> {
+    for cases in runs() {
+        expect_fine(&rt, rt.alloc(), cases)?;
+    }
+    Ok(())
+}
+
+/// That each of these texts ends in both, after as many events as it has.
+fn expect_events(rt: &impl Abort, alloc: Global, cases: &[Case]) -> Result<(), Fail> {
+    for case in cases {
+        let source = case.source(alloc)?;
+        let made = outcome(alloc, source.as_slice(), EVENTS);
+        assert!(rt; is_fine(&made), "{made:?}");
+        assert_eq!(rt; made.map(|all| all.1), Ok(case.events.unwrap_or(0)));
+    }
+    Ok(())
+}
+
 #[test]
 fn examples_in_both(rt: HostRuntime) -> Result<(), Fail> {
-    for cases in [examples_of_messages(), examples_of_locations()] {
-        for case in cases {
-            let source = case.source(rt.alloc())?;
-            let made = outcome(rt.alloc(), source.as_slice(), EVENTS);
-            assert!(rt; is_fine(&made), "{made:?}");
-            assert_eq!(rt; made.map(|all| all.1), Ok(case.events.unwrap_or(0)));
-        }
+    for cases in examples() {
+        expect_events(&rt, rt.alloc(), cases)?;
     }
     Ok(())
 }

@@ -1,43 +1,30 @@
 // Texts of traces and logs, byte for byte. The expected texts were written out by hand.
+ghost use Rattle.std.specs.Prelude.{◌≤◌, length};
+
 use crate::both::book_with;
-use chem_model::{
-    AtomId, Event, Items, Memory, Name, Proc, Program, Ref, RuleId, SeenDecl, SiteTerm,
-};
+use chem_model::{AtomId, Event, Items, RuleId, Text};
+use join_base::Front;
 use std::alloc::Global;
 use std::test::Fail;
 use trace_text::{Ending, log_bytes, log_of_parts, trace_bytes};
+use worked_programs::program_of;
 
-/// The program of `observe out/0; site s [ none : out() ]`.
-fn observing(alloc: Global) -> Result<Program, Memory> {
-    let mut seen = Items::new(alloc);
-    seen.push(SeenDecl {
-        count: 0,
-        spell: Items::from_slice(alloc, b"out")?,
-    })?;
-    let mut sites = Items::new(alloc);
-    sites.push(SiteTerm {
-        name: 0,
-        defs: Items::new(alloc),
-        body: Proc::msg(Ref::Known(Name::Seen(0)), Items::new(alloc)),
-    })?;
-    let mut spell = Items::new(alloc);
-    spell.push(Items::from_slice(alloc, b"s")?)?;
-    Ok(Program {
-        seen,
-        sites,
-        tops: 1,
-        spell,
-    })
+/// The trace of the book of a text before any event, and the log that says it was stopped there.
+fn before_any_event(alloc: Global, source: &[u8]) -> Result<(Text, Text), Front>
+    requires { length source.now ≤ 1048576 }
+{
+    let program = program_of(alloc, source)?;
+    let book = book_with(alloc, &program)?;
+    let trace = trace_bytes(alloc, &book, Ending::Quiescent)?;
+    let log = log_bytes(alloc, source, 10, &book, Ending::Stopped)?;
+    Ok((trace, log))
 }
 
 #[test]
 fn the_texts_of_a_book(rt: HostRuntime) -> Result<(), Fail> {
-    let alloc = rt.alloc();
     let source = b"observe out/0; site s [ none : out() ]";
-    let book = book_with(alloc, &observing(alloc)?)?;
-    let trace = trace_bytes(alloc, &book, Ending::Quiescent)?;
+    let (trace, log) = before_any_event(rt.alloc(), source).or(Err("there is no book"))?;
     assert_eq!(rt; trace.as_slice(), b"out()\nquiescent\n".as_slice());
-    let log = log_bytes(alloc, source, 10, &book, Ending::Stopped)?;
     let want: &[u8] =
         b"joinlog 1\nsource 38\nobserve out/0; site s [ none : out() ]\nbudget 10\nevents 0\ntrace 14\nout()\nstopped\n";
     assert_eq!(rt; log.as_slice(), want);

@@ -1,8 +1,7 @@
 // Packets and logs that are damaged, as data: the bytes, and where they are wrong first. The places
 // were counted by hand.
 
-/// Packets, each with the place of its first wrong field.
-pub const PACKETS: &[(&[u8], usize)] = &[
+const PACKETS: &[(&[u8], usize)] = &[
     // It ends behind the site of its location.
     (&[2, 0, 0, 0, 0], 5),
     // The worked parcel without its last byte.
@@ -62,8 +61,12 @@ pub const PACKETS: &[(&[u8], usize)] = &[
     (&[3], 0),
 ];
 
-/// Logs, each with the place of its first wrong field.
-pub const LOGS: &[(&[u8], usize)] = &[
+/// Packets, each with the place of its first wrong field.
+pub fn packets() -> &'static [(&'static [u8], usize)] {
+    PACKETS
+}
+
+const LOGS: &[(&[u8], usize)] = &[
     (b"", 0),
     // The second byte of a literal is another: the literal is wrong, from its first byte on.
     (b"jOinlog 1\nsource 0\n\nbudget 0\nevents 0\ntrace 0\n", 0),
@@ -92,3 +95,8 @@ pub const LOGS: &[(&[u8], usize)] = &[
         46,
     ),
 ];
+
+/// Logs, each with the place of its first wrong field.
+pub fn logs() -> &'static [(&'static [u8], usize)] {
+    LOGS
+}

@@ -2,7 +2,7 @@
 
 use crate::logs::log_wrong_at;
 use crate::packets::packet_wrong_at;
-use crate::rows::{LOGS, PACKETS};
+use crate::rows::{logs, packets};
 use chem_model::{Items, Memory, Text};
 use std::alloc::Global;
 use std::process::Abort;
@@ -36,6 +36,24 @@ const FULL_PARCEL: &[u8] = &[
 const LOG: &[u8] =
     b"joinlog 1\nsource 47\nobserve out/1; site s [ x(u) => out(u) : x(s) ]\nbudget 10\nevents 1\n\
     react 0.2 0.3\ntrace 17\nout(s)\nquiescent\n";
+
+// Each text is handed out by a function that does nothing else: the proof of one that names it goes
+// over its bytes at each step.
+fn message() -> &'static [u8] {
+    MESSAGE
+}
+
+fn parcel() -> &'static [u8] {
+    PARCEL
+}
+
+fn full_parcel() -> &'static [u8] {
+    FULL_PARCEL
+}
+
+fn log() -> &'static [u8] {
+    LOG
+}
 
 /// Where bytes are wrong first, if they are.
 type Found = Result<Option<usize>, Memory>;
@@ -81,27 +99,31 @@ fn damage_packet(rt: &impl Abort, alloc: Global, bytes: &[u8]) -> Result<(), Mem
 
 #[test]
 fn each_byte_of_a_packet(rt: HostRuntime) -> Result<(), Fail> {
-    for bytes in [MESSAGE, PARCEL, FULL_PARCEL] {
+    for bytes in [message(), parcel(), full_parcel()] {
         assert_eq!(rt; decoded(rt.alloc(), bytes), Ok(None));
         damage_packet(&rt, rt.alloc(), bytes)?;
     }
     Ok(())
 }
 
-#[test]
-fn each_byte_of_a_log(rt: HostRuntime) -> Result<(), Fail> {
-    let alloc = rt.alloc();
-    assert_eq!(rt; read(alloc, LOG), Ok(None));
-    let mut text: Text = Items::from_slice(alloc, LOG)?;
-    for (at, old) in LOG.iter().enumerate() {
+fn damage_log(rt: &impl Abort, alloc: Global, bytes: &[u8]) -> Result<(), Memory> {
+    let mut text: Text = Items::from_slice(alloc, bytes)?;
+    for (at, old) in bytes.iter().enumerate() {
         for byte in 0..=255 {
             text.set(at, byte);
-            expect_log(&rt, alloc, text.as_slice());
+            expect_log(rt, alloc, text.as_slice());
         }
         text.set(at, *old);
-        expect_log(&rt, alloc, &LOG[..at]);
-        assert!(rt; read(alloc, &LOG[..at]) != Ok(None));
+        expect_log(rt, alloc, &bytes[..at]);
+        assert!(rt; read(alloc, &bytes[..at]) != Ok(None));
     }
+    Ok(())
+}
+
+#[test]
+fn each_byte_of_a_log(rt: HostRuntime) -> Result<(), Fail> {
+    assert_eq!(rt; read(rt.alloc(), log()), Ok(None));
+    damage_log(&rt, rt.alloc(), log())?;
     Ok(())
 }
 
@@ -109,11 +131,11 @@ fn each_byte_of_a_log(rt: HostRuntime) -> Result<(), Fail> {
 #[test]
 fn the_first_wrong_field(rt: HostRuntime) {
     let alloc = rt.alloc();
-    for (bytes, place) in PACKETS {
+    for (bytes, place) in packets() {
         assert_eq!(rt; decoded(alloc, *bytes), Ok(Some(*place)));
         assert_eq!(rt; packet_wrong_at(alloc, *bytes), Ok(Some(*place)));
     }
-    for (bytes, place) in LOGS {
+    for (bytes, place) in logs() {
         assert_eq!(rt; read(alloc, *bytes), Ok(Some(*place)));
         assert_eq!(rt; log_wrong_at(*bytes), Ok(Some(*place)));
     }

@@ -9,9 +9,7 @@ use std::process::Abort;
 use std::sync::Wait;
 use std::test::Fail;
 use std::thread::Threads;
-use worked_texts::{
-    Case, QUIET, examples_of_locations, examples_of_messages, runs, runs_in_rounds,
-};
+use worked_texts::{Case, QUIET, examples, runs, runs_in_rounds};
 
 /// A text that is refused.
 pub const REFUSED: Case = Case {
@@ -43,22 +41,55 @@ pub fn expect<R: AllocGlobal + Abort + Threads + Wait + Sync>(
     Ok(())
 }
 
+/// That each of these cases ends as it says.
+fn expect_all<R: AllocGlobal + Abort + Threads + Wait + Sync>(
+    rt: &R,
+    cases: &[Case],
+) -> Result<(), Fail>
+    requires { IsSync R.row }
+{
+    for case in cases {
+        expect(rt, case.words, case)?;
+    }
+    Ok(())
+}
+
 #[test]
-fn worked_cases(rt: HostRuntime) -> Result<(), Fail> {
-    for cases in [runs(), runs_in_rounds(), refusals(), lines()] {
-        for case in cases {
-            expect(&rt, case.words, case)?;
-        }
+fn worked_texts_alone(rt: HostRuntime) -> Result<(), Fail> {
+    for cases in runs() {
+        expect_all(&rt, cases)?;
+    }
+    Ok(())
+}
+
+#[test]
+fn worked_texts_by_both(rt: HostRuntime) -> Result<(), Fail> {
+    for cases in runs_in_rounds() {
+        expect_all(&rt, cases)?;
+    }
+    Ok(())
+}
+
+#[test]
+fn refused_texts(rt: HostRuntime) -> Result<(), Fail> {
+    for cases in refusals() {
+        expect_all(&rt, cases)?;
+    }
+    Ok(())
+}
+
+#[test]
+fn lines_of_words(rt: HostRuntime) -> Result<(), Fail> {
+    for cases in lines() {
+        expect_all(&rt, cases)?;
     }
     Ok(())
 }
 
 #[test]
 fn examples_on_one_thread(rt: HostRuntime) -> Result<(), Fail> {
-    for cases in [examples_of_messages(), examples_of_locations()] {
-        for case in cases {
-            expect(&rt, case.words, case)?;
-        }
+    for cases in examples() {
+        expect_all(&rt, cases)?;
     }
     Ok(())
 }

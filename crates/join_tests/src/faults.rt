@@ -1,8 +1,6 @@
 // Sources and sinks at their ends.
 
-use crate::outcome::{call, call_into, roomy_sink, source_of};
-use chem_model::Items;
-use join_base::MemSink;
+use crate::outcome::{call, call_into, roomy_sink, sink_with, source_of};
 use std::test::Fail;
 
 const FIRST: &[u8] = b"observe out/1; site s [ x(u) => out(u) : x(s) ]";
@@ -13,9 +11,10 @@ const ALONE: [&str; 3] = ["alone", "--budget", "10"];
 #[test]
 fn one_write_is_enough(rt: HostRuntime) -> Result<(), Fail> {
     let alloc = rt.alloc();
-    let source = source_of(alloc, FIRST)?;
-    let out = MemSink::new(alloc, 64, 64, Items::from_slice(alloc, &[2])?)?;
-    let run = call_into(&rt, &ALONE, source, out, roomy_sink(alloc)?)?;
+    let mut source = source_of(alloc, FIRST)?;
+    let mut out = sink_with(alloc, 64, 64, &[2])?;
+    let mut err = roomy_sink(alloc)?;
+    let run = call_into(&rt, &ALONE, &mut source, &mut out, &mut err)?;
     run.expect(&rt, 0, "out(s)\nquiescent\n", "");
     Ok(())
 }
@@ -34,10 +33,10 @@ fn a_text_past_the_limit(rt: HostRuntime) -> Result<(), Fail> {
 #[test]
 fn the_line_of_a_fault_is_cut(rt: HostRuntime) -> Result<(), Fail> {
     let alloc = rt.alloc();
-    let source = source_of(alloc, b"")?;
-    let out = roomy_sink(alloc)?;
-    let err = MemSink::new(alloc, 3, 8, Items::new(alloc))?;
-    let run = call_into(&rt, &ALONE, source, out, err)?;
+    let mut source = source_of(alloc, b"")?;
+    let mut out = roomy_sink(alloc)?;
+    let mut err = sink_with(alloc, 3, 8, &[])?;
+    let run = call_into(&rt, &ALONE, &mut source, &mut out, &mut err)?;
     run.expect(&rt, 1, "", "gra");
     Ok(())
 }

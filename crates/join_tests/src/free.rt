@@ -10,7 +10,7 @@ use std::process::Abort;
 use std::sync::Wait;
 use std::test::Fail;
 use std::thread::Threads;
-use worked_texts::{Case, Freely, QUIET, examples_of_locations, examples_of_messages, runs};
+use worked_texts::{Case, Freely, QUIET, runs_and_examples};
 
 /// How often a line occurs in a text.
 fn times(line: &[u8], text: &[u8]) -> usize {
@@ -102,14 +102,25 @@ fn expect_shared<R: AllocGlobal + Abort + Threads + Wait + Sync>(
     Ok(())
 }
 
+/// That each of these cases ends on free threads as it may, with each number of workers.
+fn expect_all_shared<R: AllocGlobal + Abort + Threads + Wait + Sync>(
+    rt: &R,
+    cases: &[Case],
+) -> Result<(), Fail>
+    requires { IsSync R.row }
+{
+    for case in cases {
+        for workers in ["1", "2", "16"] {
+            expect_shared(rt, case, workers)?;
+        }
+    }
+    Ok(())
+}
+
 #[test]
 fn worked_texts_on_free_threads(rt: HostRuntime) -> Result<(), Fail> {
-    for cases in [runs(), examples_of_messages(), examples_of_locations()] {
-        for case in cases {
-            for workers in ["1", "2", "16"] {
-                expect_shared(&rt, case, workers)?;
-            }
-        }
+    for cases in runs_and_examples() {
+        expect_all_shared(&rt, cases)?;
     }
     Ok(())
 }
@@ -143,10 +154,11 @@ fn through_the_gate<R: AllocGlobal + Abort + Threads + Wait + Sync>(
     let alloc = rt.alloc();
     let gate = HoldGate::new();
     let words = ["run", "--budget", "20", "--workers", "2"];
-    let source = source_of(alloc, TWO_SITES.as_bytes())?;
-    let out = roomy_sink(alloc)?;
-    let err = roomy_sink(alloc)?;
-    let run = call_through(alloc, &words, source, out, err, &gate, &Threaded::new(rt))?;
+    let mut source = source_of(alloc, TWO_SITES.as_bytes())?;
+    let mut out = roomy_sink(alloc)?;
+    let mut err = roomy_sink(alloc)?;
+    let team = Threaded::new(rt);
+    let run = call_through(alloc, &words, &mut source, &mut out, &mut err, &gate, &team)?;
     Ok((run.made, gate.gave_up()))
 }
 

@@ -3,7 +3,7 @@
 use crate::cases::USAGE;
 use worked_texts::{Case, QUIET};
 
-const LINES: &[Case] = &[
+const RUNS_BY_LINES: &[Case] = &[
     // The default budget.
     Case {
         words: &["--", "alone"],
@@ -92,6 +92,13 @@ const LINES: &[Case] = &[
         events: Some(0),
         ..QUIET
     },
+];
+
+fn runs_by_lines() -> &'static [Case] {
+    RUNS_BY_LINES
+}
+
+const NO_COMMANDS: &[Case] = &[
     Case {
         words: &["fly"],
         text: &[(1, "site s [ none : 0 ]")],
@@ -157,6 +164,13 @@ const LINES: &[Case] = &[
         text: &[(1, "site s [ none : 0 ]")],
         ..USAGE
     },
+];
+
+fn no_commands() -> &'static [Case] {
+    NO_COMMANDS
+}
+
+const NO_OPTIONS: &[Case] = &[
     Case {
         words: &["-"],
         text: &[(1, "site s [ none : 0 ]")],
@@ -232,6 +246,13 @@ const LINES: &[Case] = &[
         text: &[(1, "site s [ none : 0 ]")],
         ..USAGE
     },
+];
+
+fn no_options() -> &'static [Case] {
+    NO_OPTIONS
+}
+
+const FREE_THREADS: &[Case] = &[
     // Free threads.
     Case {
         words: &["run", "--workers=2", "--budget", "10", "--log"],
@@ -250,7 +271,11 @@ const LINES: &[Case] = &[
     },
 ];
 
+fn free_threads() -> &'static [Case] {
+    FREE_THREADS
+}
+
 /// Lines of words: what they ask for, or that they ask for nothing.
-pub fn lines() -> &'static [Case] {
-    LINES
+pub fn lines() -> [&'static [Case]; 4] {
+    [runs_by_lines(), no_commands(), no_options(), free_threads()]
 }

@@ -1,4 +1,5 @@
 // One call of the top call over memory, and what it left, as plain values.
+ghost use Rattle.std.specs.Prelude.{◌<◌};
 ghost use denote.Param.Send.{IsSync};
 
 use chem_model::{Items, Journal, Memory, Program};
@@ -46,15 +47,41 @@ pub struct Outcome {
     pub events: Option<usize>,
 }
 
-/// A source of these bytes that never fails.
-pub fn source_of(alloc: Global, bytes: &[u8]) -> Result<MemSource, Memory> {
+/// A source of these bytes that gives at most `piece` of them a call, and fails in these calls.
+pub fn source_with(
+    alloc: Global,
+    bytes: &[u8],
+    piece: u32,
+    fails: &[u32],
+) -> Result<Box<MemSource>, Memory>
+    requires { 0 < piece }
+{
     let bytes = Items::from_slice(alloc, bytes)?;
-    Ok(MemSource::new(bytes, ROOM, Items::new(alloc)))
+    let fails = Items::from_slice(alloc, fails)?;
+    Ok(Box::new(alloc, MemSource::new(bytes, piece, fails))?)
+}
+
+/// A source of these bytes that never fails.
+pub fn source_of(alloc: Global, bytes: &[u8]) -> Result<Box<MemSource>, Memory> {
+    source_with(alloc, bytes, ROOM, &[])
+}
+
+/// A sink of so much room that takes at most `piece` bytes a call, and fails in these calls.
+pub fn sink_with(
+    alloc: Global,
+    room: u32,
+    piece: u32,
+    fails: &[u32],
+) -> Result<Box<MemSink>, Memory>
+    requires { 0 < piece }
+{
+    let fails = Items::from_slice(alloc, fails)?;
+    Ok(Box::new(alloc, MemSink::new(alloc, room, piece, fails)?)?)
 }
 
 /// A sink that never fails while there is room.
-pub fn roomy_sink(alloc: Global) -> Result<MemSink, Memory> {
-    MemSink::new(alloc, ROOM, ROOM, Items::new(alloc))
+pub fn roomy_sink(alloc: Global) -> Result<Box<MemSink>, Memory> {
+    sink_with(alloc, ROOM, ROOM, &[])
 }
 
 /// How many bytes one more read gives: none where it fails.
@@ -110,30 +137,27 @@ fn ended_by<G: Gate, T: Team + FreeTeam<G>>(
 pub fn call_through<G: Gate, T: Team + FreeTeam<G>>(
     alloc: Global,
     words: &[&str],
-    source: MemSource,
-    out: MemSink,
-    err: MemSink,
+    source: &mut MemSource,
+    out: &mut MemSink,
+    err: &mut MemSink,
     gate: &G,
     team: &T,
 ) -> Result<Outcome, Memory>
     requires ready { T.ready }
     requires free_ready { T.free_ready }
 {
-    let mut source = source;
-    let mut out = out;
-    let mut err = err;
-    let ended = ended_by(alloc, words, &mut source, &mut out, &mut err, gate, team)?;
-    let unread = read_on(&mut source);
-    outcome_of(alloc, &ended, unread, &out, &err)
+    let ended = ended_by(alloc, words, source, out, err, gate, team)?;
+    let unread = read_on(source);
+    outcome_of(alloc, &ended, unread, out, err)
 }
 
 /// Runs the words over a source and two sinks.
 pub fn call_into<R: AllocGlobal + Abort + Threads + Wait + Sync>(
     rt: &R,
     words: &[&str],
-    source: MemSource,
-    out: MemSink,
-    err: MemSink,
+    source: &mut MemSource,
+    out: &mut MemSink,
+    err: &mut MemSink,
 ) -> Result<Outcome, Memory>
     requires { IsSync R.row }
 {
@@ -150,9 +174,10 @@ pub fn call<R: AllocGlobal + Abort + Threads + Wait + Sync>(
     requires { IsSync R.row }
 {
     let alloc = rt.alloc();
-    let source = source_of(alloc, bytes)?;
-    let out = roomy_sink(alloc)?;
-    call_into(rt, words, source, out, roomy_sink(alloc)?)
+    let mut source = source_of(alloc, bytes)?;
+    let mut out = roomy_sink(alloc)?;
+    let mut err = roomy_sink(alloc)?;
+    call_into(rt, words, &mut source, &mut out, &mut err)
 }
 
 fn parts_of(kept: Kept) -> (Program, Journal) {

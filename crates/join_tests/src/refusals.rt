@@ -3,7 +3,7 @@
 use crate::cases::REFUSED;
 use worked_texts::Case;
 
-const REFUSALS: &[Case] = &[
+const TEXTS_OF_NO_PROGRAM: &[Case] = &[
     // A fault of the grammar before it belongs to a later phase.
     Case {
         text: &[(1, "site [ $")],
@@ -54,6 +54,13 @@ const REFUSALS: &[Case] = &[
         err: "grammar 2 at 215\n",
         ..REFUSED
     },
+];
+
+fn texts_of_no_program() -> &'static [Case] {
+    TEXTS_OF_NO_PROGRAM
+}
+
+const NAMES_OUT_OF_SCOPE: &[Case] = &[
     Case {
         text: &[(1, "site s [ none : q() ]")],
         err: "scope 1 at 16\n",
@@ -118,6 +125,13 @@ const REFUSALS: &[Case] = &[
         err: "scope 6 at 1152\n",
         ..REFUSED
     },
+];
+
+fn names_out_of_scope() -> &'static [Case] {
+    NAMES_OUT_OF_SCOPE
+}
+
+const COUNTS_AND_KINDS: &[Case] = &[
     // The fault of a count stands before the unknown name.
     Case {
         text: &[(1, "site s [ x(u) => 0 : x() | q() ]")],
@@ -155,7 +169,15 @@ const REFUSALS: &[Case] = &[
     },
 ];
 
+fn counts_and_kinds() -> &'static [Case] {
+    COUNTS_AND_KINDS
+}
+
 /// Texts that are refused, with the kind and the place of their refusal.
-pub fn refusals() -> &'static [Case] {
-    REFUSALS
+pub fn refusals() -> [&'static [Case]; 3] {
+    [
+        texts_of_no_program(),
+        names_out_of_scope(),
+        counts_and_kinds(),
+    ]
 }

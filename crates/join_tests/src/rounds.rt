@@ -2,16 +2,15 @@
 ghost use denote.Param.Send.{IsSync};
 
 use crate::cases::expect;
-use crate::outcome::{Outcome, call_into, roomy_sink, source_of};
-use chem_model::{Items, Memory};
-use join_base::MemSink;
+use crate::outcome::{Outcome, call_into, roomy_sink, sink_with, source_of};
+use chem_model::Memory;
 use std::alloc::{AllocError, Global};
 use std::marker::Sync;
 use std::process::Abort;
 use std::sync::Wait;
 use std::test::Fail;
 use std::thread::Threads;
-use worked_texts::{Case, examples_of_locations, examples_of_messages, runs};
+use worked_texts::{Case, examples, runs};
 
 /// More bytes than the log of any of these runs has.
 const ROOM: u32 = 65_536;
@@ -32,14 +31,27 @@ pub fn words_by(
     Ok(words)
 }
 
+/// That each of these cases ends in rounds as it does on one thread.
+fn expect_in_rounds<R: AllocGlobal + Abort + Threads + Wait + Sync>(
+    rt: &R,
+    cases: &[Case],
+) -> Result<(), Fail>
+    requires { IsSync R.row }
+{
+    for case in cases {
+        for workers in ["1", "4"] {
+            let words = words_by(rt.alloc(), case, "rounds", workers)?;
+            expect(rt, words.as_slice(), case)?;
+        }
+    }
+    Ok(())
+}
+
 /// Where no order is open, a text ends in rounds as it does on one thread.
 #[test]
 fn worked_texts_in_rounds(rt: HostRuntime) -> Result<(), Fail> {
-    for case in runs() {
-        for workers in ["1", "4"] {
-            let words = words_by(rt.alloc(), case, "rounds", workers)?;
-            expect(&rt, words.as_slice(), case)?;
-        }
+    for cases in runs() {
+        expect_in_rounds(&rt, cases)?;
     }
     Ok(())
 }
@@ -56,9 +68,10 @@ fn logged<R: AllocGlobal + Abort + Threads + Wait + Sync>(
     let mut words = words_by(alloc, case, "rounds", workers)?;
     words.push("--log")?;
     let source = case.source(alloc)?;
-    let source = source_of(alloc, source.as_slice())?;
-    let out = MemSink::new(alloc, ROOM, ROOM, Items::new(alloc))?;
-    call_into(rt, words.as_slice(), source, out, roomy_sink(alloc)?)
+    let mut source = source_of(alloc, source.as_slice())?;
+    let mut out = sink_with(alloc, ROOM, ROOM, &[])?;
+    let mut err = roomy_sink(alloc)?;
+    call_into(rt, words.as_slice(), &mut source, &mut out, &mut err)
 }
 
 /// The log of a program, in rounds and with so many workers. The program ends quiet.
@@ -89,12 +102,23 @@ fn expect_one_log<R: AllocGlobal + Abort + Threads + Wait + Sync>(
     Ok(())
 }
 
+/// That each of these programs has one log.
+fn expect_one_log_each<R: AllocGlobal + Abort + Threads + Wait + Sync>(
+    rt: &R,
+    cases: &[Case],
+) -> Result<(), Fail>
+    requires { IsSync R.row }
+{
+    for case in cases {
+        expect_one_log(rt, case)?;
+    }
+    Ok(())
+}
+
 #[test]
 fn examples_in_rounds(rt: HostRuntime) -> Result<(), Fail> {
-    for cases in [examples_of_messages(), examples_of_locations()] {
-        for case in cases {
-            expect_one_log(&rt, case)?;
-        }
+    for cases in examples() {
+        expect_one_log_each(&rt, cases)?;
     }
     Ok(())
 }

@@ -6,7 +6,7 @@ use join_base::Front;
 use std::alloc::Global;
 use std::process::Abort;
 use std::test::Fail;
-use worked_texts::{Case, examples_of_locations, examples_of_messages, runs};
+use worked_texts::{Case, runs_and_examples};
 
 /// So many choices are made at most.
 const CHOICES: u32 = 100;
@@ -38,13 +38,23 @@ fn expect(rt: &impl Abort, alloc: Global, case: &Case, order: Order) -> Result<(
     Ok(())
 }
 
-fn expect_all(rt: &impl Abort, alloc: Global, orders: &[Order]) -> Result<(), Fail> {
-    for cases in [runs(), examples_of_messages(), examples_of_locations()] {
-        for case in cases {
-            for order in orders {
-                expect(rt, alloc, case, *order)?;
-            }
+fn expect_orders(
+    rt: &impl Abort,
+    alloc: Global,
+    cases: &[Case],
+    orders: &[Order],
+) -> Result<(), Fail> {
+    for case in cases {
+        for order in orders {
+            expect(rt, alloc, case, *order)?;
         }
+    }
+    Ok(())
+}
+
+fn expect_all(rt: &impl Abort, alloc: Global, orders: &[Order]) -> Result<(), Fail> {
+    for cases in runs_and_examples() {
+        expect_orders(rt, alloc, cases, orders)?;
     }
     Ok(())
 }

@@ -7,9 +7,7 @@ mod locations;
 mod messages;
 mod rounds;
 mod small;
+mod tables;
 
 pub use case::{Case, Freely, QUIET};
-pub use locations::examples_of_locations;
-pub use messages::examples_of_messages;
-pub use rounds::runs_in_rounds;
-pub use small::runs;
+pub use tables::{examples, runs, runs_and_examples, runs_in_rounds};

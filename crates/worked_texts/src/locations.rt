@@ -2,7 +2,7 @@
 
 use crate::case::{Case, Freely, QUIET};
 
-const PROGRAMS: &[Case] = &[
+const APPLET_TO_HARVEST: &[Case] = &[
     // applet.join
     Case {
         words: &["alone"],
@@ -127,6 +127,13 @@ quiescent
         ]),
         ..QUIET
     },
+];
+
+pub(crate) fn applet_to_harvest() -> &'static [Case] {
+    APPLET_TO_HARVEST
+}
+
+const POOL_TO_SAILOR: &[Case] = &[
     // pool.join
     Case {
         words: &["alone"],
@@ -281,6 +288,13 @@ quiescent
         ]),
         ..QUIET
     },
+];
+
+pub(crate) fn pool_to_sailor() -> &'static [Case] {
+    POOL_TO_SAILOR
+}
+
+const TOUR_TO_WRECK: &[Case] = &[
     // tour.join
     Case {
         words: &["alone"],
@@ -362,7 +376,6 @@ quiescent
     },
 ];
 
-/// Each program of `examples/` about locations, failures and threads, run with the default budget.
-pub fn examples_of_locations() -> &'static [Case] {
-    PROGRAMS
+pub(crate) fn tour_to_wreck() -> &'static [Case] {
+    TOUR_TO_WRECK
 }

@@ -2,7 +2,7 @@
 
 use crate::case::{Case, Freely, QUIET};
 
-const PROGRAMS: &[Case] = &[
+const BARRIER_TO_BROADCAST: &[Case] = &[
     // barrier.join
     Case {
         words: &["alone"],
@@ -138,6 +138,13 @@ quiescent
         ]),
         ..QUIET
     },
+];
+
+pub(crate) fn barrier_to_broadcast() -> &'static [Case] {
+    BARRIER_TO_BROADCAST
+}
+
+const BUFFER_TO_CHOICE: &[Case] = &[
     // buffer.join
     Case {
         words: &["alone"],
@@ -267,6 +274,13 @@ quiescent
         events: Some(1),
         ..QUIET
     },
+];
+
+pub(crate) fn buffer_to_choice() -> &'static [Case] {
+    BUFFER_TO_CHOICE
+}
+
+const COUNTER_TO_LOCK: &[Case] = &[
     // counter.join
     Case {
         words: &["alone"],
@@ -355,6 +369,13 @@ quiescent
         events: Some(8),
         ..QUIET
     },
+];
+
+pub(crate) fn counter_to_lock() -> &'static [Case] {
+    COUNTER_TO_LOCK
+}
+
+const PHILOSOPHERS_TO_RING: &[Case] = &[
     // philosophers.join
     Case {
         words: &["alone"],
@@ -496,7 +517,6 @@ quiescent
     },
 ];
 
-/// Each program of `examples/` about messages and fresh names, run with the default budget.
-pub fn examples_of_messages() -> &'static [Case] {
-    PROGRAMS
+pub(crate) fn philosophers_to_ring() -> &'static [Case] {
+    PHILOSOPHERS_TO_RING
 }

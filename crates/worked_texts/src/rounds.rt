@@ -2,7 +2,7 @@
 
 use crate::case::{Case, QUIET};
 
-const IN_ROUNDS: &[Case] = &[
+const SHARES: &[Case] = &[
     // Each site reacts as often as its share of the budget allows, whatever the number of workers.
     Case {
         words: &["rounds", "--budget", "10", "--workers", "1", "--log"],
@@ -131,6 +131,13 @@ stopped
         events: Some(1),
         ..QUIET
     },
+];
+
+pub(crate) fn shares() -> &'static [Case] {
+    SHARES
+}
+
+const UNDER_WAY: &[Case] = &[
     // What is under way when the budget is used up could be taken: the run is stopped.
     Case {
         words: &["rounds", "--budget", "1"],
@@ -243,6 +250,13 @@ quiescent
         events: Some(3),
         ..QUIET
     },
+];
+
+pub(crate) fn under_way() -> &'static [Case] {
+    UNDER_WAY
+}
+
+const LONG_ROUNDS: &[Case] = &[
     // In a round a site reacts 64 times at most.
     Case {
         words: &["rounds", "--budget", "1000"],
@@ -360,7 +374,6 @@ quiescent
     },
 ];
 
-/// Runs in rounds, and beside them those on one thread that differ.
-pub fn runs_in_rounds() -> &'static [Case] {
-    IN_ROUNDS
+pub(crate) fn long_rounds() -> &'static [Case] {
+    LONG_ROUNDS
 }

@@ -2,7 +2,7 @@
 
 use crate::case::{Case, Freely, QUIET};
 
-const RUNS: &[Case] = &[
+const OPENINGS: &[Case] = &[
     // The least whole run.
     Case {
         text: &[(1, "observe out/1; site s [ x(u) => out(u) : x(s) ]")],
@@ -61,6 +61,13 @@ const RUNS: &[Case] = &[
         )],
         ..QUIET
     },
+];
+
+pub(crate) fn openings() -> &'static [Case] {
+    OPENINGS
+}
+
+const FAILURES: &[Case] = &[
     // The agent fails with its host, and this is detected.
     Case {
         text: &[(
@@ -116,6 +123,13 @@ const RUNS: &[Case] = &[
         freely: Freely::OneOf(&["out(s)\nquiescent\n", "out(t)\nquiescent\n"]),
         ..QUIET
     },
+];
+
+pub(crate) fn failures() -> &'static [Case] {
+    FAILURES
+}
+
+const SCOPES_AND_MOVES: &[Case] = &[
     // A definition takes all to its right.
     Case {
         text: &[(
@@ -192,6 +206,13 @@ const RUNS: &[Case] = &[
         events: Some(8),
         ..QUIET
     },
+];
+
+pub(crate) fn scopes_and_moves() -> &'static [Case] {
+    SCOPES_AND_MOVES
+}
+
+const NAMES: &[Case] = &[
     // A comment and a group.
     Case {
         text: &[(1, "# c\nsite s [ none : (0 | 0) ]")],
@@ -240,6 +261,13 @@ const RUNS: &[Case] = &[
         events: Some(2),
         ..QUIET
     },
+];
+
+pub(crate) fn names() -> &'static [Case] {
+    NAMES
+}
+
+const LIMITS: &[Case] = &[
     // A join pattern of 65 messages.
     Case {
         text: &[(
@@ -298,7 +326,6 @@ const RUNS: &[Case] = &[
     },
 ];
 
-/// Texts that are run, each with the words `alone --budget 10` unless it has others.
-pub fn runs() -> &'static [Case] {
-    RUNS
+pub(crate) fn limits() -> &'static [Case] {
+    LIMITS
 }
