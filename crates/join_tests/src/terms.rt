@@ -116,14 +116,14 @@ fn observables_and_their_copy(rt: HostRuntime) -> Result<(), Fail> {
 }
 
 /// The program that a run of a text keeps.
-pub fn program_of<R: AllocGlobal + Abort + Threads + Wait + Sync>(
+fn program_of<R: AllocGlobal + Abort + Threads + Wait + Sync>(
     rt: &R,
     text: &str,
-) -> Result<Program, Fail>
+) -> Result<Box<Program>, Fail>
     requires { IsSync R.row }
 {
     let (program, _journal) = kept_of(rt, text)?;
-    Ok(program)
+    Ok(Box::new(rt.alloc(), program)?)
 }
 
 /// The spellings of a program's binders, one behind the other.
@@ -135,17 +135,23 @@ fn spellings(alloc: Global, program: &Program) -> Result<Vec<u8>, AllocError> {
     Ok(spell)
 }
 
-/// The names that the site defines are the first two binders, and the received name is the third.
-#[test]
-fn the_program_of_a_text(rt: HostRuntime) -> Result<(), Fail> {
-    let text = "observe out/1; site s [ x(u) => out(u) : x(s) ]";
-    let program = program_of(&rt, text)?.copy(rt.alloc())?;
+/// That a program has three binders, two of which the site defines, and one observed name.
+fn expect_program(rt: &impl Abort, alloc: Global, program: &Program) -> Result<(), Fail> {
     assert_eq!(rt; program.tops, 2);
-    let spell = spellings(rt.alloc(), &program)?;
+    let spell = spellings(alloc, program)?;
     assert_eq!(rt; spell.as_slice(), b"sxu".as_slice());
     let declared = program.seen.as_slice().first();
     assert_eq!(rt; declared.map(|declared| declared.count), Some(1));
     Ok(())
+}
+
+/// The names that the site defines are the first two binders, and the received name is the third.
+#[test]
+fn the_program_of_a_text(rt: HostRuntime) -> Result<(), Fail> {
+    let alloc = rt.alloc();
+    let program = program_of(&rt, "observe out/1; site s [ x(u) => out(u) : x(s) ]")?;
+    let copy = Box::new(alloc, program.copy(alloc)?)?;
+    expect_program(&rt, alloc, &copy)
 }
 
 /// The root has the number 0 and the channel 1, so that the rule is 0.2 and the message 0.3.
