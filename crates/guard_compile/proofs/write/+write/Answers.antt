@@ -5,8 +5,7 @@ use Rattle.chem_model.specs.Binders.{params_of}
 use Rattle.chem_model.specs.ProcessSize.{process_depth, definition_depth}
 use Rattle.chem_model.specs.Nodes.{process_of, definition_of}
 use Rattle.chem_model.specs.Members.{procs_depth-member, defs_depth-member}
-use Rattle.env_store.specs.Layout.{place_order, places_order}
-use Rattle.guard_compile.specs.declared.write.At.{At}
+use Rattle.env_store.specs.Layout.{places_order}
 use Rattle.guard_compile.specs.inside.Written.{behind, inside}
 use Rattle.guard_compile.proofs.Blocks.{block_written, block_instrs, cut_back, take_front, place_within, place_number, place_written}
 use Rattle.guard_compile.proofs.write.+write.Goals as goal
