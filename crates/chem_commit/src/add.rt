@@ -1,7 +1,7 @@
 // What was made, added at the ends of the lists.
 ghost use Rattle.std.specs.Prelude.{◌≡◌, ◌++◌, OnOk, OnErr};
 ghost use Rattle.chem_model.specs.Pour.{add_made};
-ghost use Rattle.chem_commit.specs.inside.Parts.{appended, cut, Keeps};
+ghost use Rattle.chem_commit.specs.inside.Parts.{appended, lengths, cut, Keeps};
 
 use chem_model::{Items, Made, Memory, Numbered};
 
@@ -26,8 +26,7 @@ fn append(solution: &mut Numbered, made: &mut Made) -> Result<(), Memory>
     move_to_end(&mut solution.named, &mut made.named)?;
     move_to_end(&mut solution.rules, &mut made.rules)?;
     move_to_end(&mut solution.atoms, &mut made.atoms)?;
-    move_to_end(&mut solution.trace, &mut made.outs)?;
-    Ok(())
+    move_to_end(&mut solution.trace, &mut made.outs)
 }
 
 /// How many members each list has.
@@ -38,6 +37,19 @@ struct Lengths {
     rules: usize,
     atoms: usize,
     trace: usize,
+}
+
+/// How many members each list has now.
+fn lengths_of(solution: &Numbered) -> Lengths
+    ensures { result ≡ lengths solution.now }
+{
+    Lengths {
+        places: solution.places.len(),
+        named: solution.named.len(),
+        rules: solution.rules.len(),
+        atoms: solution.atoms.len(),
+        trace: solution.trace.len(),
+    }
 }
 
 /// Cuts each list back.
@@ -56,16 +68,12 @@ pub(crate) fn add(solution: &mut Numbered, site: u32, made: Made) -> Result<(), 
     ensures ok { OnOk result (solution.new ≡ add_made solution.old site made) }
     ensures err { OnErr result (solution.new ≡ solution.old) }
 {
-    let lengths = Lengths {
-        places: solution.places.len(),
-        named: solution.named.len(),
-        rules: solution.rules.len(),
-        atoms: solution.atoms.len(),
-        trace: solution.trace.len(),
-    };
+    let lengths = lengths_of(solution);
     let next = made.next;
     let mut made = made;
-    match append(solution, &mut made) {
+    let outcome = append(solution, &mut made);
+    drop(made);
+    match outcome {
         Ok(()) => {
             solution.counts.set(site as usize, next);
             Ok(())

@@ -1,12 +1,13 @@
 // An event made in place: first all that takes memory, then what can't fail.
-ghost use Rattle.std.specs.Prelude.{◌≡◌, IfOk, OnErr, true};
+ghost use Rattle.std.specs.Prelude.{◌≡◌, IfOk, OnOk, OnErr, Some, true};
 ghost use Rattle.chem_model.specs.Apply.{rule_at, atom_at, react_rule, with_atom, move_atom};
 ghost use Rattle.chem_model.specs.Apply.{halt_atom, detect_atom, apply};
 ghost use Rattle.chem_model.specs.Sound.{IsSound};
+ghost use Rattle.chem_commit.specs.inside.Parts.{moved};
 ghost use Rattle.chem_commit.specs.Replaces.{Replaces, takes_memory};
 
 use crate::add::add;
-use crate::effect::{departure, detection, failing, reaction};
+use crate::effect::{Effect, departure, detection, failing, reaction};
 use crate::guesses::{Guesses, seeming_place};
 use crate::take::{set_host, set_mark, take_out, take_out_all};
 use chem_model::{AtomId, Atoms, Event, Memory, Numbered, RuleId};
@@ -52,16 +53,27 @@ fn depart(
 {
     match departure(alloc, solution, guesses, id)? {
         Some(effect) => {
-            let atoms = solution.atoms.len();
-            let places = solution.places.len();
             let place = seeming_place(solution, guesses, effect.at);
-            add(solution, effect.root.site, effect.made)?;
-            take_out(&mut solution.atoms, atoms, id);
-            set_host(&mut solution.places, places, place, effect.at, effect.root);
+            go_under(solution, id, place, effect)?;
             Ok(true)
         }
         None => Ok(false),
     }
+}
+
+/// What the request pours is added, the request goes, and its location, which seems to stand at
+/// this place, is under the other root.
+fn go_under(solution: &mut Numbered, id: AtomId, place: usize, effect: Effect) -> Result<(), Memory>
+    requires { IsSound solution.old }
+    ensures ok { OnOk result (Some solution.new ≡ moved solution.old id (Some effect)) }
+    ensures err { OnErr result (solution.new ≡ solution.old) }
+{
+    let atoms = solution.atoms.len();
+    let places = solution.places.len();
+    add(solution, effect.root.site, effect.made)?;
+    take_out(&mut solution.atoms, atoms, id);
+    set_host(&mut solution.places, places, place, effect.at, effect.root);
+    Ok(())
 }
 
 /// The request goes, and its location is marked.

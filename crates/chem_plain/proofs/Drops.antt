@@ -9,10 +9,8 @@ use Rattle.chem_model.specs.declared.event.Event.{Event}
 use Rattle.chem_model.specs.declared.numbered.NumberedAtom.{NumberedAtom}
 use Rattle.chem_model.specs.declared.numbered.Numbered.{Numbered}
 use Rattle.chem_model.specs.Fill.{Naming}
-use Rattle.chem_model.specs.ProgramFacts.{ProgramTerms}
 use Rattle.chem_model.specs.Reduction.{given}
-use Rattle.chem_model.specs.Opening.{opening}
-use Rattle.chem_model.specs.Apply.{both_received, received_all, apply, replay_from, replay}
+use Rattle.chem_model.specs.Apply.{both_received, received_all, apply, replay_from}
 
 drop_all : {X : Type 0} (xs : List X) (i : ℕ) → length xs ≤ i → drop i xs ≡ []
 drop_all [] zero h = refl
@@ -54,7 +52,7 @@ replay_stops n journal i e h is stops =
     let rest = drop (suc i) journal in
     ap (replay_from (Some n)) (drop-cons journal i e h) ∙ (ap (λ (o : Option Numbered). replay_from o rest) (ap (apply n) (sym is) ∙ stops) ∙ replay_none rest)
 
-pub replay_ends : (p : ProgramTerms) (journal events : List Event) (first n : Numbered) (i : ℕ) (e : Event) → first ≡ opening p → events ≡ journal → i < length events → e ≡ get_or events i e → apply n e ≡ None
-    → replay_from (Some n) (drop i events) ≡ replay_from (Some first) events → None ≡ replay p journal
-replay_ends p journal events first n i e opened same h is stops so_far =
-    sym (replay_stops n events i e h is stops) ∙ (so_far ∙ (ap (λ (f : Numbered). replay_from (Some f) events) opened ∙ ap (replay_from (Some (opening p))) same))
+pub replay_ends : (journal events : List Event) (first n : Numbered) (i : ℕ) (e : Event) → events ≡ journal → i < length events → e ≡ get_or events i e → apply n e ≡ None
+    → replay_from (Some n) (drop i events) ≡ replay_from (Some first) events → replay_from (Some first) journal ≡ None
+replay_ends journal events first n i e same h is stops so_far =
+    ap (replay_from (Some first)) (sym same) ∙ (sym so_far ∙ replay_stops n events i e h is stops)

@@ -1,5 +1,6 @@
 // The effect of an event, and the replay of a journal.
-ghost use Rattle.std.specs.Prelude.{◌≡◌, IfOk, Some, None};
+ghost use Rattle.std.specs.Prelude.{◌≡◌, ◌<◌, ◌+◌, ◌++◌, [], length, take, drop, cond};
+ghost use Rattle.std.specs.Prelude.{IfOk, OnOk, IsOk, IfSome, IfNone, Some, None};
 ghost use Rattle.std.specs.Option.{option_copied};
 ghost use Rattle.chem_model.specs.Poured.{location_of};
 ghost use Rattle.chem_model.specs.Reduction.{given, continuation};
@@ -7,7 +8,8 @@ ghost use Rattle.chem_model.specs.Apply.{same_atom, same_rule, same_ref, rule_at
 ghost use Rattle.chem_model.specs.Apply.{without_all, received, received_at, received_all};
 ghost use Rattle.chem_model.specs.Apply.{with_hosts, with_marks, can_go, can_detect, move_to};
 ghost use Rattle.chem_model.specs.Apply.{move_atom, halt_atom, detect_of, detect_atom, react_rule};
-ghost use Rattle.chem_model.specs.Apply.{apply, replay};
+ghost use Rattle.chem_model.specs.Apply.{react_received, apply, replay_from, replay};
+ghost use Rattle.chem_model.specs.Pour.{pour_at};
 
 use crate::pour::{add_names, known_names};
 use crate::start::{opening, pour_at};
@@ -17,6 +19,7 @@ use chem_model::{
     Program, Ref, RuleId, same_loc, same_name,
 };
 use std::alloc::Global;
+use std::mem;
 
 pub fn same_atom(one: AtomId, other: AtomId) -> bool
     ensures { result ≡ same_atom one other }
@@ -52,31 +55,36 @@ pub fn atom_at(atoms: &NumberedAtoms, id: AtomId) -> Option<&NumberedAtom>
     None
 }
 
-/// The messages and requests but the one with this number.
-fn without(alloc: Global, id: AtomId, atoms: &NumberedAtoms) -> Result<NumberedAtoms, Memory>
-    ensures { IfOk result (λ left. left ≡ without id atoms.now) }
+/// Where the message or request with this number stands: the first one, where there are more.
+fn place_of(atoms: &NumberedAtoms, id: AtomId) -> Option<usize>
+    ensures found { IfSome result (λ place. (place < length atoms.now)
+        × (take place atoms.now ++ drop (place + 1) atoms.now ≡ without id atoms.now)) }
+    ensures none { IfNone result (without id atoms.now ≡ atoms.now) }
 {
-    let mut list = Items::new(alloc);
-    let mut gone = false;
-    for atom in atoms.as_slice() {
-        if !gone && same_atom(atom.id, id) {
-            gone = true;
-        } else {
-            list.push(atom.copy(alloc)?)?;
+    for (place, atom) in atoms.as_slice().iter().enumerate() {
+        if same_atom(atom.id, id) {
+            return Some(place);
         }
     }
-    Ok(list)
+    None
 }
 
-/// The messages and requests but those with these numbers.
-fn without_all(alloc: Global, took: &Atoms, atoms: &NumberedAtoms) -> Result<NumberedAtoms, Memory>
-    ensures { IfOk result (λ left. left ≡ without_all took.now atoms.now) }
+/// Takes out the message or request with this number.
+fn take_out(atoms: &mut NumberedAtoms, id: AtomId)
+    ensures { atoms.new ≡ without id atoms.old }
 {
-    let mut left = atoms.copy(alloc)?;
-    for id in took.as_slice() {
-        left = without(alloc, *id, &left)?;
+    if let Some(place) = place_of(atoms, id) {
+        atoms.remove(place);
     }
-    Ok(left)
+}
+
+/// Takes out the messages with these numbers.
+fn take_out_all(atoms: &mut NumberedAtoms, took: &Atoms)
+    ensures { atoms.new ≡ without_all took.now atoms.old }
+{
+    for id in took.as_slice() {
+        take_out(atoms, *id);
+    }
 }
 
 /// Names given to parameters, in order.
@@ -233,30 +241,17 @@ pub fn rule_at(solution: &Numbered, id: RuleId) -> Option<&NumberedRule>
     None
 }
 
-/// The solution with other locations, and other messages and requests.
-fn changed(
-    alloc: Global,
-    solution: &Numbered,
-    places: PlacedList,
-    atoms: NumberedAtoms,
-) -> Result<Numbered, Memory>
-    ensures { IfOk result (λ changed. changed
-        ≡ record solution.now { places = places; atoms = atoms }) }
+/// The solution that was changed, unless there was no memory to change it.
+fn changed(after: Numbered, outcome: Result<(), Memory>) -> Result<Option<Numbered>, Memory>
+    ensures { IfOk result (λ changed. IsOk outcome × (changed ≡ Some after)) }
 {
-    let seen = solution.seen.copy(alloc)?;
-    let counts = solution.counts.copy(alloc)?;
-    let named = solution.named.copy(alloc)?;
-    let rules = solution.rules.copy(alloc)?;
-    let trace = solution.trace.copy(alloc)?;
-    Ok(Numbered {
-        seen,
-        counts,
-        places,
-        named,
-        rules,
-        atoms,
-        trace,
-    })
+    match outcome {
+        Ok(()) => Ok(Some(after)),
+        Err(memory) => {
+            drop(after);
+            Err(memory)
+        }
+    }
 }
 
 /// A rule takes messages.
@@ -273,14 +268,27 @@ fn react(
     }
     match received_all(alloc, &solution.atoms, rule.loc, &rule.pats, took)? {
         Some(names) => {
-            let places = solution.places.copy(alloc)?;
-            let atoms = without_all(alloc, took, &solution.atoms)?;
-            let left = changed(alloc, solution, places, atoms)?;
-            let after = pour_at(alloc, left, &names, rule.loc, &rule.body)?;
-            Ok(Some(after))
+            let mut after = solution.copy(alloc)?;
+            let poured = take_and_pour(alloc, &mut after, rule, took, &names);
+            changed(after, poured)
         }
         None => Ok(None),
     }
+}
+
+/// The taken messages go, and the rule's body is poured with the received names.
+fn take_and_pour(
+    alloc: Global,
+    solution: &mut Numbered,
+    rule: &NumberedRule,
+    took: &Atoms,
+    names: &Naming,
+) -> Result<(), Memory>
+    ensures { OnOk result (Some solution.new
+        ≡ react_received solution.old rule.now took.now (Some names.now)) }
+{
+    take_out_all(&mut solution.atoms, took);
+    pour_at(alloc, solution, names, rule.loc, &rule.body)
 }
 
 /// Whether a location can move: a live location with a host may go to a live root.
@@ -315,12 +323,33 @@ fn move_to(
     if !can_go(solution, at, to) {
         return Ok(None);
     }
-    let places = with_hosts(alloc, at, to, &solution.places)?;
-    let atoms = without(alloc, id, &solution.atoms)?;
-    let moved = changed(alloc, solution, places, atoms)?;
-    let none = Items::new(alloc);
-    let after = pour_at(alloc, moved, &none, at, &continuation(alloc, cont))?;
-    Ok(Some(after))
+    let rehosted = with_hosts(alloc, at, to, &solution.places)?;
+    let mut after = solution.copy(alloc)?;
+    drop(mem::replace(&mut after.places, rehosted));
+    let moved = go_on(alloc, &mut after, id, at, cont);
+    changed(after, moved)
+}
+
+/// The request goes, and its continuation is poured at its location.
+fn go_on(
+    alloc: Global,
+    solution: &mut Numbered,
+    id: AtomId,
+    at: Loc,
+    cont: Ref,
+) -> Result<(), Memory>
+    ensures { OnOk result (solution.new
+        ≡ pour_at (record solution.old { atoms = without id solution.old.atoms }) [] at
+        (continuation cont)) }
+{
+    take_out(&mut solution.atoms, id);
+    pour_at(
+        alloc,
+        solution,
+        &Items::new(alloc),
+        at,
+        &continuation(alloc, cont),
+    )
 }
 
 fn move_atom(
@@ -354,16 +383,17 @@ fn halt_atom(
             if !solution.is_live(atom.loc) {
                 return Ok(None);
             }
-            let places = with_marks(alloc, atom.loc, &solution.places)?;
-            let atoms = without(alloc, id, &solution.atoms)?;
-            let after = changed(alloc, solution, places, atoms)?;
+            let marked = with_marks(alloc, atom.loc, &solution.places)?;
+            let mut after = solution.copy(alloc)?;
+            drop(mem::replace(&mut after.places, marked));
+            take_out(&mut after.atoms, id);
             Ok(Some(after))
         }
         _ => Ok(None),
     }
 }
 
-/// The request goes, and its continuation is poured at its location.
+/// A failure is told: the request goes, and its continuation is poured at its location.
 fn detect_of(
     alloc: Global,
     solution: &Numbered,
@@ -377,12 +407,9 @@ fn detect_of(
     if !can_detect(solution, at, of) {
         return Ok(None);
     }
-    let places = solution.places.copy(alloc)?;
-    let atoms = without(alloc, id, &solution.atoms)?;
-    let left = changed(alloc, solution, places, atoms)?;
-    let none = Items::new(alloc);
-    let after = pour_at(alloc, left, &none, at, &continuation(alloc, cont))?;
-    Ok(Some(after))
+    let mut after = solution.copy(alloc)?;
+    let told = go_on(alloc, &mut after, id, at, cont);
+    changed(after, told)
 }
 
 fn detect_atom(
@@ -428,6 +455,33 @@ pub fn apply(alloc: Global, solution: &Numbered, event: &Event) -> Result<Option
     }
 }
 
+/// The effect of an event in place. False where the event isn't possible.
+fn step(alloc: Global, reached: &mut Numbered, event: &Event) -> Result<bool, Memory>
+    ensures { IfOk result (λ done. apply reached.old event.now
+        ≡ cond done (Some reached.new) None) }
+{
+    match apply(alloc, reached, event)? {
+        Some(after) => {
+            drop(mem::replace(reached, after));
+            Ok(true)
+        }
+        None => Ok(false),
+    }
+}
+
+/// The events of a journal in place, one after another. False where one of them isn't possible.
+fn steps(alloc: Global, reached: &mut Numbered, journal: &Journal) -> Result<bool, Memory>
+    ensures { IfOk result (λ done. replay_from (Some reached.old) journal.now
+        ≡ cond done (Some reached.new) None) }
+{
+    for event in journal.as_slice() {
+        if !step(alloc, reached, event)? {
+            return Ok(false);
+        }
+    }
+    Ok(true)
+}
+
 /// The solution that the events of a journal lead to, one after another from the opening. None
 /// where one of them isn't possible.
 pub fn replay(
@@ -438,11 +492,15 @@ pub fn replay(
     ensures { IfOk result (λ after. after ≡ replay program.now journal.now) }
 {
     let mut reached = opening(alloc, program)?;
-    for event in journal.as_slice() {
-        match apply(alloc, &reached, event)? {
-            Some(after) => reached = after,
-            None => return Ok(None),
+    match steps(alloc, &mut reached, journal) {
+        Ok(true) => Ok(Some(reached)),
+        Ok(false) => {
+            drop(reached);
+            Ok(None)
+        }
+        Err(memory) => {
+            drop(reached);
+            Err(memory)
         }
     }
-    Ok(Some(reached))
 }

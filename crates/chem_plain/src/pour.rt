@@ -9,7 +9,7 @@ ghost use Rattle.chem_model.specs.Pour.{name_channel, name_ref, name_pats, name_
 ghost use Rattle.chem_model.specs.Pour.{name_place, name_places, loc_or, births_of, names_made};
 ghost use Rattle.chem_model.specs.Pour.{lay_rules, rules_made, pour as made_by};
 ghost use Rattle.chem_model.specs.Pour.{pour_all as made_by_all, lay_place as made_by_place};
-ghost use Rattle.chem_model.specs.Pour.{lay_places as made_by_places};
+ghost use Rattle.chem_model.specs.Pour.{lay_places as made_by_places, lay};
 ghost use Rattle.chem_model.specs.inside.Poured.{Pours};
 ghost use Rattle.chem_plain.specs.inside.Drawn.{drawn};
 
@@ -366,7 +366,7 @@ fn put_message(
 }
 
 /// The rules of a level get their numbers and stand at its location.
-pub(crate) fn put_rules(
+fn put_rules(
     alloc: Global,
     made: &mut Made,
     site: u32,
@@ -499,7 +499,7 @@ fn pour_all(
 
 /// Of each place its level is laid at its location, and then its process is poured there.
 #[cycle(pour)]
-pub(crate) fn lay_places(
+fn lay_places(
     alloc: Global,
     made: &mut Made,
     seen: &Nums,
@@ -539,4 +539,21 @@ fn lay_place(
             pour(alloc, made, seen, root, names, at, body)
         }
     }
+}
+
+/// Lays a level at a location with these names: its rules, and then its places.
+pub(crate) fn lay(
+    alloc: Global,
+    made: &mut Made,
+    seen: &Nums,
+    root: Loc,
+    names: &Naming,
+    at: Loc,
+    defs: &Defs,
+) -> Result<(), Memory>
+    ensures { OnOk result (Pours made.old made.new
+        (lay seen.now root.site root names.now at made.old.next (definitions defs.now))) }
+{
+    put_rules(alloc, made, root.site, names, at, defs)?;
+    lay_places(alloc, made, seen, root, names, at, defs)
 }

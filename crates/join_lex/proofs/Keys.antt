@@ -27,7 +27,7 @@ key-run key.Fail = record { head = 102; more = _; is = refl; starts = refl; pass
 key-run key.Halt = record { head = 104; more = _; is = refl; starts = refl; passes = (refl, (refl, (refl, tt))) }
 key-run key.Void = record { head = 110; more = _; is = refl; starts = refl; passes = (refl, (refl, (refl, tt))) }
 
-read_back : (k : Key) → key_at first_version.keywords (key_bytes k) ≡ Some k
+pub read_back : (k : Key) → key_at first_version.keywords (key_bytes k) ≡ Some k
 read_back key.Observe = refl
 read_back key.Site = refl
 read_back key.Def = refl

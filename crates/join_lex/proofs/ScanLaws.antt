@@ -1,6 +1,7 @@
 -- The piece that is computed is the one with which a text begins.
 use Rattle.std.proofs.Common.{◌≡◌, ◌≢◌, ◌⊎◌, ℕ, ◌<◌, ◌≤◌, Bool, true, false, cond, List, [], ◌∷◌, ◌++◌, length, take, refl, sym, ap, ◌∙◌, inl, inr, arith, Result, Ok, Err, Option, Some, None, eqb, leb}
 use Rattle.std.specs.List.{take_while}
+use Rattle.std.specs.Prelude.{slice_index}
 use Rattle.std.proofs.lemmas.Bool.Decides.{nat_tests}
 use Rattle.std.proofs.lemmas.List.Sums.{take_while-cons}
 use Rattle.join_base.specs.declared.fault.Kind.{Kind}
@@ -50,6 +51,13 @@ digit-not b e = (grind (arith, nat_tests), grind (arith, nat_tests), grind (arit
 
 pub hash-not : (b : ℕ) → is_hash b ≡ true → (is_blank b ≡ false) × (in_line b ≡ true)
 hash-not b e = (grind (arith, nat_tests), grind (arith, nat_tests))
+
+-- the scan of a text that begins with a letter, with a digit, with another byte
+pub scan-lower : (version : Version) (text : List ℕ) → is_lower (slice_index text 0) ≡ true → scan version text ≡ Ok (word_piece version (take_while in_word text))
+scan-lower version text e = let t = lower-not (slice_index text 0) e in rw (t.0, t.1, e) refl
+
+pub scan-digit : (version : Version) (text : List ℕ) → is_digit (slice_index text 0) ≡ true → scan version text ≡ number_piece version (take_while is_digit text)
+scan-digit version text e = let t = digit-not (slice_index text 0) e in rw (t.0, t.1, t.2, e) refl
 
 -- What a piece that begins a text makes of the scan: the piece, or a large number.
 abbrev pub Found : Version → Piece → Result Piece Kind → Type 0

@@ -1,9 +1,10 @@
 // The first piece of a text: a blank, a comment or a token.
-ghost use Rattle.std.specs.Prelude.{◌≡◌, ◌≢◌, ◌<◌, ◌≤◌, length, IfOk, IfSome, IfNone, min};
-ghost use Rattle.std.specs.List.{prefix_len};
+ghost use Rattle.std.specs.Prelude.{◌≡◌, ◌≢◌, ◌<◌, ◌≤◌, ℕ, length, IfOk, IfSome, IfNone, Ok};
+ghost use Rattle.std.specs.Prelude.{min};
+ghost use Rattle.std.specs.List.{prefix_len, take_while};
 ghost use Rattle.join_lex.specs.Spelling.{first_version, in_word, is_digit};
 ghost use Rattle.join_lex.specs.Spelling.{in_line, value_of, key_bytes};
-ghost use Rattle.join_lex.specs.inside.Scan.{sign_at, Scans};
+ghost use Rattle.join_lex.specs.inside.Scan.{sign_at, word_piece, number_piece, IsPieceAt, Scans};
 ghost use Rattle.join_lex.specs.declared.token.Key.{Key};
 
 use crate::token::{Key, Kind2, Sign};
@@ -95,6 +96,38 @@ fn sign_of(bytes: &[u8]) -> Option<(Sign, usize)>
     }
 }
 
+/// The word at the front, and how many bytes it has: a keyword or an identifier.
+fn word_at(alloc: Global, text: &[u8]) -> Result<(Option<Kind2>, usize), Front>
+    ensures scanned { (place : ℕ) → IsPieceAt
+        (Ok (word_piece first_version (take_while in_word text.now))) place text.now result }
+    ensures bound { IfOk result (λ found. found.1 ≤ length text.now) }
+{
+    let len = word_len(text);
+    let word = &text[..len];
+    match key_of(word) {
+        Some(key) => Ok((Some(Kind2::Key(key)), len)),
+        None => Ok((Some(Kind2::Ident(Text::from_slice(alloc, word)?)), len)),
+    }
+}
+
+/// The number at the front, and how many bytes it has.
+fn number_at(text: &[u8], place: u32) -> Result<(Option<Kind2>, usize), Front>
+    ensures scanned { IsPieceAt
+        (number_piece first_version (take_while is_digit text.now)) place text.now result }
+    ensures bound { IfOk result (λ found. found.1 ≤ length text.now) }
+{
+    let len = digits_len(text);
+    let value = value_up_to_bound(&text[..len]);
+    if value > LARGEST {
+        Err(Front::Refused {
+            kind: Kind::Lex3,
+            place,
+        })
+    } else {
+        Ok((Some(Kind2::Number(value)), len))
+    }
+}
+
 /// The first piece of a text that isn't empty: what token it is, where it is one, and how many
 /// bytes it has. `place` is where the text stands; a fault is answered at it.
 pub fn scan(alloc: Global, text: &[u8], place: u32) -> Result<(Option<Kind2>, usize), Front>
@@ -105,26 +138,8 @@ pub fn scan(alloc: Global, text: &[u8], place: u32) -> Result<(Option<Kind2>, us
     match text[0] {
         b' ' | b'\t' | b'\n' | b'\r' => Ok((None, 1)),
         b'#' => Ok((None, line_len(text))),
-        b'a'..=b'z' => {
-            let len = word_len(text);
-            let word = &text[..len];
-            match key_of(word) {
-                Some(key) => Ok((Some(Kind2::Key(key)), len)),
-                None => Ok((Some(Kind2::Ident(Text::from_slice(alloc, word)?)), len)),
-            }
-        }
-        b'0'..=b'9' => {
-            let len = digits_len(text);
-            let value = value_up_to_bound(&text[..len]);
-            if value > LARGEST {
-                Err(Front::Refused {
-                    kind: Kind::Lex3,
-                    place,
-                })
-            } else {
-                Ok((Some(Kind2::Number(value)), len))
-            }
-        }
+        b'a'..=b'z' => word_at(alloc, text),
+        b'0'..=b'9' => number_at(text, place),
         _ => match sign_of(text) {
             Some((sign, len)) => Ok((Some(Kind2::Sign(sign)), len)),
             None => Err(Front::Refused {

@@ -27,6 +27,9 @@ module _ (ts : List Token) where
   pub names-all : (at end upto : ℕ) (list : List Word) → ListedNames ts at end list → terms ts end ≡ a_sign sign.ParenRight ∷ terms ts upto → terms ts at ≡ names list (terms ts upto)
   names-all at end upto list l close = l [] (terms ts upto) close ∙ ap (λ xs. names xs (terms ts upto)) (append-nil list)
 
+  pub patterns-first : (at upto : ℕ) (p : PatTree) → length p.params ≤ 255 → terms ts at ≡ applied p.on p.params (terms ts upto) → ListedPatterns ts at upto (p ∷ [])
+  patterns-first at upto p few e = λ ps rest a q. (tt, (few, a), e ∙ ap (applied p.on p.params) q)
+
   pub patterns-more : (at end mid upto : ℕ) (list : List PatTree) (p : PatTree) → ListedPatterns ts at end list → terms ts end ≡ a_sign sign.Bar ∷ terms ts mid → length p.params ≤ 255 → terms ts mid ≡ applied p.on p.params (terms ts upto) → ListedPatterns ts at upto (list ++ p ∷ [])
   patterns-more at end mid upto list p l bar few e = λ ps rest a q.
       let h = l (p ∷ ps) rest (few, a) (bar ∙ ap (λ r. a_sign sign.Bar ∷ r) (e ∙ ap (applied p.on p.params) q)) in

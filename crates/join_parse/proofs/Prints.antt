@@ -7,11 +7,11 @@ use Rattle.join_parse.specs.declared.word.PatTree.{PatTree}
 use Rattle.join_parse.specs.declared.word.SeenTree.{SeenTree}
 use Rattle.join_parse.specs.declared.tree.PlaceTree.{PlaceTree}
 use Rattle.join_parse.specs.Terminals.{Terminal, a_site, a_key, a_sign, named}
-use Rattle.join_parse.specs.Source.{Definition, definitions}
-use Rattle.join_parse.specs.Grammar.{TreeOfText, IsNotEmpty, IsGrammatical, sentence, applied, of_definitions, of_declarations, of_sites}
+use Rattle.join_parse.specs.Source.{Process, processes, Definition, definitions}
+use Rattle.join_parse.specs.Grammar.{TreeOfText, IsNotEmpty, IsGrammatical, sentence, applied, of_process, of_definition, of_definitions, of_declarations, of_sites}
 use Rattle.join_parse.specs.Printed.{spelling, printed, printed_behind}
 use Rattle.join_parse.specs.inside.Printed.{spaced, Prints, between}
-use Rattle.join_parse.proofs.LeftToPrint.{left_names, left_patterns, left_definitions}
+use Rattle.join_parse.proofs.LeftToPrint.{left_names, left_patterns, left_processes, left_definitions}
 
 -- one member further
 module _ {A : Type 0} (left : Bool → List A → List Terminal → List Terminal) (one : A → List Terminal → List Terminal) (t : Terminal)
@@ -33,8 +33,21 @@ pub patterns-law : (first : Bool) (p : PatTree) (ps : List PatTree) (rest : List
 patterns-law true p ps rest = refl
 patterns-law false p ps rest = refl
 
+abbrev pub left_members : Bool → List Process → List Terminal → List Terminal
+left_members first ps = left_processes first (processes ps)
+
+pub members-law : (first : Bool) (p : Process) (ps : List Process) (rest : List Terminal) → left_members first (p ∷ ps) rest ≡ between first (a_sign sign.Bar) (of_process p (left_members false ps rest))
+members-law true p ps rest = refl
+members-law false p ps rest = refl
+
 abbrev pub left_clauses : Bool → List Definition → List Terminal → List Terminal
 left_clauses first ds = left_definitions first (definitions ds)
+
+pub clauses-law : (first : Bool) (d : Definition) (ds : List Definition) (rest : List Terminal) → left_clauses first (d ∷ ds) rest ≡ between first (a_key key.And) (of_definition d (left_clauses false ds rest))
+clauses-law true d [] rest = refl
+clauses-law true d (e ∷ ds) rest = refl
+clauses-law false d [] rest = refl
+clauses-law false d (e ∷ ds) rest = refl
 
 pub definitions-begin : (ds : List Definition) → (ds ≡ [] → ⊥) → (out : List ℕ) (rest : List Terminal) → spaced out (of_definitions (definitions ds) rest) ≡ spaced out (left_clauses true ds rest)
 definitions-begin [] n out rest = absurd (n refl)

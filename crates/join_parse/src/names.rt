@@ -1,7 +1,8 @@
 // Identifiers between parentheses, join patterns, and the two names of a request.
 ghost use Rattle.std.specs.Prelude.{◌≡◌, ◌∷◌, [], ◌≤◌, length, IfOk};
 ghost use Rattle.join_parse.specs.Grammar.{names, applied, patterns, pair, IsNotEmpty, AreShort};
-ghost use Rattle.join_parse.specs.Begins.{Names};
+ghost use Rattle.join_parse.specs.Terminals.{a_sign, named};
+ghost use Rattle.join_parse.specs.Begins.{AName, ASign, Names};
 ghost use Rattle.join_parse.specs.inside.Parsed.{terms, a_pattern, some_patterns};
 ghost use Rattle.join_parse.specs.inside.Parsed.{a_pair, AtMost, Reads, Fails};
 
@@ -82,6 +83,25 @@ pub fn patterns(
     Ok((list, end))
 }
 
+// A sign, and an identifier behind it.
+fn word_behind(
+    alloc: Global,
+    tokens: &[Token],
+    b: Bounds,
+    at: usize,
+    before: Sign,
+) -> Result<(Word, usize), Front>
+    ensures reads { IfOk result (λ r.
+        Reads b (AtMost b.levels) tokens.now at (ASign before ∷ AName ∷ []) r.1 []) }
+    ensures spelled { IfOk result (λ r.
+        terms tokens.now at ≡ a_sign before ∷ named r.0 ∷ terms tokens.now r.1) }
+    ensures fails { Fails b (AtMost b.levels) tokens.now at (ASign before ∷ AName ∷ []) result }
+{
+    let upto = sign(tokens, b, at, before)?;
+    let (name, upto) = word(alloc, tokens, b, upto)?;
+    Ok((name, upto))
+}
+
 // "(" ident "," ident ")"
 pub fn pair(
     alloc: Global,
@@ -93,10 +113,8 @@ pub fn pair(
     ensures spelled { IfOk result (λ r. terms tokens.now at ≡ pair r.0 r.1 (terms tokens.now r.2)) }
     ensures fails { Fails b (AtMost b.levels) tokens.now at a_pair result }
 {
-    let upto = sign(tokens, b, at, Sign::ParenLeft)?;
-    let (one, upto) = word(alloc, tokens, b, upto)?;
-    let upto = sign(tokens, b, upto, Sign::Comma)?;
-    let (other, upto) = word(alloc, tokens, b, upto)?;
+    let (one, upto) = word_behind(alloc, tokens, b, at, Sign::ParenLeft)?;
+    let (other, upto) = word_behind(alloc, tokens, b, upto, Sign::Comma)?;
     let upto = sign(tokens, b, upto, Sign::ParenRight)?;
     Ok((one, other, upto))
 }

@@ -1,7 +1,7 @@
 // The text of a tree.
 ghost use Rattle.std.specs.Prelude.{◌≡◌, ◌∷◌, ◌++◌, ◌≤◌, length, IfOk, OnOk};
 ghost use Rattle.join_parse.specs.Terminals.{a_number, a_key, a_site, a_sign, named, key_terminal};
-ghost use Rattle.join_parse.specs.Source.{processes, definitions};
+ghost use Rattle.join_parse.specs.Source.{Halt, processes, definitions};
 ghost use Rattle.join_parse.specs.Grammar.{names, applied, pair, patterns, of_process};
 ghost use Rattle.join_parse.specs.Grammar.{of_processes, of_definition, of_definitions};
 ghost use Rattle.join_parse.specs.Grammar.{of_declarations, of_sites, sentence};
@@ -17,7 +17,7 @@ use crate::text::Tree;
 use crate::tree::{
     DefNode, DefTree, DefTrees, PlaceTree, PlaceTrees, ProcNode, ProcTree, ProcTrees,
 };
-use crate::word::{PatTree, PatTrees, SeenTree, SeenTrees, Word, Words};
+use crate::word::{PatTrees, SeenTree, SeenTrees, Word, Words};
 use chem_model::{Memory, Text};
 use join_lex::{Key, Sign};
 use std::alloc::Global;
@@ -124,12 +124,13 @@ fn put_names(out: &mut Text, list: &Words) -> Result<(), Memory>
     put_sign(out, Sign::ParenRight)
 }
 
-fn put_pattern(out: &mut Text, pattern: &PatTree) -> Result<(), Memory>
-    ensures { OnOk result (Prints out.old out.new (applied pattern.now.on pattern.now.params)) }
+// A channel, and identifiers in parentheses behind it.
+fn put_applied(out: &mut Text, on: &Word, list: &Words) -> Result<(), Memory>
+    ensures { OnOk result (Prints out.old out.new (applied on.now list.now)) }
 {
-    put_word(out, &pattern.on)?;
+    put_word(out, on)?;
     put_sign(out, Sign::ParenLeft)?;
-    put_names(out, &pattern.params)
+    put_names(out, list)
 }
 
 // Message patterns with `|` between them, and `=>`.
@@ -139,7 +140,7 @@ fn put_patterns(out: &mut Text, list: &PatTrees) -> Result<(), Memory>
     let mut first = true;
     for pattern in list.as_slice() {
         put_sign_between(out, first, Sign::Bar)?;
-        put_pattern(out, pattern)?;
+        put_applied(out, &pattern.on, &pattern.params)?;
         first = false;
     }
     put_sign(out, Sign::Arrow)
@@ -153,6 +154,24 @@ fn put_pair(out: &mut Text, one: &Word, other: &Word) -> Result<(), Memory>
     put_word(out, one)?;
     put_sign(out, Sign::Comma)?;
     put_word(out, other)?;
+    put_sign(out, Sign::ParenRight)
+}
+
+// A keyword, and the two names of a request.
+fn put_request(out: &mut Text, key: Key, one: &Word, other: &Word) -> Result<(), Memory>
+    ensures { OnOk result (Prints out.old out.new (λ rest.
+        key_terminal key 0 ∷ pair one.now other.now rest)) }
+{
+    put_key(out, key)?;
+    put_pair(out, one, other)
+}
+
+// The request to halt.
+fn put_halt(out: &mut Text) -> Result<(), Memory>
+    ensures { OnOk result (Prints out.old out.new (of_process Halt)) }
+{
+    put_key(out, Key::Halt)?;
+    put_sign(out, Sign::ParenLeft)?;
     put_sign(out, Sign::ParenRight)
 }
 
@@ -175,24 +194,10 @@ fn put_process(alloc: Global, out: &mut Text, process: &ProcTree) -> Result<(), 
 {
     match process.node() {
         ProcNode::Zero => put_number(alloc, out, 0),
-        ProcNode::Msg { on, args } => {
-            put_word(out, on)?;
-            put_sign(out, Sign::ParenLeft)?;
-            put_names(out, args)
-        }
-        ProcNode::Go { target, cont } => {
-            put_key(out, Key::Go)?;
-            put_pair(out, target, cont)
-        }
-        ProcNode::Fail { target, cont } => {
-            put_key(out, Key::Fail)?;
-            put_pair(out, target, cont)
-        }
-        ProcNode::Halt => {
-            put_key(out, Key::Halt)?;
-            put_sign(out, Sign::ParenLeft)?;
-            put_sign(out, Sign::ParenRight)
-        }
+        ProcNode::Msg { on, args } => put_applied(out, on, args),
+        ProcNode::Go { target, cont } => put_request(out, Key::Go, target, cont),
+        ProcNode::Fail { target, cont } => put_request(out, Key::Fail, target, cont),
+        ProcNode::Halt => put_halt(out),
         ProcNode::Group(members) => {
             put_sign(out, Sign::ParenLeft)?;
             put_processes(alloc, out, members)?;

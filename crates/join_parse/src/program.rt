@@ -5,8 +5,9 @@ ghost use Rattle.join_parse.specs.Grammar.{of_declarations, of_sites};
 ghost use Rattle.join_parse.specs.Grammar.{AreDeclarations, AreSites, IsNotEmpty};
 ghost use Rattle.join_parse.specs.Begins.{Program};
 ghost use Rattle.join_parse.specs.inside.Parsed.{terms, next_is_key, AtMost, Exactly};
-ghost use Rattle.join_parse.specs.inside.Parsed.{a_declaration, a_whole_site, some_sites};
-ghost use Rattle.join_parse.specs.inside.Parsed.{Runs, Reads, Fails, SpellsDeclaration, SpellsSite};
+ghost use Rattle.join_parse.specs.inside.Parsed.{a_count, a_declaration, a_whole_site, some_sites};
+ghost use Rattle.join_parse.specs.inside.Parsed.{Runs, Reads, Fails};
+ghost use Rattle.join_parse.specs.inside.Parsed.{SpellsCount, SpellsDeclaration, SpellsSite};
 
 use crate::bounds::Bounds;
 use crate::cursor::{count, is_key_at, key, place_at, sign, word};
@@ -17,6 +18,19 @@ use chem_model::Items;
 use join_base::Front;
 use join_lex::{Key, Sign, Token};
 use std::alloc::Global;
+
+// "/" number ";"
+fn declared_count(tokens: &[Token], b: Bounds, at: usize) -> Result<(u32, usize), Front>
+    ensures reads { IfOk result (λ r. Reads b (AtMost b.levels) tokens.now at a_count r.1 []) }
+    ensures small { IfOk result (λ r. r.0 ≤ 255) }
+    ensures spelled { IfOk result (λ r. SpellsCount tokens.now at r.0 r.1) }
+    ensures fails { Fails b (AtMost b.levels) tokens.now at a_count result }
+{
+    let upto = sign(tokens, b, at, Sign::Slash)?;
+    let (count, upto) = count(tokens, b, upto)?;
+    let upto = sign(tokens, b, upto, Sign::Semicolon)?;
+    Ok((count, upto))
+}
 
 // "observe" ident "/" number ";"
 fn declaration(
@@ -33,9 +47,7 @@ fn declaration(
 {
     let upto = key(tokens, b, at, Key::Observe)?;
     let (name, upto) = word(alloc, tokens, b, upto)?;
-    let upto = sign(tokens, b, upto, Sign::Slash)?;
-    let (count, upto) = count(tokens, b, upto)?;
-    let upto = sign(tokens, b, upto, Sign::Semicolon)?;
+    let (count, upto) = declared_count(tokens, b, upto)?;
     Ok((SeenTree { name, count }, upto))
 }
 

@@ -2,7 +2,7 @@
 ghost use Rattle.std.specs.Prelude.{◌≡◌, IfOk};
 ghost use Rattle.join_parse.specs.Source.{processes, definitions};
 
-use crate::word::{PatTrees, Word, Words, copy_patterns, copy_words};
+use crate::word::{PatTrees, Word, Words, copy_pair, copy_patterns, copy_words};
 use chem_model::{Items, Memory};
 use std::alloc::Global;
 use std::marker::Model;
@@ -189,13 +189,11 @@ impl ProcTree {
                 Ok(ProcTree::msg(on, args))
             }
             ProcNode::Go { target, cont } => {
-                let target = target.copy(alloc)?;
-                let cont = cont.copy(alloc)?;
+                let (target, cont) = copy_pair(alloc, target, cont)?;
                 Ok(ProcTree::go(target, cont))
             }
             ProcNode::Fail { target, cont } => {
-                let target = target.copy(alloc)?;
-                let cont = cont.copy(alloc)?;
+                let (target, cont) = copy_pair(alloc, target, cont)?;
                 Ok(ProcTree::fail(target, cont))
             }
             ProcNode::Halt => Ok(ProcTree::halt()),
@@ -284,7 +282,8 @@ pub fn copy_processes(alloc: Global, list: &ProcTrees) -> Result<ProcTrees, Memo
 {
     let mut members = Items::new(alloc);
     for member in list.as_slice() {
-        members.push(member.copy(alloc)?)?;
+        let copy = member.copy(alloc)?;
+        members.push(copy)?;
     }
     Ok(members)
 }
@@ -296,7 +295,8 @@ pub fn copy_definitions(alloc: Global, list: &DefTrees) -> Result<DefTrees, Memo
 {
     let mut members = Items::new(alloc);
     for member in list.as_slice() {
-        members.push(member.copy(alloc)?)?;
+        let copy = member.copy(alloc)?;
+        members.push(copy)?;
     }
     Ok(members)
 }

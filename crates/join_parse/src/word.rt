@@ -68,6 +68,16 @@ impl SeenTree {
     }
 }
 
+/// Two identifiers that are equal to these.
+pub fn copy_pair(alloc: Global, one: &Word, other: &Word) -> Result<(Word, Word), Memory>
+    ensures one { IfOk result (λ copies. copies.0 ≡ one.now) }
+    ensures other { IfOk result (λ copies. copies.1 ≡ other.now) }
+{
+    let first = one.copy(alloc)?;
+    let second = other.copy(alloc)?;
+    Ok((first, second))
+}
+
 /// A list that is equal to this one.
 pub fn copy_words(alloc: Global, list: &Words) -> Result<Words, Memory>
     ensures { IfOk result (λ copy. copy ≡ list.now) }

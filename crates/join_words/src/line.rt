@@ -1,13 +1,14 @@
 // The texts that the words of a line give.
-ghost use Rattle.std.specs.Prelude.{◌≡◌, IfOk, map, string_bytes};
+ghost use Rattle.std.specs.Prelude.{◌≡◌, IfOk, codes, false, map, string_bytes};
 ghost use Rattle.std.specs.List.{All};
 ghost use Rattle.std.specs.Str.{IsUtf8};
-ghost use Rattle.clap.specs.Words.{app_of, kind_of};
-ghost use Rattle.join_words.specs.inside.Command.{Gives, line_app};
+ghost use Rattle.clap.specs.Words.{app_of, found_of, kind_of, rule_of};
+ghost use Rattle.join_words.specs.inside.Command.{Gives, Shows, bare, flagged, line_app};
+ghost use Rattle.join_words.specs.inside.Command.{optional, options_app, plain_app};
 
 use crate::answer::WordEnd;
 use clap::error::ErrorKind;
-use clap::{Arg, ArgAction, Command, Error};
+use clap::{Arg, ArgAction, ArgMatches, Command, Error};
 use std::alloc::{AllocError, Global};
 
 /// The text of each part of a line that was given.
@@ -21,23 +22,57 @@ pub struct LineTexts<'a> {
     pub log: bool,
 }
 
-/// The parts of a line: the first plain word, the second, the options and the flag.
-fn line_command<'a>(alloc: Global) -> Result<Command<'a>, AllocError>
-    ensures { IfOk result (λ command. app_of command ≡ line_app) }
+/// An option that takes a value, read back by its name.
+fn valued_option<'a>(alloc: Global, name: &'a str) -> Arg<'a>
+    ensures rule { rule_of result ≡ optional name.entry.now }
+    ensures local { result.global ≡ false }
+{
+    Arg::new(alloc, name).long(name)
+}
+
+/// The flag of the log.
+fn log_flag<'a>(alloc: Global) -> Arg<'a>
+    ensures rule { rule_of result ≡ flagged (codes "log") }
+    ensures local { result.global ≡ false }
+{
+    Arg::new(alloc, "log")
+        .long("log")
+        .action(ArgAction::SetTrue)
+}
+
+/// A command without parts.
+fn bare_command<'a>(alloc: Global) -> Command<'a>
+    ensures { app_of result ≡ bare }
 {
     Command::new(alloc, "join")
         .no_binary_name(true)
         .disable_help_flag(true)
+}
+
+/// A command of the two plain words.
+fn plain_command<'a>(alloc: Global) -> Result<Command<'a>, AllocError>
+    ensures { IfOk result (λ command. app_of command ≡ plain_app) }
+{
+    bare_command(alloc)
         .arg(Arg::new(alloc, "mode"))?
-        .arg(Arg::new(alloc, "ring"))?
-        .arg(Arg::new(alloc, "budget").long("budget"))?
-        .arg(Arg::new(alloc, "workers").long("workers"))?
-        .arg(Arg::new(alloc, "by").long("by"))?
-        .arg(
-            Arg::new(alloc, "log")
-                .long("log")
-                .action(ArgAction::SetTrue),
-        )
+        .arg(Arg::new(alloc, "ring"))
+}
+
+/// This command with the options that take a value.
+fn with_options<'a>(alloc: Global, command: Command<'a>) -> Result<Command<'a>, AllocError>
+    ensures { IfOk result (λ c. app_of c ≡ options_app (app_of command.entry)) }
+{
+    command
+        .arg(valued_option(alloc, "budget"))?
+        .arg(valued_option(alloc, "workers"))?
+        .arg(valued_option(alloc, "by"))
+}
+
+/// The parts of a line: the first plain word, the second, the options and the flag.
+fn line_command<'a>(alloc: Global) -> Result<Command<'a>, AllocError>
+    ensures { IfOk result (λ command. app_of command ≡ line_app) }
+{
+    with_options(alloc, plain_command(alloc)?)?.arg(log_flag(alloc))
 }
 
 fn end_of(error: &Error) -> WordEnd
@@ -64,6 +99,20 @@ pub fn texts_of<'a>(alloc: Global, words: &'a [String]) -> Result<Vec<&'a str>, 
     Ok(texts)
 }
 
+/// The texts of the line that these matches have.
+fn line_texts<'a>(matches: &ArgMatches<'a>) -> LineTexts<'a>
+    ensures { Shows (found_of matches.now) result }
+{
+    LineTexts {
+        mode: matches.get_str("mode"),
+        ring: matches.get_str("ring"),
+        budget: matches.get_str("budget"),
+        workers: matches.get_str("workers"),
+        by: matches.get_str("by"),
+        log: matches.get_flag("log"),
+    }
+}
+
 /// The texts of the line that these words write. `Form` comes only where the words ask for nothing.
 pub fn texts_given<'a>(alloc: Global, words: &'a [&'a str]) -> Result<LineTexts<'a>, WordEnd>
     requires { All IsUtf8 (map (λ s. s.now) words.now) }
@@ -71,14 +120,15 @@ pub fn texts_given<'a>(alloc: Global, words: &'a [&'a str]) -> Result<LineTexts<
 {
     let command = line_command(alloc)?;
     match command.try_get_matches_from(words) {
-        Ok(matches) => Ok(LineTexts {
-            mode: matches.get_str("mode"),
-            ring: matches.get_str("ring"),
-            budget: matches.get_str("budget"),
-            workers: matches.get_str("workers"),
-            by: matches.get_str("by"),
-            log: matches.get_flag("log"),
-        }),
-        Err(error) => Err(end_of(&error)),
+        Ok(matches) => {
+            let texts = line_texts(&matches);
+            drop(matches);
+            Ok(texts)
+        }
+        Err(error) => {
+            let end = end_of(&error);
+            drop(error);
+            Err(end)
+        }
     }
 }

@@ -2,6 +2,7 @@
 ghost use Rattle.std.specs.Prelude.{◌≡◌, map, option_map, string_bytes, IfOk, IfSome};
 ghost use Rattle.join_words.specs.Asks.{Answers, IsWithin, asked, by_named, by_or_alone, judged};
 ghost use Rattle.join_words.specs.inside.Command.{line_given};
+ghost use Rattle.join_words.specs.inside.Modes.{AreNumbers, with_gen, without_gen};
 
 use crate::answer::{Asked, By, WordEnd};
 use crate::line::{LineTexts, texts_given, texts_of};
@@ -43,28 +44,34 @@ fn named_unless(text: Option<&str>) -> Option<By>
     }
 }
 
-/// What a line of these texts asks for.
-fn asked_of(given: &LineTexts) -> Option<Asked>
-    ensures asked { result ≡ judged (line_given given.now) }
+/// What a line asks for whose mode is `gen`.
+fn ring_asked(given: &LineTexts, budget: u32, workers: u32) -> Option<Asked>
+    requires { AreNumbers budget workers }
+    ensures asked { result ≡ with_gen (line_given given.now)
+        (option_map (λ s. s.now) given.now.ring) budget workers }
     ensures within { IfSome result IsWithin }
 {
-    let budget = number_unless(given.budget, DEFAULT_BUDGET, 0, MOST_EVENTS)?;
-    let workers = number_unless(given.workers, DEFAULT_WORKERS, 1, MOST_WORKERS)?;
-    let mode = given.mode?;
-    if mode == "gen" {
-        let sites = number(given.ring?, 1, MOST_SITES)?;
-        if given.log {
-            return None;
-        }
-        let by = named_unless(given.by)?;
-        return Some(Asked {
-            by,
-            ring: Some(sites),
-            budget,
-            workers,
-            log: false,
-        });
+    let sites = number(given.ring?, 1, MOST_SITES)?;
+    if given.log {
+        return None;
     }
+    let by = named_unless(given.by)?;
+    Some(Asked {
+        by,
+        ring: Some(sites),
+        budget,
+        workers,
+        log: false,
+    })
+}
+
+/// What a line asks for that has another mode than `gen`.
+fn program_asked(given: &LineTexts, mode: &str, budget: u32, workers: u32) -> Option<Asked>
+    requires { AreNumbers budget workers }
+    ensures asked { result ≡ without_gen (line_given given.now)
+        (option_map (λ s. s.now) given.now.ring) mode.now budget workers }
+    ensures within { IfSome result IsWithin }
+{
     if given.ring.is_some() || given.by.is_some() {
         return None;
     }
@@ -76,6 +83,21 @@ fn asked_of(given: &LineTexts) -> Option<Asked>
         workers,
         log: given.log,
     })
+}
+
+/// What a line of these texts asks for.
+fn asked_of(given: &LineTexts) -> Option<Asked>
+    ensures asked { result ≡ judged (line_given given.now) }
+    ensures within { IfSome result IsWithin }
+{
+    let budget = number_unless(given.budget, DEFAULT_BUDGET, 0, MOST_EVENTS)?;
+    let workers = number_unless(given.workers, DEFAULT_WORKERS, 1, MOST_WORKERS)?;
+    let mode = given.mode?;
+    if mode == "gen" {
+        ring_asked(given, budget, workers)
+    } else {
+        program_asked(given, mode, budget, workers)
+    }
 }
 
 /// What the words after the program's name ask for:

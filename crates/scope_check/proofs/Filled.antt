@@ -51,3 +51,9 @@ def-tables next slot nl p ds ps kept own0 own before a b c d is e pa new pb po p
     (pc ∙ ap (λ o. set b slot o) (po ∙ ap (λ o. (walk_level 0 1 next o ds).own) new))
     (pd ∙ ap (λ n. c ++ (walk_all n ps).tables) (pn ∙ ap (λ o. (walk_level 0 1 next o ds).spell) new))
     ∙ ap (λ q. before ++ (walk next q).tables) is
+
+-- and the spellings then
+pub def-spell : (next nl out : List (List ℕ)) (p : Process) (ds : Definitions) (ps : Processes) (own0 : Table)
+    → Def ds ps ≡ p → own0 ≡ [] → nl ≡ (walk_level 0 1 next own0 ds).spell → out ≡ (walk_all nl ps).spell → out ≡ (walk next p).spell
+def-spell next nl out p ds ps own0 is new pn po =
+    po ∙ ap (λ n. (walk_all n ps).spell) (pn ∙ ap (λ o. (walk_level 0 1 next o ds).spell) new) ∙ ap (λ q. (walk next q).spell) is

@@ -40,6 +40,16 @@ tables-step end end' spell spell' own own' x d rest scopes scopes' e o s n q =
     ∙ append_assoc scopes a.tables (walk_level 0 (end + places_of (place_of x)) a.spell a.own (sites_of rest)).tables
     ∙ ap (λ l. scopes ++ (walk_level 0 end spell own (sites_of l)).tables) (sym e)
 
+-- the same of one definition after the other
+pub level-tables : (at end end' : ℕ) (spell spell' : List (List ℕ)) (own own' : Table) (d : s.Definition) (ds : s.Definitions) (scopes scopes' : List Table)
+    → own' ≡ (walk_one at end spell own d).own → spell' ≡ (walk_one at end spell own d).spell → end' ≡ end + places_of d
+    → scopes' ≡ scopes ++ (walk_one at end spell own d).tables
+    → scopes' ++ (walk_level at end' spell' own' ds).tables ≡ scopes ++ (walk_level at end spell own (s.and_also d ds)).tables
+level-tables at end end' spell spell' own own' d ds scopes scopes' o s n q =
+    let a = walk_one at end spell own d in
+    (λ i. q i ++ (walk_level at (n i) (s i) (o i) ds).tables)
+    ∙ append_assoc scopes a.tables (walk_level at (end + places_of d) a.spell a.own ds).tables
+
 -- a list that isn't of one process
 pub par-is : (ps : List t.Process) → (length ps ≡ 1 → ⊥) → t.Par (t.processes ps) ≡ together ps
 par-is [] h = refl

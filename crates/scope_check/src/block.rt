@@ -68,10 +68,7 @@ fn one<'a>(list: &mut Vec<Defining<'a>>, at: u32, place: u32, d: &'a DefTree) ->
             channels(list, at, pats.as_slice())?;
             Ok(place)
         }
-        DefNode::Place(tree) => {
-            let end = location(list, place, tree)?;
-            Ok(end)
-        }
+        DefNode::Place(tree) => location(list, place, tree),
     }
 }
 
@@ -92,8 +89,7 @@ fn location<'a>(
         sort: Sort::Location,
     })?;
     let inner = place.checked_add(1).ok_or(Memory)?;
-    let end = level(list, place, inner, &tree.defs)?;
-    Ok(end)
+    level(list, place, inner, &tree.defs)
 }
 
 /// The names of the block of a `def`.

@@ -1,21 +1,22 @@
 // The check of a tree.
-ghost use Rattle.std.specs.Prelude.{◌≡◌, ◌+◌, ◌≤◌, ◌++◌, ◌∷◌, [], get_or};
+ghost use Rattle.std.specs.Prelude.{◌≡◌, ◌+◌, ◌≤◌, ◌++◌, ◌∷◌, [], None, get_or};
 ghost use Rattle.std.specs.Prelude.{length, drop, IfOk, IfErr, OnOk};
 ghost use Rattle.scope_check.specs.inside.Order.{first_of};
 ghost use Rattle.scope_check.specs.Blocks.{observed_from, defining, sites_of, scopes_in_defs};
+ghost use Rattle.scope_check.specs.Blocks.{outermost as outermost_names};
 ghost use Rattle.scope_check.specs.inside.FaultList.{many, level_faults};
 ghost use Rattle.scope_check.specs.inside.Clashes.{clashes_in};
 ghost use Rattle.scope_check.specs.inside.Naming.{outermost, walk_sites as walked_sites};
 ghost use Rattle.scope_check.specs.inside.Twin.{site_terms_in, level_uses_in};
 ghost use Rattle.scope_check.specs.Stands.{seen_decls};
 ghost use Rattle.scope_check.specs.Checked.{IsProgramOf, IsRefusedAs, AnswersProgram, AnswersFault};
-ghost use Rattle.scope_check.specs.Checked.{HasOneOutcome};
+ghost use Rattle.scope_check.specs.Checked.{HasOneOutcome, most_sites};
 ghost use Rattle.join_parse.specs.Grammar.{TreeOfText};
 
 use crate::block::{Defining, observed, sites};
 use crate::clashes::{clashes, place};
 use crate::fault::{Fault, note};
-use crate::naming::{fill, name_all, walk_sites};
+use crate::naming::{fill, keep_place, name_all, walk_sites};
 use crate::translate;
 use chem_model::{Memory, Program, SeenDecl, SeenDecls, SiteTerms, Texts};
 use join_base::{Front, Kind};
@@ -75,6 +76,30 @@ struct Tables<'a> {
     tops: u32,
 }
 
+/// Fills empty tables, but for that of the outermost scope, which is kept apart.
+fn number<'a>(
+    alloc: Global,
+    own: &mut Scope<'a>,
+    tables: &mut Tables<'a>,
+    names: &[Defining<'a>],
+    trees: &'a [PlaceTree],
+) -> Result<(), Memory>
+    requires own { own.old ≡ [] }
+    requires spell { tables.old.spell ≡ [] }
+    requires scopes { tables.old.scopes.items ≡ [] }
+    ensures tops { OnOk result (tables.new.tops ≡ length (outermost names.now).spell) }
+    ensures spell { OnOk result (tables.new.spell ≡ (walked_sites names.now trees.now).spell) }
+    ensures own { OnOk result (own.new ≡ (walked_sites names.now trees.now).own) }
+    ensures scopes { OnOk result (tables.new.scopes.items
+        ≡ [] ∷ (walked_sites names.now trees.now).tables) }
+{
+    name_all(alloc, own, &mut tables.spell, names)?;
+    tables.tops = tables.spell.len() as u32;
+    keep_place(alloc, &mut tables.scopes)?;
+    walk_sites(alloc, &mut tables.scopes, &mut tables.spell, own, trees)?;
+    Ok(())
+}
+
 fn numbered<'a>(
     alloc: Global,
     names: &[Defining<'a>],
@@ -86,18 +111,22 @@ fn numbered<'a>(
         ≡ (walked_sites names.now trees.now).own ∷ (walked_sites names.now trees.now).tables) }
 {
     let mut own = Scope::new(alloc);
-    let mut spell = Texts::new(alloc);
-    name_all(alloc, &mut own, &mut spell, names)?;
-    let tops = spell.len() as u32;
-    let mut scopes = Vec::new(alloc);
-    scopes.push(Scope::new(alloc))?;
-    walk_sites(alloc, &mut scopes, &mut spell, &mut own, trees)?;
-    fill(&mut scopes, 0, own)?;
-    Ok(Tables {
-        scopes,
-        spell,
-        tops,
-    })
+    let mut tables = Tables {
+        scopes: Vec::new(alloc),
+        spell: Texts::new(alloc),
+        tops: 0,
+    };
+    match number(alloc, &mut own, &mut tables, names, trees) {
+        Ok(()) => {
+            fill(&mut tables.scopes, 0, own)?;
+            Ok(tables)
+        }
+        Err(memory) => {
+            drop(own);
+            drop(tables);
+            Err(memory)
+        }
+    }
 }
 
 /// The terms of all sites.
@@ -136,20 +165,36 @@ fn declarations(alloc: Global, trees: &[SeenTree]) -> Result<SeenDecls, Memory>
     Ok(list)
 }
 
-/// The program that a tree stands for, or its first fault.
-fn program_of(alloc: Global, tree: &Tree) -> Result<Program, Front>
+/// The first fault of the definitions, and of the sites above the limit.
+fn first_declared(
+    alloc: Global,
+    names: &[Defining<'_>],
+    trees: &[PlaceTree],
+) -> Result<Option<Fault>, Memory>
+    ensures { IfOk result (λ least. least
+        ≡ first_of (first_of (first_of None (many (drop most_sites trees.now)))
+        (clashes_in [] names.now)) (level_faults (sites_of trees.now))) }
+{
+    let mut least = None;
+    above(SITES, trees, &mut least);
+    clashes(alloc, names, &mut least)?;
+    within(alloc, trees, &mut least)?;
+    Ok(least)
+}
+
+/// The program that a tree with these names in its outermost block stands for, or its first fault.
+fn program_with<'a>(alloc: Global, names: &[Defining<'a>], tree: &'a Tree) -> Result<Program, Front>
+    requires { names.now ≡ outermost_names tree.now }
     ensures program { IfOk result (IsProgramOf tree.now) }
     ensures fault { IfErr result (IsRefusedAs tree.now) }
 {
-    let mut least = None;
     let trees = tree.sites.as_slice();
-    above(SITES, trees, &mut least);
-    let names = names(alloc, tree.seen.as_slice(), trees)?;
-    clashes(alloc, names.as_slice(), &mut least)?;
-    within(alloc, trees, &mut least)?;
-    let tables = numbered(alloc, names.as_slice(), trees)?;
+    let mut least = first_declared(alloc, names, trees)?;
+    let tables = numbered(alloc, names, trees)?;
     let sites = terms(alloc, tables.scopes.as_slice(), trees, &mut least)?;
     if let Some(fault) = least {
+        drop(sites);
+        drop(tables);
         return Err(Front::Refused {
             kind: fault.kind,
             place: fault.place,
@@ -162,6 +207,15 @@ fn program_of(alloc: Global, tree: &Tree) -> Result<Program, Front>
         tops: tables.tops,
         spell: tables.spell,
     })
+}
+
+/// The program that a tree stands for, or its first fault.
+fn program_of(alloc: Global, tree: &Tree) -> Result<Program, Front>
+    ensures program { IfOk result (IsProgramOf tree.now) }
+    ensures fault { IfErr result (IsRefusedAs tree.now) }
+{
+    let names = names(alloc, tree.seen.as_slice(), tree.sites.as_slice())?;
+    program_with(alloc, names.as_slice(), tree)
 }
 
 /// The program that a tree stands for, or its first fault of scope or arity.

@@ -86,9 +86,22 @@ pub fn clashes(
     ensures { OnOk result (least.new ≡ first_of least.old (clashes_in [] names.now)) }
 {
     let mut so_far = Scope::new(alloc);
+    let result = clashes_after(&mut so_far, names, least);
+    drop(so_far);
+    result
+}
+
+/// The faults of a block's names that stand behind others.
+fn clashes_after<'a>(
+    so_far: &mut Scope<'a>,
+    names: &[Defining<'a>],
+    least: &mut Option<Fault>,
+) -> Result<(), Memory>
+    ensures { OnOk result (least.new ≡ first_of least.old (clashes_in so_far.old names.now)) }
+{
     for d in names {
-        clash_with_first(&so_far, d.word, d.sort, least);
-        keep(&mut so_far, d.word, d.sort)?;
+        clash_with_first(&*so_far, d.word, d.sort, least);
+        keep(so_far, d.word, d.sort)?;
     }
     Ok(())
 }
@@ -128,9 +141,22 @@ fn repeated_channels(
     ensures { OnOk result (least.new ≡ first_of least.old (channel_repeats [] pats.now)) }
 {
     let mut so_far = Scope::new(alloc);
+    let result = channels_after(&mut so_far, pats, least);
+    drop(so_far);
+    result
+}
+
+/// The channels with the spelling of an earlier one.
+fn channels_after<'a>(
+    so_far: &mut Scope<'a>,
+    pats: &'a [PatTree],
+    least: &mut Option<Fault>,
+) -> Result<(), Memory>
+    ensures { OnOk result (least.new ≡ first_of least.old (channel_repeats so_far.old pats.now)) }
+{
     for pat in pats {
-        repeat(&so_far, Kind::Scope5, &pat.on, least);
-        keep(&mut so_far, &pat.on, Sort::Parameter)?;
+        repeat(&*so_far, Kind::Scope5, &pat.on, least);
+        keep(so_far, &pat.on, Sort::Parameter)?;
     }
     Ok(())
 }
@@ -143,8 +169,21 @@ fn repeated_parameters(
     ensures { OnOk result (least.new ≡ first_of least.old (parameter_repeats [] pats.now)) }
 {
     let mut so_far = Scope::new(alloc);
+    let result = parameters_after(&mut so_far, pats, least);
+    drop(so_far);
+    result
+}
+
+/// The parameters with the spelling of an earlier one.
+fn parameters_after<'a>(
+    so_far: &mut Scope<'a>,
+    pats: &'a [PatTree],
+    least: &mut Option<Fault>,
+) -> Result<(), Memory>
+    ensures { OnOk result (least.new ≡ first_of least.old (parameter_repeats so_far.old pats.now)) }
+{
     for pat in pats {
-        repeats(&mut so_far, pat.params.as_slice(), least)?;
+        repeats(so_far, pat.params.as_slice(), least)?;
     }
     Ok(())
 }
@@ -181,10 +220,7 @@ fn process(alloc: Global, p: &ProcTree, least: &mut Option<Fault>) -> Result<(),
         | ProcNode::Go { .. }
         | ProcNode::Fail { .. }
         | ProcNode::Halt => Ok(()),
-        ProcNode::Group(list) => {
-            body(alloc, list, least)?;
-            Ok(())
-        }
+        ProcNode::Group(list) => body(alloc, list, least),
         ProcNode::Def { defs, body: list } => {
             block_faults(alloc, defs, least)?;
             level(alloc, defs, least)?;
@@ -214,10 +250,7 @@ fn definition(alloc: Global, d: &DefTree, least: &mut Option<Fault>) -> Result<(
             body(alloc, list, least)?;
             Ok(())
         }
-        DefNode::Place(tree) => {
-            place(alloc, tree, least)?;
-            Ok(())
-        }
+        DefNode::Place(tree) => place(alloc, tree, least),
     }
 }
 

@@ -1,6 +1,6 @@
 // The first walk: the tables of all scopes, each binder with its number, and the spellings in the
 // order of the numbers.
-ghost use Rattle.std.specs.Prelude.{◌≡◌, ◌+◌, ◌<◌, ◌++◌, OnOk, IfOk, length, set};
+ghost use Rattle.std.specs.Prelude.{◌≡◌, ◌+◌, ◌<◌, ◌++◌, ◌∷◌, [], OnOk, IfOk, length, set};
 ghost use Rattle.join_parse.specs.Source.{processes, definitions as source_definitions};
 ghost use Rattle.scope_check.specs.Blocks.{place_of, places_of, places, sites_of};
 ghost use Rattle.scope_check.specs.inside.Naming.{name_one as named_one, name_all as named_all};
@@ -108,6 +108,45 @@ fn name_patterns<'a>(
     Ok(())
 }
 
+/// The channels of a join pattern at a location, and the scope of its parameters.
+fn name_join<'a>(
+    alloc: Global,
+    scopes: &mut Vec<Scope<'a>>,
+    spell: &mut Texts,
+    own: &mut Scope<'a>,
+    at: u32,
+    pats: &'a [PatTree],
+) -> Result<(), Memory>
+    ensures own { OnOk result
+        (own.new ≡ (named_patterns at spell.old own.old [] pats.now).own) }
+    ensures scopes { OnOk result (scopes.new.items
+        ≡ scopes.old.items ++ (named_patterns at spell.old own.old [] pats.now).params ∷ []) }
+    ensures spell { OnOk result
+        (spell.new ≡ (named_patterns at spell.old own.old [] pats.now).spell) }
+{
+    let mut params = Scope::new(alloc);
+    match name_patterns(alloc, own, &mut params, spell, at, pats) {
+        Ok(()) => {
+            scopes.push(params)?;
+            Ok(())
+        }
+        Err(memory) => {
+            drop(params);
+            Err(memory)
+        }
+    }
+}
+
+/// The place that is kept for a scope, behind the others.
+pub fn keep_place<'a>(alloc: Global, scopes: &mut Vec<Scope<'a>>) -> Result<usize, Memory>
+    ensures place { IfOk result (λ slot. slot ≡ length scopes.old.items) }
+    ensures kept { OnOk result (scopes.new.items ≡ scopes.old.items ++ [] ∷ []) }
+{
+    let slot = scopes.len();
+    scopes.push(Scope::new(alloc))?;
+    Ok(slot)
+}
+
 /// Puts a scope in the place that was kept for it.
 pub fn fill<'a>(scopes: &mut Vec<Scope<'a>>, slot: usize, scope: Scope<'a>) -> Result<(), Memory>
     requires { slot < length scopes.old.items }
@@ -138,18 +177,20 @@ pub fn walk<'a>(
         | ProcNode::Go { .. }
         | ProcNode::Fail { .. }
         | ProcNode::Halt => Ok(()),
-        ProcNode::Group(list) => {
-            walk_all(alloc, scopes, spell, list)?;
-            Ok(())
-        }
+        ProcNode::Group(list) => walk_all(alloc, scopes, spell, list),
         ProcNode::Def { defs, body } => {
-            let slot = scopes.len();
-            scopes.push(Scope::new(alloc))?;
+            let slot = keep_place(alloc, scopes)?;
             let mut own = Scope::new(alloc);
-            walk_level(alloc, scopes, spell, &mut own, 0, 1, defs)?;
-            fill(scopes, slot, own)?;
-            walk_all(alloc, scopes, spell, body)?;
-            Ok(())
+            match walk_level(alloc, scopes, spell, &mut own, 0, 1, defs) {
+                Ok(_) => {
+                    fill(scopes, slot, own)?;
+                    walk_all(alloc, scopes, spell, body)
+                }
+                Err(memory) => {
+                    drop(own);
+                    Err(memory)
+                }
+            }
         }
     }
 }
@@ -191,16 +232,11 @@ fn walk_one<'a>(
 {
     match d.node() {
         DefNode::Rule { pats, body } => {
-            let mut params = Scope::new(alloc);
-            name_patterns(alloc, own, &mut params, spell, at, pats.as_slice())?;
-            scopes.push(params)?;
+            name_join(alloc, scopes, spell, own, at, pats.as_slice())?;
             walk_all(alloc, scopes, spell, body)?;
             Ok(place)
         }
-        DefNode::Place(tree) => {
-            let end = walk_place(alloc, scopes, spell, own, place, tree)?;
-            Ok(end)
-        }
+        DefNode::Place(tree) => walk_place(alloc, scopes, spell, own, place, tree),
     }
 }
 

@@ -52,10 +52,7 @@ pub fn process(
             Ok((Proc::fail(target, cont), at))
         }
         ProcNode::Halt => Ok((Proc::halt(), at)),
-        ProcNode::Group(list) => {
-            let (term, end) = body(alloc, scopes, at, env, list, least)?;
-            Ok((term, end))
-        }
+        ProcNode::Group(list) => body(alloc, scopes, at, env, list, least),
         ProcNode::Def { defs, body: list } => {
             let own = &scopes[at];
             let inner = Env::within(own, &*env);

@@ -30,34 +30,17 @@ pub enum Closed {
 
 /// The rows of a report, and why they don't agree with the book.
 #[derive(Drop)]
-struct Settled {
+pub(crate) struct Settled {
     rows: WorkedList,
     differs: Option<Differs>,
 }
 
-/// Ends a run: its book, where the receipts of all its passes agree with it, and a report of what
-/// each pass held. On want of memory the locked book and the passes come back.
-pub(crate) fn close<L: Run>(
-    alloc: Global,
-    locked: Locked<L>,
-    passes: Passes<L>,
-) -> Result<Closed, (Locked<L>, Passes<L>, Memory)>
-    requires whole { length passes ≡ L.parts }
-    requires some { 0 < length passes }
-    requires apart { DifferInNumber (map row_of passes) }
-    ensures settled { IfOk result (Settles locked.book (map row_of passes)) }
-    ensures closed { IfOk result (λ c. (budget : ℕ) → HaveBudget budget passes →
-        Closes L.program budget (map row_of passes) c) }
-    ensures back { IfErr result (λ r. (r.0 ≡ locked) × (r.1 ≡ passes)) }
-{
-    match settle(alloc, &locked, &passes) {
-        Ok(settled) => Ok(finish(locked, passes, settled)),
-        Err(memory) => Err((locked, passes, memory)),
-    }
-}
-
 /// What the passes hold, and how that compares with the book.
-fn settle<L: Run>(alloc: Global, locked: &Locked<L>, passes: &Passes<L>) -> Result<Settled, Memory>
+pub(crate) fn settle<L: Run>(
+    alloc: Global,
+    locked: &Locked<L>,
+    passes: &Passes<L>,
+) -> Result<Settled, Memory>
     requires { DifferInNumber (map row_of passes.now) }
     ensures rows { IfOk result (λ s. s.rows ≡ map row_of passes.now) }
     ensures rise { OnOk result (Each (λ p. Rise 0 p.budget p.receipts) passes.now) }
@@ -87,8 +70,9 @@ fn rows<L: Run>(alloc: Global, passes: &Passes<L>) -> Result<WorkedList, Memory>
     Ok(rows)
 }
 
-/// The answer, for which no memory is wanted.
-fn finish<L: Run>(locked: Locked<L>, passes: Passes<L>, settled: Settled) -> Closed
+/// The end of a run: its book, where the receipts of all its passes agree with it, and a report of
+/// what each pass held. No memory is wanted for it.
+pub(crate) fn finish<L: Run>(locked: Locked<L>, passes: Passes<L>, settled: Settled) -> Closed
     requires whole { length passes ≡ L.parts }
     requires some { 0 < length passes }
     requires rows { settled.rows ≡ map row_of passes }

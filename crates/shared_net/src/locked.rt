@@ -27,6 +27,26 @@ pub struct Locked<L: Run> {
     ghost same: { book.program ≡ L.program } by { Coded-set program_code _ _ },
 }
 
+/// So many new passes, numbered from 1, each with its part of the ledger.
+fn pass_each<L: Run>(
+    alloc: Global,
+    whole: Share<L>,
+    passes: u32,
+    budget: u32,
+) -> Result<Passes<L>, Memory>
+    requires one_each { whole.parts ≡ passes }
+    requires nothing { whole.amount ≡ 0 }
+    ensures { IfOk result (λ list. list ≡ new_passes budget 1 passes) }
+{
+    let mut rest = whole;
+    let mut list = Vec::new(alloc);
+    for i in 0..passes {
+        let share = rest.split_off(1, 0);
+        list.push(Pass::new(alloc, i + 1, budget, share))?;
+    }
+    Ok(Passes::from_vec(list))
+}
+
 /// A book that is to stand behind a lock, and so many new passes, numbered from 1. The blank ledger
 /// has a part for each.
 pub(crate) fn open<L: Run>(
@@ -44,13 +64,14 @@ pub(crate) fn open<L: Run>(
     ensures book { IfOk result (λ r. r.0.book ≡ book) }
     ensures passes { IfOk result (λ r. r.1 ≡ new_passes budget 1 passes) }
 {
-    let (count, mut rest) = blank.open::<L>();
-    let mut list = Vec::new(alloc);
-    for i in 0..passes {
-        let share = rest.split_off(1, 0);
-        list.push(Pass::new(alloc, i + 1, budget, share))?;
+    let (count, whole) = blank.open::<L>();
+    match pass_each(alloc, whole, passes, budget) {
+        Ok(passes) => Ok((Locked::new(book, count), passes)),
+        Err(memory) => {
+            drop(book);
+            Err(memory)
+        }
     }
-    Ok((Locked::new(book, count), Passes::from_vec(list)))
 }
 
 impl<L: Run> Locked<L> {

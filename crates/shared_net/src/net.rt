@@ -9,8 +9,7 @@ ghost use Rattle.shared_net.specs.Mail.{IsMessageText};
 ghost use Rattle.shared_net.specs.Passes.{new_passes};
 ghost use Rattle.shared_net.specs.Preparing.{IsOpenedAs};
 
-use crate::closing;
-use crate::closing::Closed;
+use crate::closing::{Closed, finish, settle};
 use crate::lists::{Mails, Sites};
 use crate::locked::Locked;
 use crate::mail::Mailbox;
@@ -134,8 +133,81 @@ fn are_opened(program: &Program, code: &Code, tree: &LocTree, sites: &Sites, mai
     let _tops = &program.tops;
 }
 
+// Sites and their mail, behind their locks.
+fn lock_both(alloc: Global, sites: Sites, mail: Mails) -> Result<(LockedSites, LockedMail), Memory>
+    requires spelled { Each (Each IsMessageText) mail }
+    ensures sites { IfOk result (λ both. vec_len both.0.list ≡ length sites) }
+    ensures mail { IfOk result (λ both. vec_len both.1.list ≡ length mail) }
+{
+    match lock_sites(alloc, sites.into_vec()) {
+        Ok(sites) => match lock_mail(alloc, mail.into_vec()) {
+            Ok(mail) => Ok((sites, mail)),
+            Err(memory) => {
+                drop(sites);
+                Err(memory)
+            }
+        },
+        Err(memory) => {
+            drop(mail);
+            Err(memory)
+        }
+    }
+}
+
+// Copies of a program and of its code.
+fn copies(alloc: Global, program: &Program, code: &Code) -> Result<(Program, Code), Memory>
+    ensures program { IfOk result (λ both. both.0 ≡ program.now) }
+{
+    let program = program.copy(alloc)?;
+    match code.copy(alloc) {
+        Ok(code) => Ok((program, code)),
+        Err(memory) => {
+            drop(program);
+            Err(memory)
+        }
+    }
+}
+
 // All of a network but its book.
 fn parts_of(
+    alloc: Global,
+    program: &Program,
+    code: &Code,
+    budget: u32,
+    tree: LocTree,
+    sites: LockedSites,
+    mail: LockedMail,
+) -> Result<Parts, Memory>
+    requires some { (0 < vec_len sites.list) × (vec_len sites.list ≤ 64) }
+    requires boxes { vec_len mail.list ≡ vec_len sites.list }
+    ensures { IfOk result (λ parts. parts ≡ record {
+      program = program.now;
+      budget = budget;
+      sites = vec_len sites.list;
+    }) }
+{
+    match copies(alloc, program, code) {
+        Ok((program, code)) => Ok(Parts {
+            program,
+            code,
+            budget,
+            tree: LockedTree {
+                lock: RwLock::new(tree),
+            },
+            sites,
+            mail,
+        }),
+        Err(memory) => {
+            drop(tree);
+            drop(sites);
+            drop(mail);
+            Err(memory)
+        }
+    }
+}
+
+// Puts all that was opened but the book behind its locks.
+fn lock_all(
     alloc: Global,
     program: &Program,
     code: &Code,
@@ -153,20 +225,13 @@ fn parts_of(
       sites = length sites;
     }) }
 {
-    let program = program.copy(alloc)?;
-    let code = code.copy(alloc)?;
-    let sites = lock_sites(alloc, sites.into_vec())?;
-    let mail = lock_mail(alloc, mail.into_vec())?;
-    Ok(Parts {
-        program,
-        code,
-        budget,
-        tree: LockedTree {
-            lock: RwLock::new(tree),
-        },
-        sites,
-        mail,
-    })
+    match lock_both(alloc, sites, mail) {
+        Ok((sites, mail)) => parts_of(alloc, program, code, budget, tree, sites, mail),
+        Err(memory) => {
+            drop(tree);
+            Err(memory)
+        }
+    }
 }
 
 impl<L: Run> SharedNet<L> {
@@ -202,12 +267,17 @@ impl<L: Run> SharedNet<L> {
             locked,
         } = opened;
         are_opened(program, code, &tree, &sites, &mail);
-        let parts = parts_of(alloc, program, code, budget, tree, sites, mail)?;
-        let net = SharedNet {
-            parts,
-            locked: Mutex::new(locked),
-        };
-        Ok((net, passes))
+        match lock_all(alloc, program, code, budget, tree, sites, mail) {
+            Ok(parts) => {
+                let locked = Mutex::new(locked);
+                Ok((SharedNet { parts, locked }, passes))
+            }
+            Err(memory) => {
+                drop(locked);
+                drop(passes);
+                Err(memory)
+            }
+        }
     }
 
     /// How many sites there are.
@@ -233,14 +303,15 @@ impl<L: Run> SharedNet<L> {
         ensures back { IfErr result (λ r. (r.0 ≡ self) × (r.1 ≡ passes)) }
     {
         let SharedNet { parts, locked } = self;
-        match closing::close(alloc, locked.into_inner(), passes) {
-            Ok(closed) => Ok(closed),
-            Err((locked, passes, memory)) => {
-                let net = SharedNet {
-                    parts,
-                    locked: Mutex::new(locked),
-                };
-                Err((net, passes, memory))
+        let locked = locked.into_inner();
+        match settle(alloc, &locked, &passes) {
+            Ok(settled) => {
+                drop(parts);
+                Ok(finish(locked, passes, settled))
+            }
+            Err(memory) => {
+                let locked = Mutex::new(locked);
+                Err((SharedNet { parts, locked }, passes, memory))
             }
         }
     }

@@ -5,8 +5,9 @@ ghost use Rattle.chem_model.specs.Opening.{opening};
 ghost use Rattle.chem_model.specs.ProgramFacts.{IsProgram};
 ghost use Rattle.env_store.specs.Reading.{IsCodeOf};
 ghost use Rattle.env_store.specs.Laws.{rules_of_group};
-ghost use Rattle.net_laws.specs.Net.{Stands};
-ghost use Rattle.net_laws.specs.Opened.{opened_net};
+ghost use Rattle.loc_tree.specs.Tree.{with_room};
+ghost use Rattle.net_laws.specs.Net.{Stands, with_births};
+ghost use Rattle.net_laws.specs.Opened.{opened_net, AreNew};
 ghost use Rattle.reducer.specs.Opens.{IsOfProgram};
 ghost use Rattle.shared_net.specs.inside.Beginning.{with_text, with_flights, IsUpTo};
 ghost use Rattle.shared_net.specs.Mail.{IsMessageText};
@@ -22,7 +23,7 @@ use chem_model::{Items, Memory, Program, Text, Texts};
 use env_store::Code;
 use loc_tree::LocTree;
 use reducer::{first_tree, opening};
-use site_solution::Site;
+use site_solution::{Effects, Site};
 use std::alloc::Global;
 use std::sync::ledger::Blank;
 use trace_history::Book;
@@ -83,6 +84,23 @@ fn add_flights(alloc: Global, mails: &mut [Texts], flights: &[Flight]) -> Result
 
 // ---- sites
 
+// Adds what the opening of the site with this number hands out: its births and its mail.
+fn carry(alloc: Global, begun: &mut Begun, effects: &Effects, number: u32) -> Result<(), Memory>
+    requires new { AreNew (with_room begun.old.tree (length effects.now.births)) number
+        effects.now.births }
+    requires site { number < begun.old.tree.roots }
+    ensures sites { OnOk result (begun.new.sites.items ≡ begun.old.sites.items) }
+    ensures tree { OnOk result (begun.new.tree ≡ with_births
+        (with_room begun.old.tree (length effects.now.births)) number effects.now.births) }
+    ensures mail { OnOk result
+        (begun.new.mails.items ≡ with_flights effects.now.sends begun.old.mails.items) }
+{
+    begun.tree.reserve(alloc, effects.births.len() as u32)?;
+    add_births(&mut begun.tree, effects.births.as_slice(), number);
+    add_flights(alloc, &mut begun.mails, effects.sends.as_slice())?;
+    Ok(())
+}
+
 // Opens the site with this number, where those before it are opened.
 fn open_site(alloc: Global, begun: &mut Begun, code: &Code, number: u32) -> Result<(), Memory>
     requires number { number < length code.now.sites }
@@ -93,31 +111,87 @@ fn open_site(alloc: Global, begun: &mut Begun, code: &Code, number: u32) -> Resu
 {
     let _tops = &code.tops;
     let (site, effects) = opening(alloc, code, &begun.tree, number)?;
-    begun.tree.reserve(alloc, effects.births.len() as u32)?;
-    add_births(&mut begun.tree, effects.births.as_slice(), number);
-    add_flights(alloc, &mut begun.mails, effects.sends.as_slice())?;
-    begun.sites.push(site)?;
+    let carried = carry(alloc, begun, &effects, number);
+    drop(effects);
+    match carried {
+        Ok(()) => {
+            begun.sites.push(site)?;
+            Ok(())
+        }
+        Err(memory) => {
+            drop(site);
+            Err(memory)
+        }
+    }
+}
+
+// The first tree, a mail without a text for each site, and no site opened.
+fn begin(alloc: Global, code: &Code) -> Result<Begun, Memory>
+    requires { IsOfProgram code.now }
+    ensures { IfOk result (λ begun. IsUpTo code.now 0 begun.sites.items begun.tree
+        begun.mails.items) }
+{
+    let _known = &code.tops;
+    let mails = empty_mails(alloc, code.sites.len())?;
+    match first_tree(alloc, code) {
+        Ok(tree) => Ok(Begun {
+            sites: Vec::new(alloc),
+            tree,
+            mails,
+        }),
+        Err(memory) => {
+            drop(mails);
+            Err(memory)
+        }
+    }
+}
+
+// Opens each site, in order.
+fn open_each(alloc: Global, begun: &mut Begun, code: &Code) -> Result<(), Memory>
+    requires { IsUpTo code.now 0 begun.old.sites.items begun.old.tree begun.old.mails.items }
+    ensures { OnOk result (IsOpenedAs code.now begun.new.tree begun.new.sites.items
+        begun.new.mails.items) }
+{
+    let _known = &code.tops;
+    for number in 0..code.sites.len() as u32 {
+        open_site(alloc, begun, code, number)?;
+    }
     Ok(())
 }
 
-// Opens all sites, in order.
+// The network of a program's code, opened.
 fn open_all(alloc: Global, code: &Code) -> Result<Begun, Memory>
     requires { IsOfProgram code.now }
     ensures { IfOk result (λ begun. IsOpenedAs code.now begun.tree begun.sites.items
         begun.mails.items) }
 {
-    let _known = &code.tops;
-    let tree = first_tree(alloc, code)?;
-    let mails = empty_mails(alloc, code.sites.len())?;
-    let mut begun = Begun {
-        sites: Vec::new(alloc),
-        tree,
-        mails,
-    };
-    for number in 0..code.sites.len() as u32 {
-        open_site(alloc, &mut begun, code, number)?;
+    let mut begun = begin(alloc, code)?;
+    match open_each(alloc, &mut begun, code) {
+        Ok(()) => Ok(begun),
+        Err(memory) => {
+            drop(begun);
+            Err(memory)
+        }
     }
-    Ok(begun)
+}
+
+// A program's book without an event, and new passes.
+fn open_book<L: Run>(
+    alloc: Global,
+    program: &Program,
+    passes: u32,
+    budget: u32,
+    blank: Blank,
+) -> Result<(Locked<L>, Passes<L>), Memory>
+    requires name { blank.name ≡ L.name }
+    requires parts { blank.parts ≡ L.parts }
+    requires one_each { blank.parts ≡ passes }
+    requires program { program.now ≡ L.program }
+    ensures book { IfOk result (λ r. r.0.book ≡ record { program = program.now; journal = [] }) }
+    ensures passes { IfOk result (λ r. r.1 ≡ new_passes budget 1 passes) }
+{
+    let book = Book::start(alloc, program)?;
+    open(alloc, blank, book, passes, budget)
 }
 
 // The network that a program's code opens stands for the program's opening. It does nothing.
@@ -160,14 +234,20 @@ pub fn prepare<L: Run>(
 {
     opened_stands(program, code);
     let begun = open_all(alloc, code)?;
-    let book = Book::start(alloc, program)?;
-    let (locked, passes) = open(alloc, blank, book, passes, budget)?;
-    let Begun { sites, tree, mails } = begun;
-    let opened = Opened {
-        tree,
-        sites: Sites::from_vec(sites),
-        mail: Mails::from_vec(mails),
-        locked,
-    };
-    Ok((opened, passes))
+    match open_book(alloc, program, passes, budget, blank) {
+        Ok((locked, passes)) => {
+            let Begun { sites, tree, mails } = begun;
+            let opened = Opened {
+                tree,
+                sites: Sites::from_vec(sites),
+                mail: Mails::from_vec(mails),
+                locked,
+            };
+            Ok((opened, passes))
+        }
+        Err(memory) => {
+            drop(begun);
+            Err(memory)
+        }
+    }
 }

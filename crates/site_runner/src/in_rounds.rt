@@ -9,7 +9,7 @@ ghost use Rattle.net_core.specs.Scheduling.{Meets, Forbids, IsRound, AreRounds};
 ghost use Rattle.net_core.specs.Whole.{NetParts};
 ghost use Rattle.site_runner.specs.Rounds.{StandForOne, RunsInRounds, RoundsOf};
 ghost use Rattle.site_runner.specs.inside.RoundParts.{and_then, AreOne, IsMade, HaveRun, HasTurn};
-ghost use Rattle.site_runner.specs.inside.RoundParts.{MeetsRequest, CanFollow};
+ghost use Rattle.site_runner.specs.inside.RoundParts.{MeetsRequest, CanFollow, RoundEnds};
 ghost use Rattle.site_runner.specs.declared.outcome.How.TheVariants as how;
 
 use crate::outcome::{Done, How};
@@ -170,8 +170,30 @@ fn share(left: u32, sites: u32) -> u32
     if each < 64 { each } else { 64 }
 }
 
-// A round: the sites work, lent to the workers, and what they did is committed, site after site;
-// then come the reactions that open locations, and then the requests.
+// The end of a round, once its sites have worked: what they did is committed, site after site; then
+// come the reactions that open locations, and then the requests.
+fn end_round(
+    alloc: Global,
+    net: &mut Net,
+    book: &mut Book,
+    events: &[Event],
+    budget: u32,
+) -> Result<(), Memory>
+    requires budget { budget ≤ 1000000 }
+    requires room { length book.old.journal + length events.now ≤ budget }
+    requires follow { CanFollow book.old events.now }
+    requires one { AreOne (and_then book.old events.now) net.old }
+    ensures ends { OnOk result (RoundEnds budget net.old (and_then book.old events.now)
+        net.new book.new) }
+    ensures within { OnOk result (length book.new.journal ≤ budget) }
+{
+    commit_all(alloc, book, events)?;
+    open_all(alloc, net, book, budget)?;
+    meet_all(alloc, net, book, budget)?;
+    Ok(())
+}
+
+// A round: the sites work, lent to the workers, and then it ends.
 fn one_round<R: Threads + Sync>(
     rt: &R,
     alloc: Global,
@@ -192,10 +214,15 @@ fn one_round<R: Threads + Sync>(
     let left = budget - book.journal().len() as u32;
     let quota = share(left, net.sites());
     let (mut after, events) = net.round(rt, alloc, workers, quota)?;
-    commit_all(alloc, book, events.as_slice())?;
-    open_all(alloc, &mut after, book, budget)?;
-    meet_all(alloc, &mut after, book, budget)?;
-    Ok(after)
+    let ended = end_round(alloc, &mut after, book, events.as_slice(), budget);
+    drop(events);
+    match ended {
+        Ok(()) => Ok(after),
+        Err(memory) => {
+            drop(after);
+            Err(memory)
+        }
+    }
 }
 
 // Whether a round made no event and left no packet under way.

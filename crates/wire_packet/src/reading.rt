@@ -2,6 +2,8 @@
 ghost use Rattle.std.specs.Prelude.{◌≡◌, ◌+◌, ◌++◌, ◌≤◌, ◌<◌, ◌^◌, ◌↔◌, ℕ, List, [], ◌==◌, ◌&&◌};
 ghost use Rattle.std.specs.Prelude.{◌||◌, length, not, Ok, Err, IfOk, IfErr};
 ghost use Rattle.chem_model.specs.Each.{Each};
+ghost use Rattle.chem_model.specs.declared.event.AtomId.{AtomId};
+ghost use Rattle.chem_model.specs.declared.event.RuleId.{RuleId};
 ghost use Rattle.chem_model.specs.declared.name.Name.{Name};
 ghost use Rattle.wire_packet.specs.declared.fault.DecodeEnd.TheVariants as end;
 ghost use Rattle.wire_packet.specs.declared.parcel.Packet.{Packet};
@@ -13,7 +15,10 @@ ghost use Rattle.wire_packet.specs.Packets.{request_list, parcel_body, group_mem
 ghost use Rattle.wire_packet.specs.Packets.{one_waiting, waiting_list, has};
 ghost use Rattle.wire_packet.specs.Packets.{may_site as site_may_be, may_k as k_may_be};
 ghost use Rattle.wire_packet.specs.Codec.{IsSpelledBy, NamesWrong, IsOrMemory};
-ghost use Rattle.wire_packet.specs.inside.Reading.{Gives, Reads, drafted};
+ghost use Rattle.wire_packet.specs.inside.Reading.{Gives, Reads, drafted, one_pair, one_seen};
+ghost use Rattle.wire_packet.specs.inside.Reading.{one_place, one_home, one_channel, all_groups};
+ghost use Rattle.wire_packet.specs.inside.Reading.{all_waiting, all_requests, all_names};
+ghost use Rattle.wire_packet.specs.inside.Reading.{group_head};
 ghost use Rattle.wire_packet.specs.Reading.{number_at, read};
 ghost use Rattle.wire_packet.specs.Reading.{ended as no_more};
 ghost use Rattle.wire_packet.specs.inside.Ids.{holds};
@@ -85,6 +90,55 @@ fn may_k(home: Option<Loc>, k: u64) -> bool
     }
 }
 
+/// A pair of numbers, and the bytes after it.
+fn pair_at(bytes: &[u8]) -> Result<(u32, u64, &[u8]), Fault>
+    ensures { Reads {Y = ℕ × ℕ} {Z = Packet} (λ x. (x.0, x.1)) (λ x. x.2.now)
+        one_pair bytes.now result }
+{
+    let (site, rest) = u32_at(bytes)?;
+    let (k, rest) = u64_at(rest)?;
+    Ok((site, k, rest))
+}
+
+fn seen_of(bytes: &[u8]) -> Result<(Name, &[u8]), Fault>
+    ensures { Reads {Z = Packet} (λ x. x.0) (λ x. x.1.now) one_seen bytes.now result }
+{
+    let (index, rest) = u32_at(bytes)?;
+    Ok((Name::Seen(index), rest))
+}
+
+fn place_of(bytes: &[u8]) -> Result<(Name, &[u8]), Fault>
+    ensures { Reads {Z = Packet} (λ x. x.0) (λ x. x.1.now) one_place bytes.now result }
+{
+    let (site, k, rest) = pair_at(bytes)?;
+    Ok((Name::Place(Loc { site, k }), rest))
+}
+
+/// The home of a channel, and the bytes after it. It is this one, where there is one.
+fn home_of(home: Option<Loc>, bytes: &[u8]) -> Result<(Loc, &[u8]), Fault>
+    ensures { Reads {Z = Packet} (λ x. x.0) (λ x. x.1.now) (one_home home) bytes.now result }
+{
+    let (site, after_site) = u32_at(bytes)?;
+    if !may_site(home, site) {
+        return Err(Fault::Wrong { left: bytes.len() });
+    }
+    let (k, after_k) = u64_at(after_site)?;
+    if !may_k(home, k) {
+        return Err(Fault::Wrong {
+            left: after_site.len(),
+        });
+    }
+    Ok((Loc { site, k }, after_k))
+}
+
+fn channel_of(home: Option<Loc>, bytes: &[u8]) -> Result<(Name, &[u8]), Fault>
+    ensures { Reads {Z = Packet} (λ x. x.0) (λ x. x.1.now) (one_channel home) bytes.now result }
+{
+    let (site, k, rest) = pair_at(bytes)?;
+    let (home, rest) = home_of(home, rest)?;
+    Ok((Name::Chan { site, k, home }, rest))
+}
+
 /// A name, and the bytes after it. A channel's home is this one, where there is one.
 fn name_of(home: Option<Loc>, bytes: &[u8]) -> Result<(Name, &[u8]), Fault>
     ensures { Reads {Z = Packet} (λ x. x.0) (λ x. x.1.now) (one_name home) bytes.now result }
@@ -94,34 +148,9 @@ fn name_of(home: Option<Loc>, bytes: &[u8]) -> Result<(Name, &[u8]), Fault>
         return Err(Fault::Wrong { left: bytes.len() });
     }
     match tag {
-        0 => {
-            let (index, rest) = u32_at(rest)?;
-            Ok((Name::Seen(index), rest))
-        }
-        1 => {
-            let (site, rest) = u32_at(rest)?;
-            let (k, rest) = u64_at(rest)?;
-            Ok((Name::Place(Loc { site, k }), rest))
-        }
-        _ => {
-            let (site, rest) = u32_at(rest)?;
-            let (k, rest) = u64_at(rest)?;
-            let (home_site, after_site) = u32_at(rest)?;
-            if !may_site(home, home_site) {
-                return Err(Fault::Wrong { left: rest.len() });
-            }
-            let (home_k, after_k) = u64_at(after_site)?;
-            if !may_k(home, home_k) {
-                return Err(Fault::Wrong {
-                    left: after_site.len(),
-                });
-            }
-            let home = Loc {
-                site: home_site,
-                k: home_k,
-            };
-            Ok((Name::Chan { site, k, home }, after_k))
-        }
+        0 => seen_of(rest),
+        1 => place_of(rest),
+        _ => channel_of(home, rest),
     }
 }
 
@@ -159,24 +188,20 @@ fn message_after_id(
 fn message_of(alloc: Global, bytes: &[u8]) -> Result<(Msg, &[u8]), Fault>
     ensures { Reads {Z = Packet} (λ x. x.0) (λ x. x.1.now) message_body bytes.now result }
 {
-    let (site, rest) = u32_at(bytes)?;
-    let (k, rest) = u64_at(rest)?;
+    let (site, k, rest) = pair_at(bytes)?;
     let (on, args, rest) = message_after_id(alloc, None, rest)?;
     let id = AtomId { site, k };
     Ok((Msg { id, on, args }, rest))
 }
 
-fn group_of(alloc: Global, loc: Loc, bytes: &[u8]) -> Result<(GroupInst, &[u8]), Fault>
-    ensures { Reads {Z = Packet} (λ x. x.0) (λ x. x.1.now)
-        (group_member loc []) bytes.now result }
+/// What stands before the environment of a group: its level, and the ids of its channels and rules.
+fn group_head_of(bytes: &[u8]) -> Result<(u32, AtomId, RuleId, &[u8]), Fault>
+    ensures { Reads {Y = ℕ × AtomId × RuleId} {Z = Packet} (λ x. (x.0, x.1, x.2)) (λ x. x.3.now)
+        group_head bytes.now result }
 {
     let (level, rest) = u32_at(bytes)?;
-    let (chans_site, rest) = u32_at(rest)?;
-    let (chans_k, rest) = u64_at(rest)?;
-    let (rules_site, rest) = u32_at(rest)?;
-    let (rules_k, rest) = u64_at(rest)?;
-    let (count, rest) = u32_at(rest)?;
-    let (env, rest) = names_of(alloc, count, rest)?;
+    let (chans_site, chans_k, rest) = pair_at(rest)?;
+    let (rules_site, rules_k, rest) = pair_at(rest)?;
     let chans = AtomId {
         site: chans_site,
         k: chans_k,
@@ -185,6 +210,23 @@ fn group_of(alloc: Global, loc: Loc, bytes: &[u8]) -> Result<(GroupInst, &[u8]),
         site: rules_site,
         k: rules_k,
     };
+    Ok((level, chans, rules, rest))
+}
+
+/// Names behind their number.
+fn all_names_of(alloc: Global, bytes: &[u8]) -> Result<(Names, &[u8]), Fault>
+    ensures { Reads {Z = Packet} (λ x. x.0) (λ x. x.1.now) all_names bytes.now result }
+{
+    let (count, rest) = u32_at(bytes)?;
+    names_of(alloc, count, rest)
+}
+
+fn group_of(alloc: Global, loc: Loc, bytes: &[u8]) -> Result<(GroupInst, &[u8]), Fault>
+    ensures { Reads {Z = Packet} (λ x. x.0) (λ x. x.1.now)
+        (group_member loc []) bytes.now result }
+{
+    let (level, chans, rules, rest) = group_head_of(bytes)?;
+    let (env, rest) = all_names_of(alloc, rest)?;
     let group = GroupInst {
         loc,
         level,
@@ -340,18 +382,47 @@ fn requests_of<'a>(
     Ok((requests, rest))
 }
 
+/// The groups of a parcel, behind their number.
+fn all_groups_of(alloc: Global, loc: Loc, bytes: &[u8]) -> Result<(GroupInsts, &[u8]), Fault>
+    ensures { Reads {Z = Packet} (λ x. x.0) (λ x. x.1.now) (all_groups loc) bytes.now result }
+{
+    let (count, rest) = u32_at(bytes)?;
+    groups_of(alloc, loc, count, rest)
+}
+
+/// The waiting messages of a parcel, behind their number, and the set of their ids.
+fn all_waiting_of(alloc: Global, loc: Loc, bytes: &[u8]) -> Result<(WaitingList, Ids, &[u8]), Fault>
+    ensures reads { Reads {Z = Packet} (λ x. x.0) (λ x. x.2.now)
+        (all_waiting loc) bytes.now result }
+    ensures ids { IfOk result (λ x. (s k : ℕ) → holds x.1 s k ≡ has s k (waiting_ids x.0)) }
+{
+    let (count, rest) = u32_at(bytes)?;
+    waiting_list_of(alloc, loc, count, rest)
+}
+
+/// The requests of a parcel, behind their number. Their ids are none of these.
+fn all_requests_of<'a>(
+    alloc: Global,
+    loc: Loc,
+    ids: &Ids,
+    bytes: &'a [u8],
+) -> Result<(Requests, &'a [u8]), Fault>
+    ensures { Reads {Z = Packet} (λ x. x.0) (λ x. x.1.now)
+        (all_requests loc (holds ids.now)) bytes.now result }
+{
+    let (count, rest) = u32_at(bytes)?;
+    requests_of(alloc, loc, ids, count, rest)
+}
+
 fn parcel_of(alloc: Global, bytes: &[u8]) -> Result<(Draft, &[u8]), Fault>
     ensures { Reads {Z = Packet} (λ x. drafted x.0) (λ x. x.1.now) parcel_body bytes.now result }
 {
-    let (site, rest) = u32_at(bytes)?;
-    let (k, rest) = u64_at(rest)?;
+    let (site, k, rest) = pair_at(bytes)?;
     let loc = Loc { site, k };
-    let (groups_count, rest) = u32_at(rest)?;
-    let (groups, rest) = groups_of(alloc, loc, groups_count, rest)?;
-    let (waiting_count, rest) = u32_at(rest)?;
-    let (waiting, ids, rest) = waiting_list_of(alloc, loc, waiting_count, rest)?;
-    let (requests_count, rest) = u32_at(rest)?;
-    let (requests, rest) = requests_of(alloc, loc, &ids, requests_count, rest)?;
+    let (groups, rest) = all_groups_of(alloc, loc, rest)?;
+    let (waiting, ids, rest) = all_waiting_of(alloc, loc, rest)?;
+    let (requests, rest) = all_requests_of(alloc, loc, &ids, rest)?;
+    drop(ids);
     let draft = Draft {
         loc,
         groups,

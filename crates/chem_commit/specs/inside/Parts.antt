@@ -43,6 +43,16 @@ appended n a = record n {
   trace = n.trace ++ a.outs;
 }
 
+-- how many members each list has
+abbrev pub lengths : Numbered → Lengths
+lengths n = record {
+  places = length n.places;
+  named = length n.named;
+  rules = length n.rules;
+  atoms = length n.atoms;
+  trace = length n.trace;
+}
+
 -- the first members of each list alone
 abbrev pub cut : Lengths → Numbered → Numbered
 cut k n = record n {

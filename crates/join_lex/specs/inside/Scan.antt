@@ -74,14 +74,21 @@ abbrev pub piece_of : List ℕ → Option Kind2 → ℕ → Piece
 piece_of text None len = Gap (take len text)
 piece_of text (Some k) len = Word k (take len text)
 
+-- The piece at this place is none, as this error tells.
+abbrev pub PieceFails : Result Piece Kind → ℕ → Front → Type 0
+PieceFails piece place (front.Refused k where_at) = (where_at ≡ place) × (piece ≡ Err k)
+PieceFails piece place front.Memory = Unit {0}
+
+-- This is the piece at the front of the text, which begins at this place: the kind of a token and
+-- how many bytes the piece has.
+abbrev pub IsPieceAt : Result Piece Kind → ℕ → List ℕ → Result (Option Kind2 × ℕ) Front → Type 0
+IsPieceAt piece place text (Ok found) = piece ≡ Ok (piece_of text found.0 found.1)
+IsPieceAt piece place text (Err e) = PieceFails piece place e
+
 -- The scan of the text, which begins at this place, ends in this error.
 abbrev pub ScanFails : Version → ℕ → List ℕ → Front → Type 0
-ScanFails version place text (front.Refused k where_at) =
-    (where_at ≡ place) × (scan version text ≡ Err k)
-ScanFails version place text front.Memory = Unit {0}
+ScanFails version place text e = PieceFails (scan version text) place e
 
--- The scan of the text, which begins at this place, answers this: the kind of a token and how many
--- bytes the piece has.
+-- The scan of the text, which begins at this place, answers this.
 abbrev pub Scans : Version → ℕ → List ℕ → Result (Option Kind2 × ℕ) Front → Type 0
-Scans version place text (Ok found) = scan version text ≡ Ok (piece_of text found.0 found.1)
-Scans version place text (Err e) = ScanFails version place text e
+Scans version place text r = IsPieceAt (scan version text) place text r

@@ -71,7 +71,10 @@ abbrev pub a_pair : List Symbol
 a_pair =
     ASign sign.ParenLeft ∷ AName ∷ ASign sign.Comma ∷ AName ∷ ASign sign.ParenRight ∷ []
 
--- a declaration, a site, and some sites
+-- a declared count, a declaration, a site, and some sites
+abbrev pub a_count : List Symbol
+a_count = ASign sign.Slash ∷ ACount ∷ ASign sign.Semicolon ∷ []
+
 abbrev pub a_declaration : List Symbol
 a_declaration =
     AKey key.Observe ∷ AName ∷ ASign sign.Slash ∷ ACount ∷ ASign sign.Semicolon ∷ []
@@ -118,6 +121,10 @@ IsStop b ts (Refused kind place) = outcome b ts (Program ∷ []) ≡ Stop kind p
 IsStop b ts Memory = Unit {0}
 
 -- The tokens from one place to another are this part.
+abbrev pub SpellsCount : List Token → ℕ → ℕ → ℕ → Type 0
+SpellsCount ts at n upto =
+    terms ts at ≡ a_sign sign.Slash ∷ a_number n ∷ a_sign sign.Semicolon ∷ terms ts upto
+
 abbrev pub SpellsDeclaration : List Token → ℕ → SeenTree → ℕ → Type 0
 SpellsDeclaration ts at d upto =
     terms ts at ≡ a_key key.Observe ∷ named d.name ∷ a_sign sign.Slash ∷ a_number d.count

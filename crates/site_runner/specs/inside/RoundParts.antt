@@ -1,5 +1,5 @@
 -- What the parts of a run in rounds leave.
-use Rattle.std.specs.Prelude.{◌≡◌, ◌<◌, ◌^◌, List, [], ◌∷◌, ◌++◌, Option, Some, None, length}
+use Rattle.std.specs.Prelude.{◌≡◌, ℕ, ◌-◌, ◌<◌, ◌^◌, List, [], ◌∷◌, ◌++◌, Option, Some, None, length}
 use Rattle.chem_model.specs.declared.event.Event.{Event}
 use Rattle.chem_model.specs.declared.numbered.Numbered.{Numbered}
 use Rattle.chem_model.specs.ProgramFacts.{IsProgram}
@@ -13,7 +13,9 @@ use Rattle.net_laws.specs.Opened.{RunsCode}
 use Rattle.net_core.specs.declared.choice.Choice.{Choice}
 use Rattle.net_core.specs.declared.choice.Choice.TheVariants as choice
 use Rattle.net_core.specs.Acts.{Acts}
+use Rattle.net_core.specs.Asking.{asks}
 use Rattle.net_core.specs.Making.{Falls}
+use Rattle.net_core.specs.Scheduling.{numbers, InTurn, Opens, ReadyOpensNone, Meets, Forbids}
 use Rattle.net_core.specs.Whole.{NetParts}
 
 -- the events of a choice
@@ -74,3 +76,16 @@ MeetsRequest (choice.Detect a) = Unit {0}
 pub record CanFollow (book : BookKept) (es : List Event) : Type 0 where
   pub after : Numbered
   pub replays : replay_from (solution book) es ≡ Some after
+
+-- with this budget, each site makes the reaction that is ready there, if that opens a location, and
+-- then the requests that stand are met
+pub record RoundEnds (budget : ℕ) (old : NetParts) (book : BookKept) (new : NetParts)
+    (after : BookKept) : Type 0 where
+  pub mid : NetParts
+  pub mid_book : BookKept
+  pub opens :
+      HaveRun (InTurn (Opens old.code) (ReadyOpensNone old.code) (budget - length book.journal)
+      (numbers old.net) old.net) old book mid mid_book
+  pub meets :
+      HaveRun (InTurn (Meets mid.code) (Forbids mid.code) (budget - length mid_book.journal)
+      (asks mid.net) mid.net) mid mid_book new after

@@ -3,4 +3,4 @@ use Rattle.chem_model.specs.Opening.{open_sites}
 use Rattle.chem_plain.proofs.start.open_sites.Given as goal
 
 abbrev pub invariant-loop-site : goal.invariant-loop-site
-invariant-loop-site l = open_sites l.names l.site (drop l.site l.sites) l.opened ≡ open_sites l.names 0 l.sites l.initial.opened
+invariant-loop-site l = open_sites l.names l.site (drop l.site l.sites) l.solution ≡ open_sites l.names 0 l.sites l.initial.solution

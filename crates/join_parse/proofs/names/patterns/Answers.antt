@@ -1,11 +1,26 @@
-use Rattle.std.proofs.Common.{◌+◌, ◌∷◌, [], ◌∙◌, sym, arith}
+use Rattle.std.proofs.Common.{◌+◌, ◌∷◌, [], ◌∙◌, refl, sym, arith}
 use Rattle.join_lex.specs.declared.token.Sign.TheVariants as sign
 use Rattle.join_parse.specs.Begins.{AName, ASign, Names, MorePatterns}
 use Rattle.join_parse.specs.inside.Parsed.{AtMost}
 use Rattle.join_parse.proofs.Moves.{sign-reads, exit-before}
 use Rattle.join_parse.proofs.Expansions.{more_patterns-bar, more_patterns-arrow}
-use Rattle.join_parse.proofs.Lists.{patterns-more, patterns-all}
+use Rattle.join_parse.proofs.Lists.{patterns-first, patterns-more, patterns-all}
 use Rattle.join_parse.proofs.names.patterns.Goals as goal
+
+pub returns-in_err-first-clause-fails : goal.returns-in_err-first-clause-fails
+returns-in_err-first-clause-fails c =
+    exit-before c.args.b (AtMost c.args.b.levels) c.args.tokens.now c.args.at (AName ∷ ASign sign.ParenLeft ∷ Names ∷ MorePatterns ∷ []) (AtMost c.args.b.levels) c.args.at (AName ∷ ASign sign.ParenLeft ∷ Names ∷ []) (λ stack. MorePatterns ∷ stack)
+    (λ stack h. refl) (λ stack h. h) c.from_residual.result _ c.from_residual.ensures.1 c.in_err-first.ensures.fails
+
+pub bars-init : goal.bars-init
+bars-init c = rw (c.in_ok-push.ensures.ok, c.new-list.ensures) (record {
+  reads = record {
+    runs = λ stack h. c.in_ok-first.ensures.reads.runs (MorePatterns ∷ stack) h;
+    further = c.in_ok-first.ensures.reads.further;
+    within = c.in_ok-first.ensures.reads.within;
+  };
+  listed = patterns-first c.args.tokens.now _ _ _ c.in_ok-first.ensures.few c.in_ok-first.ensures.spelled;
+})
 
 pub returns-in_err-more-clause-fails : goal.returns-in_err-more-clause-fails
 returns-in_err-more-clause-fails c =

@@ -1,12 +1,13 @@
 use Rattle.std.proofs.Common.{◌∷◌, ◌∙◌, sym, rules}
 use Rattle.std.proofs.lemmas.Bool.{false≢true}
 use Rattle.std.proofs.lemmas.Result.{on_ok_weaker}
+use Rattle.join_lex.specs.declared.token.Key.TheVariants as key
 use Rattle.join_lex.specs.declared.token.Sign.TheVariants as sign
-use Rattle.join_parse.specs.Terminals.{a_sign}
+use Rattle.join_parse.specs.Terminals.{a_key, a_sign}
 use Rattle.join_parse.specs.Source.{processes, definitions}
-use Rattle.join_parse.specs.Grammar.{names, pair, of_processes, of_definitions}
+use Rattle.join_parse.specs.Grammar.{of_process, of_processes, of_definition, of_definitions}
 use Rattle.join_parse.specs.Members.{procs_depth-member, defs_depth-member}
-use Rattle.join_parse.proofs.Prints.{definitions-begin}
+use Rattle.join_parse.proofs.Prints.{member-prints, left_members, members-law, left_clauses, clauses-law, definitions-begin}
 use Rattle.join_parse.proofs.print.+print.Goals as goal
 
 pub put_processes-put_process-requires : goal.put_processes-put_process-requires
@@ -32,26 +33,12 @@ put_place-returns t c =
     ∙ c.in_ok-put_processes.ensures (a_sign sign.SquareRight ∷ rest) ∙ p rest)
     c.put_sign-3.ensures
 
-pub put_process-returns-in_ok-put_sign-in-Msg : goal.put_process-returns-in_ok-put_sign-in-Msg
-put_process-returns-in_ok-put_sign-in-Msg t c =
-    rw (← c.node.ensures, c.in-Msg.is)
-    (on_ok_weaker c.put_names.result
-    (λ p rest. c.in_ok-put_word-in-Msg.ensures (a_sign sign.ParenLeft ∷ names c.in-Msg.args rest) ∙ c.in_ok-put_sign-in-Msg.ensures (names c.in-Msg.args rest) ∙ p rest)
-    c.put_names.ensures)
+pub put_processes-loop-member-preserved : goal.put_processes-loop-member-preserved
+put_processes-loop-member-preserved t c =
+    member-prints left_members of_process (a_sign sign.Bar) members-law (of_processes (processes c.as_slice-member-items.result.now)) c.args.out.now c.loop-member.out c.put_sign_between.new.out c.put_process.new.out c.loop-member.first
+    c.as_slice-member-items.result.now c.loop-member.member-index c.member-item.result c.loop-member-test.true c.member-item.is c.loop-member.invariant c.in_ok-put_sign_between.ensures c.in_ok-put_process.ensures
 
-pub put_process-returns-in_ok-put_key-in-Go : goal.put_process-returns-in_ok-put_key-in-Go
-put_process-returns-in_ok-put_key-in-Go t c =
-    rw (← c.node.ensures, c.in-Go.is)
-    (on_ok_weaker c.put_pair.result (λ p rest. c.in_ok-put_key-in-Go.ensures (pair c.in-Go.target c.in-Go.cont rest) ∙ p rest) c.put_pair.ensures)
-
-pub put_process-returns-in_ok-put_key-in-Fail : goal.put_process-returns-in_ok-put_key-in-Fail
-put_process-returns-in_ok-put_key-in-Fail t c =
-    rw (← c.node.ensures, c.in-Fail.is)
-    (on_ok_weaker c.put_pair-in-Fail.result (λ p rest. c.in_ok-put_key-in-Fail.ensures (pair c.in-Fail.target c.in-Fail.cont rest) ∙ p rest) c.put_pair-in-Fail.ensures)
-
-pub put_process-returns-in_ok-put_sign-in-Halt : goal.put_process-returns-in_ok-put_sign-in-Halt
-put_process-returns-in_ok-put_sign-in-Halt t c =
-    rw (← c.node.ensures, c.in-Halt.is)
-    (on_ok_weaker c.put_sign-in-Halt-2.result
-    (λ p rest. c.in_ok-put_key-in-Halt.ensures (a_sign sign.ParenLeft ∷ a_sign sign.ParenRight ∷ rest) ∙ c.in_ok-put_sign-in-Halt.ensures (a_sign sign.ParenRight ∷ rest) ∙ p rest)
-    c.put_sign-in-Halt-2.ensures)
+pub put_definitions-loop-member-preserved : goal.put_definitions-loop-member-preserved
+put_definitions-loop-member-preserved t c =
+    member-prints left_clauses of_definition (a_key key.And) clauses-law (of_definitions (definitions c.as_slice-member-items.result.now)) c.args.out.now c.loop-member.out c.put_and_between.new.out c.put_definition.new.out c.loop-member.first
+    c.as_slice-member-items.result.now c.loop-member.member-index c.member-item.result c.loop-member-test.true c.member-item.is c.loop-member.invariant c.in_ok-put_and_between.ensures c.in_ok-put_definition.ensures

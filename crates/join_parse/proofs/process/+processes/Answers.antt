@@ -1,7 +1,10 @@
-use Rattle.std.proofs.Common.{◌+◌, ◌∷◌, [], ◌∙◌, true, false, sym, arith}
+use Rattle.std.proofs.Common.{◌+◌, ◌∷◌, [], ◌∙◌, true, false, refl, sym, ap, arith}
 use Rattle.std.proofs.lemmas.Result.{IfOk-weaker}
 use Rattle.join_lex.specs.declared.token.Key.TheVariants as key
 use Rattle.join_lex.specs.declared.token.Sign.TheVariants as sign
+use Rattle.join_parse.specs.Terminals.{a_key, a_sign, named}
+use Rattle.join_parse.specs.Source.{processes, definitions}
+use Rattle.join_parse.specs.Grammar.{patterns, of_processes, of_definitions}
 use Rattle.join_parse.specs.Begins.{AName, AKey, ASign, CloseGroup, CloseSquare, EndDef, Body, Defs, MoreDefs, DefRest, MorePatterns, Names, AProc, MoreProcs}
 use Rattle.join_parse.specs.inside.Parsed.{AtMost, Exactly, Reads}
 use Rattle.join_parse.proofs.Moves.{key-reads, exit-before, fails-before}
@@ -272,3 +275,90 @@ simple-returns-then-is_key_at-3-clause-reads t c =
 pub simple-returns-clause-fails : goal.simple-returns-clause-fails
 simple-returns-clause-fails t c =
     rw c.refused.ensures (λ stack h. proc-stops c.args.b _ stack (sym c.if-is_zero_at.ensures.is) (sym c.if-is_name_at.ensures.is) (sym c.if-is_sign_at.ensures.is) (sym c.if-is_key_at.ensures.is) (sym c.if-is_key_at-2.ensures.is) (sym c.if-is_key_at-3.ensures.is) c.requires.other)
+
+pub body-returns-clause-spelled : goal.body-returns-clause-spelled
+body-returns-clause-spelled t c = (
+  c.in_ok-defs.ensures.spelled.0,
+  c.in_ok-body.ensures.spelled.0,
+  c.if-not-is_sign_at.ensures.spelled ∙ ap (λ r. a_sign sign.SquareLeft ∷ r) (c.in_ok-defs.ensures.spelled.1 ∙ ap (of_definitions (definitions c.in_ok-defs.defs)) (c.in_ok-upto.ensures.spelled ∙ ap (λ r. a_sign sign.Colon ∷ r) (c.in_ok-body.ensures.spelled.1 ∙ ap (of_processes (processes c.in_ok-body.body)) c.in_ok-upto-2.ensures.spelled))),
+)
+
+pub def_in-returns-clause-spelled : goal.def_in-returns-clause-spelled
+def_in-returns-clause-spelled t c =
+    rw c.def.ensures (
+      (c.in_ok-defs.ensures.spelled.0, c.in_ok-body.ensures.spelled.0),
+      c.requires.spelled ∙ ap (λ r. a_key key.Def ∷ r) (c.in_ok-defs.ensures.spelled.1 ∙ ap (of_definitions (definitions c.in_ok-defs.defs)) (c.in_ok-upto.ensures.spelled ∙ ap (λ r. a_key key.Inside ∷ r) c.in_ok-body.ensures.spelled.1)),
+    )
+
+pub group-returns-clause-spelled : goal.group-returns-clause-spelled
+group-returns-clause-spelled t c =
+    rw c.group.ensures (
+      c.in_ok-members.ensures.spelled.0,
+      c.requires.spelled ∙ ap (λ r. a_sign sign.ParenLeft ∷ r) (c.in_ok-members.ensures.spelled.1 ∙ ap (of_processes (processes c.in_ok-members.members)) c.in_ok-upto.ensures.spelled),
+    )
+
+pub rule-returns-in_err-pats-clause-fails : goal.rule-returns-in_err-pats-clause-fails
+rule-returns-in_err-pats-clause-fails t c =
+    exit-before c.args.b (Exactly c.args.depth) c.args.tokens.now c.args.at (AName ∷ ASign sign.ParenLeft ∷ Names ∷ MorePatterns ∷ AProc ∷ []) (AtMost c.args.b.levels) c.args.at (AName ∷ ASign sign.ParenLeft ∷ Names ∷ MorePatterns ∷ []) (λ stack. AProc ∷ stack)
+    (λ stack h. refl) (λ stack h. omega arith) c.from_residual.result _ c.from_residual.ensures.1 c.in_err-pats.ensures.fails
+
+pub rule-returns-in_err-body-clause-fails : goal.rule-returns-in_err-body-clause-fails
+rule-returns-in_err-body-clause-fails t c =
+    exit-before c.args.b (Exactly c.args.depth) c.args.tokens.now c.args.at (AName ∷ ASign sign.ParenLeft ∷ Names ∷ MorePatterns ∷ AProc ∷ []) (Exactly c.args.depth) c.in_ok-pats.upto (AProc ∷ []) (λ stack. stack)
+    (λ stack h. c.in_ok-pats.ensures.reads.runs (AProc ∷ stack) (omega arith)) (λ stack h. h) c.from_residual-in_err-body.result _ c.from_residual-in_err-body.ensures.1 c.in_err-body.ensures.fails
+
+pub rule-returns-clause-reads : goal.rule-returns-clause-reads
+rule-returns-clause-reads t c =
+    record {
+      runs = λ stack h. c.in_ok-pats.ensures.reads.runs (AProc ∷ stack) (omega arith) ∙ c.in_ok-body.ensures.reads.runs stack h;
+      further = omega (arith, c.in_ok-pats.ensures.reads.further, c.in_ok-body.ensures.reads.further);
+      within = c.in_ok-body.ensures.reads.within;
+    }
+
+pub rule-returns-clause-spelled : goal.rule-returns-clause-spelled
+rule-returns-clause-spelled t c =
+    rw c.rule.ensures ((c.in_ok-pats.ensures.some, c.in_ok-pats.ensures.short, c.in_ok-body.ensures.spelled.0), c.in_ok-pats.ensures.spelled ∙ ap (patterns c.in_ok-pats.pats) c.in_ok-body.ensures.spelled.1)
+
+pub rule-returns-clause-spelled_within : goal.rule-returns-clause-spelled_within
+rule-returns-clause-spelled_within t c =
+    rw c.rule.ensures ((c.in_ok-pats.ensures.some, c.in_ok-pats.ensures.short, c.in_ok-body.ensures.spelled.0), c.in_ok-pats.ensures.spelled ∙ ap (patterns c.in_ok-pats.pats) c.in_ok-body.ensures.spelled.1)
+
+pub place-returns-in_err-name-clause-fails : goal.place-returns-in_err-name-clause-fails
+place-returns-in_err-name-clause-fails t c =
+    exit-before c.args.b (Exactly c.args.depth) c.args.tokens.now c.args.at (AName ∷ Body true ∷ []) (AtMost c.args.b.levels) c.args.at (AName ∷ []) (λ stack. Body true ∷ stack)
+    (λ stack h. refl) (λ stack h. omega arith) c.from_residual.result _ c.from_residual.ensures.1 c.in_err-name.ensures.fails
+
+pub place-returns-in_err-defs-clause-fails : goal.place-returns-in_err-defs-clause-fails
+place-returns-in_err-defs-clause-fails t c =
+    exit-before c.args.b (Exactly c.args.depth) c.args.tokens.now c.args.at (AName ∷ Body true ∷ []) (Exactly c.args.depth) c.in_ok-name.upto (Body true ∷ []) (λ stack. stack)
+    (λ stack h. c.in_ok-name.ensures.reads.runs (Body true ∷ stack) (omega arith)) (λ stack h. h) c.from_residual-in_err-defs.result _ c.from_residual-in_err-defs.ensures.1 c.in_err-defs.ensures.fails
+
+pub place-returns-clause-reads : goal.place-returns-clause-reads
+place-returns-clause-reads t c =
+    record {
+      runs = λ stack h. c.in_ok-name.ensures.reads.runs (Body true ∷ stack) (omega arith) ∙ c.in_ok-defs.ensures.reads.runs stack h;
+      further = omega (arith, c.in_ok-name.ensures.reads.further, c.in_ok-defs.ensures.reads.further);
+      within = c.in_ok-defs.ensures.reads.within;
+    }
+
+pub place-returns-clause-spelled : goal.place-returns-clause-spelled
+place-returns-clause-spelled t c =
+    rw c.place.ensures ((refl, c.in_ok-defs.ensures.spelled.0, c.in_ok-defs.ensures.spelled.1), c.in_ok-name.ensures.spelled ∙ ap (λ r. named c.in_ok-name.name ∷ r) c.in_ok-defs.ensures.spelled.2)
+
+pub simple-returns-then-is_zero_at-clause-spelled : goal.simple-returns-then-is_zero_at-clause-spelled
+simple-returns-then-is_zero_at-clause-spelled t c = rw c.zero.ensures (tt, c.if-is_zero_at.ensures.spelled)
+
+pub simple-returns-then-is_name_at-clause-spelled : goal.simple-returns-then-is_name_at-clause-spelled
+simple-returns-then-is_name_at-clause-spelled t c = rw c.msg.ensures (c.in_ok-message.ensures.few, c.in_ok-message.ensures.spelled)
+
+pub simple-returns-then-is_key_at-clause-spelled : goal.simple-returns-then-is_key_at-clause-spelled
+simple-returns-then-is_key_at-clause-spelled t c =
+    rw c.halt.ensures (tt, c.if-is_key_at.ensures.spelled ∙ ap (λ r. a_key key.Halt ∷ r) (c.in_ok-upto.ensures.spelled ∙ ap (λ r. a_sign sign.ParenLeft ∷ r) c.in_ok-upto-2.ensures.spelled))
+
+pub simple-returns-then-is_key_at-2-clause-spelled : goal.simple-returns-then-is_key_at-2-clause-spelled
+simple-returns-then-is_key_at-2-clause-spelled t c =
+    rw c.go.ensures (tt, c.if-is_key_at-2.ensures.spelled ∙ ap (λ r. a_key key.Go ∷ r) c.in_ok-target.ensures.spelled)
+
+pub simple-returns-then-is_key_at-3-clause-spelled : goal.simple-returns-then-is_key_at-3-clause-spelled
+simple-returns-then-is_key_at-3-clause-spelled t c =
+    rw c.fail.ensures (tt, c.if-is_key_at-3.ensures.spelled ∙ ap (λ r. a_key key.Fail ∷ r) c.in_ok-target-2.ensures.spelled)

@@ -38,12 +38,12 @@ returns-in-Ok c =
     elim (outcome words c.requires) [
       | refused h n ↦ absurd (subst Fails fault h)
       | taken l z n s ↦
-          let mode = shown f _ (codes "mode") (option_map (λ s. s.now) c.get_str.result) (mode_of l.plain) same c.get_str.ensures s.mode in
-          let ring = shown f _ (codes "ring") (option_map (λ s. s.now) c.get_str-in-Ok.result) (ring_of l.plain) same c.get_str-in-Ok.ensures s.ring in
-          let budgets = shown f _ (codes "budget") (option_map (λ s. s.now) c.get_str-in-Ok-2.result) l.budget same c.get_str-in-Ok-2.ensures (s.fields budget) in
-          let several = shown f _ (codes "workers") (option_map (λ s. s.now) c.get_str-in-Ok-3.result) l.workers same c.get_str-in-Ok-3.ensures (s.fields workers) in
-          let bys = shown f _ (codes "by") (option_map (λ s. s.now) c.get_str-in-Ok-4.result) l.by same c.get_str-in-Ok-4.ensures (s.fields by) in
-          let logs = flag-is f _ c.get_flag.result l.log same s.log c.get_flag.ensures.value c.get_flag.ensures.other in
+          let mode = shown f _ (codes "mode") (option_map (λ s. s.now) c.line_texts-texts.result.mode) (mode_of l.plain) same c.line_texts-texts.ensures.mode s.mode in
+          let ring = shown f _ (codes "ring") (option_map (λ s. s.now) c.line_texts-texts.result.ring) (ring_of l.plain) same c.line_texts-texts.ensures.ring s.ring in
+          let budgets = shown f _ (codes "budget") (option_map (λ s. s.now) c.line_texts-texts.result.budget) l.budget same c.line_texts-texts.ensures.budget (s.fields budget) in
+          let several = shown f _ (codes "workers") (option_map (λ s. s.now) c.line_texts-texts.result.workers) l.workers same c.line_texts-texts.ensures.workers (s.fields workers) in
+          let bys = shown f _ (codes "by") (option_map (λ s. s.now) c.line_texts-texts.result.by) l.by same c.line_texts-texts.ensures.by (s.fields by) in
+          let logs = flag-is f _ c.line_texts-texts.result.log l.log same s.log c.line_texts-texts.ensures.is_logged c.line_texts-texts.ensures.isnt_logged in
           let plains = ap₂ plain_given mode ring ∙ same-plain l.plain in
           n ∙ sym (λ i. Some (record { budget = budgets i; workers = several i; by = bys i; log = logs i; plain = plains i }))
     ]
@@ -62,7 +62,7 @@ returns-in-Err c =
     let command_is : app_of c.in_ok-command.command ≡ line_app = c.in_ok-command.ensures in
     let has : HasKind (fault_of line_app words) c.in-Err.error =
     subst (λ a. HasKind (fault_of a words) c.in-Err.error) command_is (c.in-Err.ensures.kinds (ap is_simple_and_free command_is ∙ line_app-free)) in
-    ends words (fault_of line_app words) c.end_of.result (kind_of c.in-Err.error) c.end_of.ensures.form has (λ h. elim (outcome words c.requires) [
+    ends words (fault_of line_app words) c.end_of-end.result (kind_of c.in-Err.error) c.end_of-end.ensures.form has (λ h. elim (outcome words c.requires) [
       | refused h n ↦ n
       | taken l z n s ↦ absurd (subst Fails z h)
     ])

@@ -1,8 +1,12 @@
-use Rattle.std.proofs.Common.{rules, arith, ap, ◌≡◌}
+use Rattle.std.proofs.Common.{rules, arith, ap, sym, drop, ◌≡◌, ◌+◌, ◌++◌, ◌∙◌}
+use Rattle.std.proofs.lemmas.Result.{on_ok_weaker}
 use Rattle.join_parse.specs.SourceSize.{procs_depth, defs_depth}
 use Rattle.join_parse.specs.Members.{procs_depth-member, defs_depth-member}
 use Rattle.join_parse.specs.Source.{Def, processes, definitions}
-use Rattle.scope_check.proofs.Filled.{def-tables}
+use Rattle.scope_check.specs.Blocks.{places}
+use Rattle.scope_check.specs.inside.Naming.{walk_level}
+use Rattle.scope_check.proofs.Filled.{def-tables, def-spell}
+use Rattle.scope_check.proofs.Sites.{drop-next, level-tables}
 use Rattle.scope_check.proofs.naming.+naming.Goals as goal
 
 pub walk_all-walk-requires : goal.walk_all-walk-requires
@@ -13,7 +17,31 @@ pub walk_level-walk_one-requires : goal.walk_level-walk_one-requires
 walk_level-walk_one-requires t c =
     (omega (arith, defs_depth-member c.as_slice-d-items.result.now c.loop-d.d-index c.d-item.result c.loop-d-test.true c.d-item.is, c.decreases, ap defs_depth c.as_slice-d-items.ensures.members), tt)
 
-pub walk-returns-in_ok-walk_all-in-Def-clause-scopes : goal.walk-returns-in_ok-walk_all-in-Def-clause-scopes
-walk-returns-in_ok-walk_all-in-Def-clause-scopes t c =
+pub walk-returns-in_ok-fill-in-Ok-clause-scopes : goal.walk-returns-in_ok-fill-in-Ok-clause-scopes
+walk-returns-in_ok-fill-in-Ok-clause-scopes t c =
     let is : Def (definitions c.in-Def.defs) (processes c.in-Def.body) ≡ c.args.p.now = search rules in
-    def-tables _ c.len-slot.result _ _ _ _ _ _ _ c.args.scopes.now.items _ _ _ _ is (omega (arith, c.len-slot.ensures)) c.in_ok-push-in-Def.ensures.items c.new-own.ensures c.in_ok-walk_level-in-Def.ensures.scopes c.in_ok-walk_level-in-Def.ensures.own c.in_ok-fill-in-Def.ensures c.in_ok-walk_level-in-Def.ensures.spell c.in_ok-walk_all-in-Def.ensures.scopes
+    on_ok_weaker c.walk_all-in-Ok.result
+    (λ more. def-tables _ c.in_ok-slot-in-Def.slot _ _ _ _ _ _ _ c.args.scopes.now.items _ _ _ _ is c.in_ok-slot-in-Def.ensures.place c.in_ok-slot-in-Def.ensures.kept c.new-own.ensures c.in-Ok.ensures.scopes c.in-Ok.ensures.own c.in_ok-fill-in-Ok.ensures c.in-Ok.ensures.spell more)
+    c.walk_all-in-Ok.ensures.scopes
+
+pub walk-returns-in_ok-fill-in-Ok-clause-spell : goal.walk-returns-in_ok-fill-in-Ok-clause-spell
+walk-returns-in_ok-fill-in-Ok-clause-spell t c =
+    let is : Def (definitions c.in-Def.defs) (processes c.in-Def.body) ≡ c.args.p.now = search rules in
+    on_ok_weaker c.walk_all-in-Ok.result (λ more. def-spell _ _ _ _ _ _ _ is c.new-own.ensures c.in-Ok.ensures.spell more) c.walk_all-in-Ok.ensures.spell
+
+pub walk_level-loop-d-preserved : goal.walk_level-loop-d-preserved
+walk_level-loop-d-preserved t c =
+    let items = c.as_slice-d-items.result.now in
+    let d = c.d-item.result in
+    let rest = drop (c.loop-d.d-index + 1) items in
+    let next = drop-next items c.loop-d.d-index d c.loop-d-test.true c.d-item.is in
+    let e = c.in_ok-end.ensures in
+    let inv = c.loop-d.invariant in
+    let all = ap definitions next in
+    record {
+      items = inv.items;
+      place = omega (arith, ap places all, e.place, inv.place);
+      own = (λ i. (walk_level c.args.at (e.place i) (e.spell i) (e.own i) (definitions rest)).own) ∙ ap (λ ds. (walk_level c.args.at c.loop-d.end c.loop-d.spell c.loop-d.own ds).own) (sym all) ∙ inv.own;
+      tables = level-tables c.args.at c.loop-d.end c.in_ok-end.end c.loop-d.spell c.walk_one.new.spell c.loop-d.own c.walk_one.new.own d (definitions rest) c.loop-d.scopes.items c.walk_one.new.scopes.items e.own e.spell e.place e.scopes ∙ ap (λ ds. c.loop-d.scopes.items ++ (walk_level c.args.at c.loop-d.end c.loop-d.spell c.loop-d.own ds).tables) (sym all) ∙ inv.tables;
+      spell = (λ i. (walk_level c.args.at (e.place i) (e.spell i) (e.own i) (definitions rest)).spell) ∙ ap (λ ds. (walk_level c.args.at c.loop-d.end c.loop-d.spell c.loop-d.own ds).spell) (sym all) ∙ inv.spell;
+    }

@@ -5,7 +5,7 @@ use Rattle.shared_net.specs.Mail.{IsMessageText}
 use Rattle.shared_net.proofs.Opening.{mails_spelled}
 use Rattle.shared_net.proofs.preparing.prepare.Goals as goal
 
-pub returns-clause-mail : goal.returns-clause-mail
-returns-clause-mail g c =
-    subst (Each (Each IsMessageText)) (sym c.from_vec-2.ensures)
+pub returns-in-Ok-clause-mail : goal.returns-in-Ok-clause-mail
+returns-in-Ok-clause-mail g c =
+    subst (Each (Each IsMessageText)) (sym c.from_vec-in-Ok.ensures)
     (mails_spelled (opened_net c.args.code.now).packets c.in_ok-begun.begun.mails.items c.in_ok-begun.ensures.mail)
