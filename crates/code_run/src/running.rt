@@ -1,5 +1,5 @@
 // The public calls.
-ghost use Rattle.std.specs.Prelude.{◌≡◌, ◌<◌, ◌≤◌, [], ◌∷◌, IfOk, Some, length, slice_get};
+ghost use Rattle.std.specs.Prelude.{◌≡◌, ◌<◌, ◌≤◌, [], ◌∷◌, IfOk, OnOk, Some, length, slice_get};
 ghost use Rattle.chem_model.specs.declared.name.Ref.TheVariants.{Known};
 ghost use Rattle.chem_model.specs.Process.{Msg};
 ghost use Rattle.chem_model.specs.Reduction.{all_known};
@@ -8,7 +8,7 @@ ghost use Rattle.chem_model.specs.Pour.{pour};
 ghost use Rattle.env_store.specs.declared.code.SiteCode.{SiteCode as site_code};
 ghost use Rattle.env_store.specs.CodeParts.{CodeParts};
 ghost use Rattle.env_store.specs.CodeFacts.{IsBodyAt};
-ghost use Rattle.env_store.specs.Running.{atom_ran, code_made, site_made};
+ghost use Rattle.env_store.specs.Running.{atom_ran, nothing_ran, code_made, site_made};
 ghost use Rattle.code_run.specs.Posts.{run_of};
 ghost use Rattle.code_run.specs.RunFacts.{HasRunFacts};
 
@@ -44,6 +44,33 @@ pub fn run(
     Ok(made)
 }
 
+/// Lays the block of a site and runs its body, where nothing is made yet.
+fn run_opening(
+    alloc: Global,
+    code: &Code,
+    number: u32,
+    env: &mut Env,
+    made: &mut Run,
+) -> Result<(), Memory>
+    requires number { number < length code.now.sites }
+    requires env { env.old ≡ [] }
+    requires made { made.old ≡ run_of (nothing_ran 1) }
+    ensures run { OnOk result ((site : site_code)
+        → slice_get code.now.sites number ≡ Some site
+        → made.new ≡ run_of (site_made code.now number site)) }
+    ensures facts { OnOk result (HasRunFacts code.now number (root_of number) [] 1 made.new) }
+{
+    let site = site_at(code, number);
+    let block = block_at(code, site.block);
+    let root = Loc { site: number, k: 0 };
+    made.next = 1 + block.names as u64;
+    let below = code.bodies.len();
+    let levels = block.levels.as_slice();
+    lay_block(alloc, code, number, below, levels, 1, env, root, made)?;
+    run_body(alloc, code, number, site.body, env, root, made)?;
+    Ok(())
+}
+
 /// What the opening of the site with this number makes, beside its root.
 pub fn open(alloc: Global, code: &Code, number: u32) -> Result<Run, Memory>
     requires { number < length code.now.sites }
@@ -52,18 +79,15 @@ pub fn open(alloc: Global, code: &Code, number: u32) -> Result<Run, Memory>
         → r ≡ run_of (site_made code.now number site)) }
     ensures facts { IfOk result (λ r. HasRunFacts code.now number (root_of number) [] 1 r) }
 {
-    let site = site_at(code, number);
-    let block = block_at(code, site.block);
-    let root = Loc { site: number, k: 0 };
     let mut env = Items::new(alloc);
-    let mut made = start(alloc, 1 + block.names as u64);
-    let below = code.bodies.len();
-    let levels = block.levels.as_slice();
-    lay_block(
-        alloc, code, number, below, levels, 1, &mut env, root, &mut made,
-    )?;
-    run_body(alloc, code, number, site.body, &mut env, root, &mut made)?;
-    Ok(made)
+    let mut made = start(alloc, 1);
+    match run_opening(alloc, code, number, &mut env, &mut made) {
+        Ok(()) => Ok(made),
+        Err(memory) => {
+            drop(made);
+            Err(memory)
+        }
+    }
 }
 
 /// What one message with at most 255 arguments makes, poured at a location of the site with this

@@ -2,24 +2,45 @@
 use Rattle.std.proofs.Common.{◌≡◌, ℕ, List, [], ◌∷◌, ◌++◌, length, Some, None, Result, Ok, Err, OnOk, take, refl, sym, ap, ◌∙◌, subst, append_assoc}
 use Rattle.chem_model.specs.declared.memory.Memory.{Memory}
 use Rattle.chem_model.specs.declared.name.Ref.{Ref}
-use Rattle.chem_model.specs.Process.{Process, Def, Definitions, Place}
-use Rattle.chem_model.specs.Binders.{binder_of}
+use Rattle.chem_model.specs.declared.name.Pat.{Pat}
+use Rattle.chem_model.specs.Process.{Process, Def, Definitions, Rule, Place}
+use Rattle.chem_model.specs.Binders.{binder_of, params_of}
 use Rattle.chem_model.specs.Fill.{Naming}
 use Rattle.chem_laws.proofs.Lists.{append_nil}
 use Rattle.env_store.specs.declared.code.Instr.{Instr}
 use Rattle.env_store.specs.declared.code.Instr.TheVariants as instr
+use Rattle.env_store.specs.declared.code.Guard.{Guard}
 use Rattle.env_store.specs.declared.code.Level.{Level}
 use Rattle.env_store.specs.Layout.{rules_in, new_channels, new_counts, place_order, places_order, order}
+use Rattle.guard_compile.specs.declared.layout.Opened.{Opened}
 use Rattle.guard_compile.specs.declared.write.At.{At}
 use Rattle.guard_compile.specs.declared.write.Piece.{Piece}
 use Rattle.guard_compile.specs.declared.write.Defined.{Defined}
-use Rattle.guard_compile.specs.inside.Written.{Wrote, behind, inside, above, no_definitions, write}
+use Rattle.guard_compile.specs.inside.Written.{Wrote, behind, inside, no_definitions, with_body, write}
 use Rattle.guard_compile.specs.inside.Written.{write_defs, write_def}
-use Rattle.guard_compile.specs.inside.Appends.{Appends, AppendsDefined, whole_block, whole_place, place_defs, place_process, in_place, place_level}
+use Rattle.guard_compile.specs.inside.Appends.{Appends, AppendsDefined, AreBlockNames, guard_with, whole_block, whole_place, place_defs, place_process, in_place, place_level}
 
 pub take_front : (xs ys : List ℕ) → take (length xs) (xs ++ ys) ≡ xs
 take_front [] ys = refl
 take_front (x ∷ xs) ys = ap (λ zs. x ∷ zs) (take_front xs ys)
+
+-- the names of a block, cut back to those of its own channels
+pub own_channels : (ds : Definitions) (o : Opened) (n : ℕ) (cut : List ℕ) → AreBlockNames ds o → n ≡ length o.channels → cut ≡ take n o.order → cut ≡ o.channels
+own_channels ds o n cut names e f =
+    f ∙ (λ i. take ((e ∙ ap length names.channels) i) (names.order i)) ∙ take_front (new_channels [] ds) (places_order (new_channels [] ds) ds) ∙ sym names.channels
+
+-- a block gets its names, where none has one
+pub block_named : (o : Result (Unit {0}) Memory) (ds : Definitions) (old new : Opened) (mid : List ℕ) → old ≡ record { channels = []; counts = []; order = [] }
+    → mid ≡ old.order ++ new_channels old.order ds → new.channels ≡ old.channels ++ new_channels old.order ds → new.counts ≡ old.counts ++ new_counts old.order ds
+    → OnOk o (new.order ≡ mid ++ places_order mid ds) → OnOk o (AreBlockNames ds new)
+block_named (Err m) ds old new mid e named channels counts h = tt
+block_named (Ok u) ds old new mid e named channels counts h =
+    let own : mid ≡ new_channels [] ds = named ∙ (λ i. (e i).order ++ new_channels (e i).order ds) in
+    record {
+      channels = channels ∙ (λ i. (e i).channels ++ new_channels (e i).order ds);
+      counts = counts ∙ (λ i. (e i).counts ++ new_counts (e i).order ds);
+      order = h ∙ (λ i. own i ++ places_order (own i) ds);
+    }
 
 -- what a `def` under the layout y works with: the names of its block, the layout within, and where the definitions and then the process are written
 pub record OpenedAs (at : At) (y : List ℕ) (ds : Definitions) (count : ℕ) (next : At) (channels counts names inner later named : List ℕ) (depth many : ℕ) : Type 0 where
@@ -102,21 +123,11 @@ pub cut_back : (o : Result (Unit {0}) Memory) (old more long cut : List ℕ) (co
 cut_back (Err m) old more long cut count e f g = tt
 cut_back (Ok u) old more long cut count e f g = g ∙ (λ i. take (e i) (f i)) ∙ take_front old more
 
--- a body that is done is put behind a piece
-pub record BodyPut (old new : Piece) (number : ℕ) (is : List Instr) : Type 0 where
-  pub number_is : number ≡ old.next.body
-  pub next_is : new.next ≡ above old.next
-  pub bodies_are : new.bodies ≡ old.bodies ++ is ∷ []
-  pub levels_are : new.levels ≡ old.levels
-  pub guards_are : new.guards ≡ old.guards
-  pub blocks_are : new.blocks ≡ old.blocks
-
-module _ (tops : Naming) (block number : ℕ) (z acc : List ℕ) (x : Ref) (es : Definitions) (p : Process) (old d : Defined) (mid last : Piece) (own named later : List ℕ) (is : List Instr) (done : ℕ)
+module _ (tops : Naming) (block number : ℕ) (z acc : List ℕ) (x : Ref) (es : Definitions) (p : Process) (old d : Defined) (last : Piece) (own named later : List ℕ) (done : ℕ)
     (own_is : own ≡ new_channels (acc ++ binder_of x) es) (named_is : named ≡ acc ++ place_order acc x es) (later_is : later ≡ z)
     (a : AppendsDefined old d (write_defs tops old.piece.next block 0 number own z named es))
-    (b : Appends d.piece mid (write tops d.piece.next later p).piece)
-    (c : is ≡ (write tops d.piece.next later p).instrs)
-    (u : BodyPut mid last done is) where
+    (b : Appends d.piece last (with_body tops (write tops d.piece.next later p)))
+    (n : done ≡ (write tops d.piece.next later p).piece.next.body) where
   abbrev in_defs : Defined
   in_defs = place_defs tops old.piece.next block number z acc x es
 
@@ -126,33 +137,46 @@ module _ (tops : Naming) (block number : ℕ) (z acc : List ℕ) (x : Ref) (es :
   in_defs_are : AppendsDefined old d in_defs
   in_defs_are = subst (λ (q : List ℕ × List ℕ). AppendsDefined old d (write_defs tops old.piece.next block 0 number q.0 z q.1 es)) (λ i. (own_is i, named_is i)) a
 
-  in_process_is : Appends d.piece mid in_process.piece
-  in_process_is = subst (λ (q : At × List ℕ). Appends d.piece mid (write tops q.0 q.1 p).piece) (λ i. (in_defs_are.2.0 i, later_is i)) b
+  abbrev in_body : Piece
+  in_body = with_body tops in_process
 
-  instrs_are : is ≡ in_process.instrs
-  instrs_are = c ∙ (λ i. (write tops (in_defs_are.2.0 i) (later_is i) p).instrs)
+  in_body_is : Appends d.piece last in_body
+  in_body_is = subst (λ (q : At × List ℕ). Appends d.piece last (with_body tops (write tops q.0 q.1 p))) (λ i. (in_defs_are.2.0 i, later_is i)) b
 
   -- the number of its body
   pub place_number : done ≡ in_process.piece.next.body
-  place_number = u.number_is ∙ ap (λ (q : At). q.body) in_process_is.0
+  place_number = n ∙ (λ i. (write tops (in_defs_are.2.0 i) (later_is i) p).piece.next.body)
 
   pub place_within : AppendsDefined old (record { guards = d.guards; places = d.places; piece = last }) (in_place tops old.piece.next block number z acc x es p)
   place_within =
       let e = in_defs_are in
-      let w = in_process_is in
-      let D = in_defs.piece in
-      let W = in_process.piece in (
+      let w = in_body_is in
+      let D = in_defs.piece in (
         e.0,
         e.1,
         (
-          u.next_is ∙ ap above w.0,
-          u.levels_are ∙ w.1 ∙ (λ i. e.2.1 i ++ sym (append_nil W.levels) i) ∙ append_assoc old.piece.levels D.levels (W.levels ++ []),
-          u.guards_are ∙ w.2 ∙ (λ i. e.2.2 i ++ sym (append_nil W.guards) i) ∙ append_assoc old.piece.guards D.guards (W.guards ++ []),
-          u.blocks_are ∙ w.3 ∙ (λ i. e.2.3 i ++ sym (append_nil W.blocks) i) ∙ append_assoc old.piece.blocks D.blocks (W.blocks ++ []),
-          u.bodies_are ∙ (λ j. w.4 j ++ instrs_are j ∷ []) ∙ append_assoc d.piece.bodies W.bodies (in_process.instrs ∷ []) ∙ ap (λ y. y ++ (W.bodies ++ in_process.instrs ∷ [])) e.2.4
-              ∙ append_assoc old.piece.bodies D.bodies (W.bodies ++ in_process.instrs ∷ []),
+          w.0,
+          w.1 ∙ ap (λ y. y ++ in_body.levels) e.2.1 ∙ append_assoc old.piece.levels D.levels in_body.levels,
+          w.2 ∙ ap (λ y. y ++ in_body.guards) e.2.2 ∙ append_assoc old.piece.guards D.guards in_body.guards,
+          w.3 ∙ ap (λ y. y ++ in_body.blocks) e.2.3 ∙ append_assoc old.piece.blocks D.blocks in_body.blocks,
+          w.4 ∙ ap (λ y. y ++ in_body.bodies) e.2.4 ∙ append_assoc old.piece.bodies D.bodies in_body.bodies,
         ),
       )
+
+-- a rule with its guard
+pub rule_written : (o : Result (Unit {0}) Memory) (tops : Naming) (level : ℕ) (channels layout later : List ℕ) (ps : List Pat) (p : Process) (old new : Defined) (number : ℕ) (made : Guard)
+    → later ≡ layout ++ params_of ps
+    → Appends old.piece new.piece (with_body tops (write tops old.piece.next later p))
+    → number ≡ (write tops old.piece.next later p).piece.next.body
+    → made ≡ guard_with level channels ps p number
+    → OnOk o (new.guards ≡ old.guards ++ made ∷ []) → new.places ≡ old.places
+    → OnOk o (AppendsDefined old new (write_def tops old.piece.next 0 0 level channels layout [] (Rule ps p)))
+rule_written (Err m) tops level channels layout later ps p old new number made l a n g h same = tt
+rule_written (Ok u) tops level channels layout later ps p old new number made l a n g h same = (
+  h ∙ (λ i. old.guards ++ (g ∙ ap (guard_with level channels ps p) (n ∙ ap (λ y. (write tops old.piece.next y p).piece.next.body) l)) i ∷ []),
+  same ∙ sym (append_nil old.places),
+  subst (λ y. Appends old.piece new.piece (with_body tops (write tops old.piece.next y p))) l a,
+)
 
 -- a place with its level, where the level begins with these
 pub place_written : (o : Result (Unit {0}) Memory) (tops : Naming) (block place : ℕ) (z acc : List ℕ) (x : Ref) (es : Definitions) (p : Process) (old new : Defined) (count depth : ℕ) (counts : List ℕ) (next : At) (own : Level) (start d : Defined)

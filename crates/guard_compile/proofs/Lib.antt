@@ -17,3 +17,5 @@ pub mod CodeKept
 pub mod TopsKnown
 pub mod TopNames
 pub mod Sites
+pub mod Loops
+pub mod Counting

@@ -22,7 +22,7 @@ site_defs_written o tops at channels layout named ds old d l n a =
     subst (λ (q : List ℕ × List ℕ). OnOk o (AppendsDefined old d (write_defs tops old.piece.next at.block 0 at.level channels q.0 q.1 ds))) (λ i. (l i, n i)) a
 
 -- a process that is a body of its own
-pub body_written : (o : Result ℕ Memory) (tops : Naming) (layout : List ℕ) (p : Process) (old mid new : Piece) (begun is : List Instr) → layout ≡ [] → begun ≡ []
+pub body_written : (o : Result ℕ Memory) (tops : Naming) (layout : List ℕ) (p : Process) (old mid new : Piece) (begun is : List Instr) → begun ≡ []
     → Appends old mid (write tops old.next layout p).piece
     → is ≡ begun ++ (write tops old.next layout p).instrs
     → OnOk o (new.next ≡ above mid.next)
@@ -30,9 +30,9 @@ pub body_written : (o : Result ℕ Memory) (tops : Naming) (layout : List ℕ) (
     → OnOk o (new.levels ≡ mid.levels)
     → OnOk o (new.guards ≡ mid.guards)
     → OnOk o (new.blocks ≡ mid.blocks)
-    → OnOk o (Appends old new (with_body tops (write tops old.next [] p)))
-body_written (Err m) tops layout p old mid new begun is l k a b h1 h2 h3 h4 h5 = tt
-body_written (Ok n) tops layout p old mid new begun is l k a b h1 h2 h3 h4 h5 = (
+    → OnOk o (Appends old new (with_body tops (write tops old.next layout p)))
+body_written (Err m) tops layout p old mid new begun is k w b h1 h2 h3 h4 h5 = tt
+body_written (Ok n) tops layout p old mid new begun is k w b h1 h2 h3 h4 h5 = (
   h1 ∙ ap above w.0,
   h3 ∙ w.1 ∙ (λ i. old.levels ++ sym (append_nil W.piece.levels) i),
   h4 ∙ w.2 ∙ (λ i. old.guards ++ sym (append_nil W.piece.guards) i),
@@ -41,20 +41,15 @@ body_written (Ok n) tops layout p old mid new begun is l k a b h1 h2 h3 h4 h5 = 
 )
   where
     W : Wrote
-    W = write tops old.next [] p
-
-    w : Appends old mid W.piece
-    w = subst (λ y. Appends old mid (write tops old.next y p).piece) l a
+    W = write tops old.next layout p
 
     is_is : is ≡ W.instrs
-    is_is = b ∙ (λ i. k i ++ (write tops old.next (l i) p).instrs)
+    is_is = b ∙ ap (λ js. js ++ W.instrs) k
 
-pub body_number : (o : Result ℕ Memory) (tops : Naming) (layout : List ℕ) (p : Process) (old mid : Piece) → layout ≡ []
-    → Appends old mid (write tops old.next layout p).piece → IfOk o (λ n. n ≡ mid.next.body) → IfOk o (λ n. n ≡ (write tops old.next [] p).piece.next.body)
-body_number (Err m) tops layout p old mid l a h = tt
-body_number (Ok n) tops layout p old mid l a h =
-    let w = subst (λ y. Appends old mid (write tops old.next y p).piece) l a in
-    h ∙ ap (λ (q : At). q.body) w.0
+pub body_number : (o : Result ℕ Memory) (tops : Naming) (layout : List ℕ) (p : Process) (old mid : Piece)
+    → Appends old mid (write tops old.next layout p).piece → IfOk o (λ n. n ≡ mid.next.body) → IfOk o (λ n. n ≡ (write tops old.next layout p).piece.next.body)
+body_number (Err m) tops layout p old mid w h = tt
+body_number (Ok n) tops layout p old mid w h = h ∙ ap (λ (q : At). q.body) w.0
 
 module _ (tops : Naming) (at : At) (ds : Definitions) (p : Process) (count : ℕ) (o : Opened) (many : ℕ) (start d : Defined)
     (count_is : count ≡ rules_in ds) (names : AreBlockNames ds o) (many_is : many ≡ length o.order) (g : start ≡ no_definitions (behind (inside at) count))

@@ -1,3 +1,4 @@
 pub mod Written
 pub mod Drawing
 pub mod Appends
+pub mod Counted

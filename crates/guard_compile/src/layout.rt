@@ -151,15 +151,28 @@ pub(crate) fn name_place(
     name_channels(named, fresh, counts, defs)
 }
 
+/// A place of a block gets its name, and then its channels do.
+fn name_block_place(
+    alloc: Global,
+    named: &mut Binders,
+    name: Ref,
+    defs: &Defs,
+) -> Result<(), Memory>
+    ensures { OnOk result (named.new ≡ named.old ++ place_order named.old name
+        (definitions defs.now)) }
+{
+    let mut fresh = Binders::new(alloc);
+    let mut counts = Items::new(alloc);
+    name_place(named, &mut fresh, &mut counts, name, defs)
+}
+
 /// The places of a block get their names.
 fn name_places(alloc: Global, named: &mut Binders, defs: &Defs) -> Result<(), Memory>
     ensures { OnOk result (named.new ≡ named.old ++ places_order named.old (definitions defs.now)) }
 {
     for definition in defs.as_slice() {
         if let DefnNode::Place { name, defs, .. } = definition.node() {
-            let mut fresh = Binders::new(alloc);
-            let mut counts = Items::new(alloc);
-            name_place(named, &mut fresh, &mut counts, *name, defs)?;
+            name_block_place(alloc, named, *name, defs)?;
         }
     }
     Ok(())
@@ -174,19 +187,36 @@ pub(crate) struct Opened {
     pub(crate) order: Binders,
 }
 
+/// A block of which nothing is named yet gets its names.
+fn name_block(alloc: Global, opened: &mut Opened, defs: &Defs) -> Result<(), Memory>
+    requires { opened.old ≡ record { channels = []; counts = []; order = [] } }
+    ensures { OnOk result (AreBlockNames (definitions defs.now) opened.new) }
+{
+    name_channels(
+        &mut opened.order,
+        &mut opened.channels,
+        &mut opened.counts,
+        defs,
+    )?;
+    name_places(alloc, &mut opened.order, defs)
+}
+
+/// What a block names.
 pub(crate) fn open(alloc: Global, defs: &Defs) -> Result<Opened, Memory>
     ensures { IfOk result (λ opened. AreBlockNames (definitions defs.now) opened) }
 {
-    let mut order = Binders::new(alloc);
-    let mut channels = Binders::new(alloc);
-    let mut counts = Items::new(alloc);
-    name_channels(&mut order, &mut channels, &mut counts, defs)?;
-    name_places(alloc, &mut order, defs)?;
-    Ok(Opened {
-        channels,
-        counts,
-        order,
-    })
+    let mut opened = Opened {
+        channels: Binders::new(alloc),
+        counts: Items::new(alloc),
+        order: Binders::new(alloc),
+    };
+    match name_block(alloc, &mut opened, defs) {
+        Ok(()) => Ok(opened),
+        Err(memory) => {
+            drop(opened);
+            Err(memory)
+        }
+    }
 }
 
 /// Appends the parameters of a join pattern.

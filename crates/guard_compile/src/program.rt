@@ -4,6 +4,7 @@ ghost use Rattle.chem_model.specs.Fill.{name_at};
 ghost use Rattle.chem_model.specs.Opening.{site_names, counts_of};
 ghost use Rattle.env_store.specs.Reading.{locs_in, IsCodeOf};
 ghost use Rattle.guard_compile.specs.inside.Written.{write_sites as written_sites, code_of};
+ghost use Rattle.guard_compile.specs.inside.Written.{zero_at};
 ghost use Rattle.guard_compile.specs.inside.Appends.{Appends};
 
 use crate::names::{NameTable, site_names};
@@ -30,6 +31,34 @@ fn write_sites(
         codes.push(code)?;
     }
     Ok(())
+}
+
+/// The members that all sites add, whose codes are appended.
+fn whole_piece(
+    alloc: Global,
+    tops: &NameTable,
+    sites: &SiteTerms,
+    codes: &mut SiteCodes,
+) -> Result<Piece, Memory>
+    ensures piece { IfOk result (λ piece. piece ≡
+        (written_sites tops.now zero_at sites.now).piece) }
+    ensures codes { OnOk result (codes.new ≡ codes.old ++
+        (written_sites tops.now zero_at sites.now).sites) }
+{
+    let start = At {
+        level: 0,
+        guard: 0,
+        block: 0,
+        body: 0,
+    };
+    let mut piece = Piece::start(alloc, start);
+    match write_sites(alloc, tops, sites, &mut piece, codes) {
+        Ok(()) => Ok(piece),
+        Err(memory) => {
+            drop(piece);
+            Err(memory)
+        }
+    }
 }
 
 /// The declared counts of observed names.
@@ -61,30 +90,17 @@ fn code(alloc: Global, program: &Program, tops: &NameTable) -> Result<Code, Memo
     requires { tops.now ≡ site_names program.now.sites }
     ensures { IfOk result (λ code. code ≡ code_of program.now) }
 {
-    let start = At {
-        level: 0,
-        guard: 0,
-        block: 0,
-        body: 0,
-    };
-    let mut piece = Piece {
-        next: start,
-        levels: Items::new(alloc),
-        guards: Items::new(alloc),
-        blocks: Items::new(alloc),
-        bodies: Items::new(alloc),
-    };
-    let mut sites = Items::new(alloc);
-    write_sites(alloc, tops, &program.sites, &mut piece, &mut sites)?;
     let seen = counts(alloc, &program.seen)?;
-    let tops = locations(alloc, tops)?;
+    let locs = locations(alloc, tops)?;
+    let mut sites = Items::new(alloc);
+    let piece = whole_piece(alloc, tops, &program.sites, &mut sites)?;
     Ok(Code {
         guards: piece.guards,
         levels: piece.levels,
         blocks: piece.blocks,
         bodies: piece.bodies,
         seen,
-        tops,
+        tops: locs,
         sites,
     })
 }
@@ -98,13 +114,13 @@ pub fn compile(alloc: Global, program: &Program) -> Result<Code, Memory>
     code(alloc, program, &tops)
 }
 
-/// The names of the site-level binders, by their numbers, as the opening of the program gives them.
-pub fn top_names(alloc: Global, program: &Program) -> Result<Names, Memory>
+/// The names of the site-level binders, by their numbers, where these are all names of that level.
+fn names_in_order(alloc: Global, program: &Program, tops: &NameTable) -> Result<Names, Memory>
+    requires { tops.now ≡ site_names program.now.sites }
     ensures count { IfOk result (λ names. length names ≡ program.now.tops) }
     ensures names { IfOk result (λ names. (b : ℕ) → slice_get names b ≡ name_at
         (site_names program.now.sites) b) }
 {
-    let tops = site_names(alloc, &program.sites)?;
     let mut names = Items::new(alloc);
     for binder in 0..program.tops {
         match tops.name_at(binder) {
@@ -113,4 +129,14 @@ pub fn top_names(alloc: Global, program: &Program) -> Result<Names, Memory>
         }
     }
     Ok(names)
+}
+
+/// The names of the site-level binders, by their numbers, as the opening of the program gives them.
+pub fn top_names(alloc: Global, program: &Program) -> Result<Names, Memory>
+    ensures count { IfOk result (λ names. length names ≡ program.now.tops) }
+    ensures names { IfOk result (λ names. (b : ℕ) → slice_get names b ≡ name_at
+        (site_names program.now.sites) b) }
+{
+    let tops = site_names(alloc, &program.sites)?;
+    names_in_order(alloc, program, &tops)
 }

@@ -1,18 +1,19 @@
 // The members that a process adds to the code's lists.
 ghost use Rattle.std.specs.Prelude.{◌≡◌, [], ◌∷◌, ◌++◌, ◌+◌, IfOk, OnOk, Some, length};
 ghost use Rattle.chem_model.specs.Process.{definitions, processes, Def, Rule, Place};
-ghost use Rattle.env_store.specs.Layout.{place_in, places_order, rules_in};
-ghost use Rattle.guard_compile.specs.inside.Written.{behind, inside, above, no_definitions};
+ghost use Rattle.env_store.specs.Layout.{place_in, places_order};
+ghost use Rattle.guard_compile.specs.inside.Written.{behind, inside, above};
+ghost use Rattle.guard_compile.specs.inside.Written.{no_definitions, no_piece};
 ghost use Rattle.guard_compile.specs.inside.Written.{write as written, write_all as written_all};
 ghost use Rattle.guard_compile.specs.inside.Written.{write_def as written_def};
 ghost use Rattle.guard_compile.specs.inside.Written.{write_defs as written_defs};
 ghost use Rattle.guard_compile.specs.inside.Written.{with_body, site_piece, site_code};
-ghost use Rattle.guard_compile.specs.inside.Appends.{Appends, AppendsDefined, AreBlockNames};
+ghost use Rattle.guard_compile.specs.inside.Appends.{Appends, AppendsDefined, IsBegun};
 ghost use Rattle.guard_compile.specs.inside.Appends.{whole_block, whole_place, in_place};
-ghost use Rattle.guard_compile.specs.inside.Appends.{place_level};
+ghost use Rattle.guard_compile.specs.inside.Appends.{place_level, guard_with};
 
 use crate::binders::Binders;
-use crate::count::{births, rules, sends, sum};
+use crate::count::{poured, rules, sum};
 use crate::layout::{Opened, channels, name_place, open, push_params, slot, slots};
 use crate::mask::mask;
 use crate::names::NameTable;
@@ -24,7 +25,7 @@ use std::alloc::Global;
 use std::mem;
 
 /// The next number of each list.
-#[derive(Clone, Copy, PartialEq, Eq, Debug)]
+#[derive(Clone, Copy)]
 pub(crate) struct At {
     pub(crate) level: u32,
     pub(crate) guard: u32,
@@ -49,6 +50,15 @@ pub(crate) struct Defined {
     pub(crate) guards: Guards,
     pub(crate) places: Nums,
     pub(crate) piece: Piece,
+}
+
+/// A block of which nothing is written yet: how many rules stand at its top, what it names, and
+/// what its definitions add.
+#[derive(Drop)]
+struct Begun {
+    count: u32,
+    opened: Opened,
+    defined: Defined,
 }
 
 impl At {
@@ -93,6 +103,21 @@ impl At {
     }
 }
 
+impl Piece {
+    /// No members.
+    pub(crate) fn start(alloc: Global, at: At) -> Piece
+        ensures { result ≡ no_piece at }
+    {
+        Piece {
+            next: at,
+            levels: Items::new(alloc),
+            guards: Items::new(alloc),
+            blocks: Items::new(alloc),
+            bodies: Items::new(alloc),
+        }
+    }
+}
+
 impl Defined {
     /// No definitions.
     fn start(alloc: Global, at: At) -> Defined
@@ -101,15 +126,23 @@ impl Defined {
         Defined {
             guards: Items::new(alloc),
             places: Items::new(alloc),
-            piece: Piece {
-                next: at,
-                levels: Items::new(alloc),
-                guards: Items::new(alloc),
-                blocks: Items::new(alloc),
-                bodies: Items::new(alloc),
-            },
+            piece: Piece::start(alloc, at),
         }
     }
+}
+
+/// Begins a block at these numbers.
+fn begin(alloc: Global, at: At, defs: &Defs) -> Result<Begun, Memory>
+    ensures { IfOk result (λ begun. IsBegun at (definitions defs.now) begun) }
+{
+    let count = rules(defs)?;
+    let next = at.inside()?.behind(count)?;
+    let opened = open(alloc, defs)?;
+    Ok(Begun {
+        count,
+        opened,
+        defined: Defined::start(alloc, next),
+    })
 }
 
 /// The levels of a block: its own, and then those of its places.
@@ -120,6 +153,18 @@ fn levels_of(alloc: Global, own: u32, places: &mut Nums) -> Result<Nums, Memory>
     levels.push(own)?;
     levels.append(places)?;
     Ok(levels)
+}
+
+/// Appends a piece behind another.
+fn put_piece(piece: &mut Piece, more: &mut Piece) -> Result<(), Memory>
+    ensures { OnOk result (Appends piece.old piece.new more.old) }
+{
+    piece.levels.append(&mut more.levels)?;
+    piece.guards.append(&mut more.guards)?;
+    piece.blocks.append(&mut more.blocks)?;
+    piece.bodies.append(&mut more.bodies)?;
+    piece.next = more.next;
+    Ok(())
 }
 
 /// Appends a level with its guards, and then what is within it.
@@ -135,13 +180,8 @@ fn put_level(piece: &mut Piece, level: Level, defined: &mut Defined) -> Result<(
         ++ defined.old.piece.bodies) }
 {
     piece.levels.push(level)?;
-    piece.levels.append(&mut defined.piece.levels)?;
     piece.guards.append(&mut defined.guards)?;
-    piece.guards.append(&mut defined.piece.guards)?;
-    piece.blocks.append(&mut defined.piece.blocks)?;
-    piece.bodies.append(&mut defined.piece.bodies)?;
-    piece.next = defined.piece.next;
-    Ok(())
+    put_piece(piece, &mut defined.piece)
 }
 
 /// Appends a block with its own level, and then what is within it.
@@ -149,27 +189,25 @@ fn put_block(
     alloc: Global,
     at: At,
     depth: u32,
-    count: u32,
     names: u32,
-    opened: &mut Opened,
-    defined: &mut Defined,
+    begun: &mut Begun,
     piece: &mut Piece,
 ) -> Result<(), Memory>
     ensures { OnOk result (Appends piece.old piece.new
-        (whole_block at depth count names opened.old.counts defined.old)) }
+        (whole_block at depth begun.old.count names begun.old.opened.counts begun.old.defined)) }
 {
-    let levels = levels_of(alloc, at.level, &mut defined.places)?;
+    let levels = levels_of(alloc, at.level, &mut begun.defined.places)?;
     let own = Level {
         block: at.block,
         place: None,
-        counts: mem::replace(&mut opened.counts, Items::new(alloc)),
+        counts: mem::replace(&mut begun.opened.counts, Items::new(alloc)),
         depth,
         first: at.guard,
-        guards: count,
+        guards: begun.count,
         body: None,
     };
     piece.blocks.push(Block { levels, names })?;
-    put_level(piece, own, defined)
+    put_level(piece, own, &mut begun.defined)
 }
 
 /// Appends a place with its level, and then what is within it.
@@ -200,6 +238,31 @@ fn put_body(piece: &mut Piece, instrs: Instrs) -> Result<u32, Memory>
     piece.bodies.push(instrs)?;
     piece.next = next;
     Ok(number)
+}
+
+/// The guard of a rule, whose body has this number.
+fn rule_guard(
+    alloc: Global,
+    level: u32,
+    in_level: &Binders,
+    pats: &Pats,
+    body: &Proc,
+    number: u32,
+) -> Result<Guard, Memory>
+    ensures { IfOk result (λ guard. guard ≡ guard_with level in_level.now pats.now body.now
+        number) }
+{
+    let made = poured(body)?;
+    let chans = channels(alloc, in_level, pats)?;
+    let words = mask(alloc, in_level.len(), &chans)?;
+    Ok(Guard {
+        level,
+        mask: Mask { words },
+        chans,
+        body: number,
+        births: made.births,
+        sends: made.sends,
+    })
 }
 
 /// Writes a process under a layout: its members are appended to the piece, and its instructions to
@@ -284,44 +347,25 @@ fn write_block(
         (definitions defs.now) body.now)).instrs) }
     ensures layout { OnOk result (layout.new ≡ layout.old) }
 {
-    let count = rules(defs)?;
-    let next = piece.next.inside()?.behind(count)?;
-    let mut opened = open(alloc, defs)?;
-    let mut defined = Defined::start(alloc, next);
-    let written = write_opened(
-        alloc,
-        tops,
-        count,
-        &mut opened,
-        &mut defined,
-        layout,
-        defs,
-        body,
-        piece,
-        instrs,
-    );
-    drop(opened);
-    drop(defined);
+    let mut begun = begin(alloc, piece.next, defs)?;
+    let written = write_begun(alloc, tops, &mut begun, layout, defs, body, piece, instrs);
+    drop(begun);
     written
 }
 
-/// Writes a block whose names are drawn, and of which nothing is written yet.
+/// Writes a block that is begun.
 #[cycle(write)]
-fn write_opened(
+fn write_begun(
     alloc: Global,
     tops: &NameTable,
-    count: u32,
-    opened: &mut Opened,
-    defined: &mut Defined,
+    begun: &mut Begun,
     layout: &mut Binders,
     defs: &Defs,
     body: &Proc,
     piece: &mut Piece,
     instrs: &mut Instrs,
 ) -> Result<(), Memory>
-    requires count { count ≡ rules_in (definitions defs.now) }
-    requires opened { AreBlockNames (definitions defs.now) opened.old }
-    requires defined { defined.old ≡ no_definitions (behind (inside piece.old.next) count) }
+    requires { IsBegun piece.old.next (definitions defs.now) begun.old }
     ensures piece { OnOk result (Appends piece.old piece.new
         (written tops.now piece.old.next layout.old (Def
         (definitions defs.now) body.now)).piece) }
@@ -332,27 +376,27 @@ fn write_opened(
 {
     let at = piece.next;
     let outside = layout.len();
-    layout.extend(opened.order.as_slice())?;
+    layout.extend(begun.opened.order.as_slice())?;
     instrs.push(Instr::Enter { block: at.block })?;
     let depth = layout.len();
-    let names = opened.order.len();
-    opened.order.truncate(opened.channels.len());
+    let names = begun.opened.order.len();
+    begun.opened.order.truncate(begun.opened.channels.len());
     write_defs(
         alloc,
         tops,
         at.block,
         &mut 0,
         at.level,
-        &opened.channels,
+        &begun.opened.channels,
         layout,
-        &mut opened.order,
+        &mut begun.opened.order,
         defs,
-        defined,
+        &mut begun.defined,
     )?;
-    write(alloc, tops, layout, body, &mut defined.piece, instrs)?;
+    write(alloc, tops, layout, body, &mut begun.defined.piece, instrs)?;
     instrs.push(Instr::Leave { count: names })?;
     layout.truncate(outside);
-    put_block(alloc, at, depth, count, names, opened, defined, piece)
+    put_block(alloc, at, depth, names, begun, piece)
 }
 
 /// Writes definitions of one level, in a block of which so many places have been written.
@@ -421,6 +465,26 @@ fn write_def(
     }
 }
 
+/// Writes a process that is a body of its own, and answers the number of that body.
+#[cycle(write)]
+fn write_body(
+    alloc: Global,
+    tops: &NameTable,
+    layout: &mut Binders,
+    process: &Proc,
+    piece: &mut Piece,
+) -> Result<u32, Memory>
+    ensures piece { OnOk result (Appends piece.old piece.new
+        (with_body tops.now (written tops.now piece.old.next layout.old process.now))) }
+    ensures number { IfOk result (λ number. number ≡
+        (written tops.now piece.old.next layout.old process.now).piece.next.body) }
+    ensures layout { OnOk result (layout.new ≡ layout.old) }
+{
+    let mut instrs = Items::new(alloc);
+    write(alloc, tops, layout, process, piece, &mut instrs)?;
+    put_body(piece, instrs)
+}
+
 /// Writes a rule: its body, and then its guard.
 #[cycle(write)]
 fn write_rule(
@@ -440,22 +504,10 @@ fn write_rule(
 {
     let outside = layout.len();
     push_params(layout, pats)?;
-    let mut instrs = Items::new(alloc);
-    write(alloc, tops, layout, body, &mut defined.piece, &mut instrs)?;
+    let number = write_body(alloc, tops, layout, body, &mut defined.piece)?;
     layout.truncate(outside);
-    let number = put_body(&mut defined.piece, instrs)?;
-    let chans = channels(alloc, in_level, pats)?;
-    let words = mask(alloc, in_level.len(), &chans)?;
-    let births = births(body)?;
-    let sends = sends(body)?;
-    defined.guards.push(Guard {
-        level,
-        mask: Mask { words },
-        chans,
-        body: number,
-        births,
-        sends,
-    })
+    let guard = rule_guard(alloc, level, in_level, pats, body, number)?;
+    defined.guards.push(guard)
 }
 
 /// Writes a place: its level, what its definitions add, and then its process.
@@ -551,9 +603,7 @@ fn write_within(
     )?;
     drop(own);
     named.truncate(so_far);
-    let mut instrs = Items::new(alloc);
-    write(alloc, tops, layout, body, &mut inner.piece, &mut instrs)?;
-    let done = put_body(&mut inner.piece, instrs)?;
+    let done = write_body(alloc, tops, layout, body, &mut inner.piece)?;
     level.body = Some(done);
     Ok(())
 }
@@ -564,16 +614,16 @@ fn site_definitions(
     tops: &NameTable,
     at: At,
     channels: &Binders,
+    named: &mut Binders,
     defs: &Defs,
     defined: &mut Defined,
 ) -> Result<(), Memory>
+    requires { named.old ≡ channels.now }
     ensures { OnOk result (AppendsDefined defined.old defined.new
         (written_defs tops.now defined.old.piece.next at.block 0 at.level channels.now []
         channels.now (definitions defs.now))) }
 {
     let mut layout = Binders::new(alloc);
-    let mut named = Binders::new(alloc);
-    named.extend(channels.as_slice())?;
     write_defs(
         alloc,
         tops,
@@ -582,7 +632,7 @@ fn site_definitions(
         at.level,
         channels,
         &mut layout,
-        &mut named,
+        named,
         defs,
         defined,
     )
@@ -601,9 +651,7 @@ fn site_process(
         (written tops.now piece.old.next [] process.now).piece.next.body) }
 {
     let mut layout = Binders::new(alloc);
-    let mut instrs = Items::new(alloc);
-    write(alloc, tops, &mut layout, process, piece, &mut instrs)?;
-    put_body(piece, instrs)
+    write_body(alloc, tops, &mut layout, process, piece)
 }
 
 /// Writes a site: its block with its own level come first, then what its definitions add, and then
@@ -620,49 +668,41 @@ pub(crate) fn write_site(
     ensures code { IfOk result (λ code. code ≡
         site_code tops.now piece.old.next (definitions defs.now) process.now) }
 {
-    let count = rules(defs)?;
-    let next = piece.next.inside()?.behind(count)?;
-    let mut opened = open(alloc, defs)?;
-    let mut defined = Defined::start(alloc, next);
-    let code = write_opened_site(
-        alloc,
-        tops,
-        count,
-        &mut opened,
-        &mut defined,
-        defs,
-        process,
-        piece,
-    );
-    drop(opened);
-    drop(defined);
+    let mut begun = begin(alloc, piece.next, defs)?;
+    let code = write_begun_site(alloc, tops, &mut begun, defs, process, piece);
+    drop(begun);
     code
 }
 
-/// Writes a site whose names are drawn, and of which nothing is written yet.
-fn write_opened_site(
+/// Writes a site whose block is begun.
+fn write_begun_site(
     alloc: Global,
     tops: &NameTable,
-    count: u32,
-    opened: &mut Opened,
-    defined: &mut Defined,
+    begun: &mut Begun,
     defs: &Defs,
     process: &Proc,
     piece: &mut Piece,
 ) -> Result<SiteCode, Memory>
-    requires count { count ≡ rules_in (definitions defs.now) }
-    requires opened { AreBlockNames (definitions defs.now) opened.old }
-    requires defined { defined.old ≡ no_definitions (behind (inside piece.old.next) count) }
+    requires { IsBegun piece.old.next (definitions defs.now) begun.old }
     ensures piece { OnOk result (Appends piece.old piece.new
         (site_piece tops.now piece.old.next (definitions defs.now) process.now)) }
     ensures code { IfOk result (λ code. code ≡
         site_code tops.now piece.old.next (definitions defs.now) process.now) }
 {
     let at = piece.next;
-    site_definitions(alloc, tops, at, &opened.channels, defs, defined)?;
-    let body = site_process(alloc, tops, process, &mut defined.piece)?;
-    let names = opened.order.len();
-    put_block(alloc, at, 0, count, names, opened, defined, piece)?;
+    let names = begun.opened.order.len();
+    begun.opened.order.truncate(begun.opened.channels.len());
+    site_definitions(
+        alloc,
+        tops,
+        at,
+        &begun.opened.channels,
+        &mut begun.opened.order,
+        defs,
+        &mut begun.defined,
+    )?;
+    let body = site_process(alloc, tops, process, &mut begun.defined.piece)?;
+    put_block(alloc, at, 0, names, begun, piece)?;
     Ok(SiteCode {
         block: at.block,
         body,

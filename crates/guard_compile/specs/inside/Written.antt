@@ -84,6 +84,10 @@ inside at = record { level = at.level; guard = at.guard; block = at.block + 1; b
 abbrev pub above : At → At
 above at = record { level = at.level; guard = at.guard; block = at.block; body = at.body + 1 }
 
+-- the first numbers
+abbrev pub zero_at : At
+zero_at = record { level = 0; guard = 0; block = 0; body = 0 }
+
 -- ---- members of the lists, and the next numbers behind them
 
 abbrev pub no_piece : At → Piece

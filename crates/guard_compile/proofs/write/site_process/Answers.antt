@@ -1,12 +1,12 @@
-use Rattle.guard_compile.proofs.Sites.{body_written, body_number}
+use Rattle.std.proofs.Common.{◌≡◌, IfOk, OnOk, subst}
+use Rattle.guard_compile.specs.inside.Written.{with_body, write}
+use Rattle.guard_compile.specs.inside.Appends.{Appends}
 use Rattle.guard_compile.proofs.write.site_process.Goals as goal
 
 pub returns-clause-piece : goal.returns-clause-piece
 returns-clause-piece c =
-    body_written c.put_body.result c.args.tops.now c.new-layout.result c.args.process.now c.args.piece.now c.write.new.piece c.put_body.new.piece c.new-instrs.result c.write.new.instrs
-    c.new-layout.ensures c.new-instrs.ensures c.in_ok-write.ensures.piece c.in_ok-write.ensures.instrs
-    c.put_body.ensures.next c.put_body.ensures.bodies c.put_body.ensures.levels c.put_body.ensures.guards c.put_body.ensures.blocks
+    subst (λ y. OnOk c.write_body.result (Appends c.args.piece.now c.write_body.new.piece (with_body c.args.tops.now (write c.args.tops.now c.args.piece.now.next y c.args.process.now)))) c.new-layout.ensures c.write_body.ensures.piece
 
 pub returns-clause-number : goal.returns-clause-number
 returns-clause-number c =
-    body_number c.put_body.result c.args.tops.now c.new-layout.result c.args.process.now c.args.piece.now c.write.new.piece c.new-layout.ensures c.in_ok-write.ensures.piece c.put_body.ensures.number
+    subst (λ y. IfOk c.write_body.result (λ n. n ≡ (write c.args.tops.now c.args.piece.now.next y c.args.process.now).piece.next.body)) c.new-layout.ensures c.write_body.ensures.number

@@ -4,7 +4,7 @@ use Rattle.chem_model.specs.Fill.{name_at}
 use Rattle.chem_model.specs.Opening.{site_names}
 use Rattle.chem_model.specs.ProgramFacts.{ProgramTerms, IsProgram}
 use Rattle.guard_compile.proofs.TopNames.{Follows, no_name, follows_more, top_named, all_tops}
-use Rattle.guard_compile.proofs.program.top_names.Goals as goal
+use Rattle.guard_compile.proofs.program.names_in_order.Goals as goal
 
 pub unreachable-requires : goal.unreachable-requires
 unreachable-requires c =
