@@ -1,64 +1,80 @@
-// Terms and solutions, built by hand.
+// Shapes of terms, as data, and the terms that are made of them.
 
 use chem_model::{
-    AtomId, Defn, Defs, Event, Items, Loc, Memory, Name, Numbered, Pat, Proc, Ref, RuleId,
-    SiteTerm, SiteTerms,
+    Defn, Defs, Items, Memory, Name, Numbered, Pat, Proc, Procs, Ref, SiteTerm, SiteTerms,
 };
-use chem_plain::{apply, opening_of};
+use chem_plain::opening_of;
 use std::alloc::Global;
 
-pub fn loc(site: u32, k: u64) -> Loc {
-    Loc { site, k }
+/// The shape of a process, whose names are binders.
+#[cycle(shapes)]
+#[derive(Drop)]
+pub enum Process {
+    /// A message without arguments.
+    Signal(u32),
+    /// A message on the first observed name, of one name.
+    Out(u32),
+    /// A move to the first name, and then a message on the second.
+    Go(u32, u32),
+    /// A message on the second name once the first fails.
+    Fail(u32, u32),
+    Halt,
+    /// These side by side.
+    All(&'static [Process]),
+    Def(&'static [Definition], &'static Process),
 }
 
-pub fn chan(site: u32, k: u64, home: Loc) -> Name {
-    Name::Chan { site, k, home }
+/// No process, `0`.
+pub const NOTHING: Process = Process::All(&[]);
+
+/// The shape of a definition, whose names are binders.
+#[cycle(shapes)]
+#[derive(Drop)]
+pub enum Definition {
+    /// A rule of one message: its channel, its parameters and its process.
+    Rule(u32, &'static [u32], Process),
+    /// A place: its name, its definitions and its process.
+    Place(u32, &'static [Definition], Process),
 }
 
-/// The observed name of the first declaration.
-pub const OUT: Ref = Ref::Known(Name::Seen(0));
+/// The shape of a site: its name, its definitions and its process.
+pub type Site = (u32, &'static [Definition], Process);
 
-pub fn nothing(alloc: Global) -> Proc {
-    Proc::par(Items::new(alloc))
-}
-
-/// A message without arguments on a binder's name.
-pub fn signal(alloc: Global, on: u32) -> Proc {
-    Proc::msg(Ref::Binder(on), Items::new(alloc))
-}
-
-/// A message on the first observed name.
-pub fn out(alloc: Global, arg: u32) -> Result<Proc, Memory> {
+/// The message of one name on the first observed name.
+fn message_out(alloc: Global, arg: u32) -> Result<Proc, Memory> {
     let args = Items::from_slice(alloc, &[Ref::Binder(arg)])?;
-    Ok(Proc::msg(OUT, args))
+    Ok(Proc::msg(Ref::Known(Name::Seen(0)), args))
 }
 
-pub fn both(alloc: Global, one: Proc, other: Proc) -> Result<Proc, Memory> {
-    let mut members = Items::new(alloc);
-    members.push(one)?;
-    members.push(other)?;
-    Ok(Proc::par(members))
+/// The processes of these shapes.
+#[cycle(shapes)]
+fn processes_of(alloc: Global, members: &[Process]) -> Result<Procs, Memory> {
+    let mut made = Items::new(alloc);
+    for member in members {
+        made.push(process_of(alloc, member)?)?;
+    }
+    Ok(made)
 }
 
-pub fn no_defs(alloc: Global) -> Defs {
-    Items::new(alloc)
+/// The process of this shape.
+#[cycle(shapes)]
+fn process_of(alloc: Global, shape: &Process) -> Result<Proc, Memory> {
+    match shape {
+        Process::Signal(on) => Ok(Proc::msg(Ref::Binder(*on), Items::new(alloc))),
+        Process::Out(arg) => message_out(alloc, *arg),
+        Process::Go(target, cont) => Ok(Proc::go(Ref::Binder(*target), Ref::Binder(*cont))),
+        Process::Fail(target, cont) => Ok(Proc::fail(Ref::Binder(*target), Ref::Binder(*cont))),
+        Process::Halt => Ok(Proc::halt()),
+        Process::All(members) => Ok(Proc::par(processes_of(alloc, *members)?)),
+        Process::Def(defs, body) => {
+            let defs = definitions_of(alloc, *defs)?;
+            Proc::def(alloc, defs, process_of(alloc, *body)?)
+        }
+    }
 }
 
-pub fn one_def(alloc: Global, one: Defn) -> Result<Defs, Memory> {
-    let mut defs = Items::new(alloc);
-    defs.push(one)?;
-    Ok(defs)
-}
-
-pub fn two_defs(alloc: Global, one: Defn, other: Defn) -> Result<Defs, Memory> {
-    let mut defs = Items::new(alloc);
-    defs.push(one)?;
-    defs.push(other)?;
-    Ok(defs)
-}
-
-/// A rule of one message pattern.
-pub fn rule(alloc: Global, on: u32, params: &[u32], body: Proc) -> Result<Defn, Memory> {
+/// A rule of one message.
+fn rule(alloc: Global, on: u32, params: &[u32], body: Proc) -> Result<Defn, Memory> {
     let params = Items::from_slice(alloc, params)?;
     let mut pats = Items::new(alloc);
     pats.push(Pat {
@@ -68,79 +84,59 @@ pub fn rule(alloc: Global, on: u32, params: &[u32], body: Proc) -> Result<Defn, 
     Defn::rule(alloc, pats, body)
 }
 
-pub fn place(alloc: Global, name: u32, defs: Defs, body: Proc) -> Result<Defn, Memory> {
-    Defn::place(alloc, Ref::Binder(name), defs, body)
+/// The definition of this shape.
+#[cycle(shapes)]
+fn definition_of(alloc: Global, shape: &Definition) -> Result<Defn, Memory> {
+    match shape {
+        Definition::Rule(on, params, body) => {
+            rule(alloc, *on, *params, process_of(alloc, body)?)
+        }
+        Definition::Place(name, defs, body) => {
+            let defs = definitions_of(alloc, *defs)?;
+            Defn::place(alloc, Ref::Binder(*name), defs, process_of(alloc, body)?)
+        }
+    }
+}
+
+/// The definitions of these shapes.
+#[cycle(shapes)]
+fn definitions_of(alloc: Global, members: &[Definition]) -> Result<Defs, Memory> {
+    let mut made = Items::new(alloc);
+    for member in members {
+        made.push(definition_of(alloc, member)?)?;
+    }
+    Ok(made)
+}
+
+/// The site of this shape.
+fn site_of(alloc: Global, (name, defs, body): &Site) -> Result<SiteTerm, Memory> {
+    let defs = definitions_of(alloc, *defs)?;
+    let body = process_of(alloc, body)?;
+    Ok(SiteTerm {
+        name: *name,
+        defs,
+        body,
+    })
+}
+
+/// The sites of these shapes.
+fn sites_of(alloc: Global, sites: &[Site]) -> Result<SiteTerms, Memory> {
+    let mut made = Items::new(alloc);
+    for one in sites {
+        made.push(site_of(alloc, one)?)?;
+    }
+    Ok(made)
 }
 
 /// The opening of these sites, over one declaration of one argument.
-fn opened(alloc: Global, sites: &SiteTerms) -> Result<Box<Numbered>, Memory> {
+fn opening(alloc: Global, sites: &SiteTerms) -> Result<Box<Numbered>, Memory> {
     let seen = Items::from_slice(alloc, &[1])?;
     let numbered = opening_of(alloc, &seen, sites)?;
     Ok(Box::new(alloc, numbered)?)
 }
 
-/// The opening of one site, over one declaration of one argument.
-pub fn open_one(alloc: Global, name: u32, defs: Defs, body: Proc) -> Result<Box<Numbered>, Memory> {
-    let mut sites: SiteTerms = Items::new(alloc);
-    sites.push(SiteTerm { name, defs, body })?;
-    opened(alloc, &sites)
-}
-
-/// The opening of two sites, over one declaration of one argument.
-pub fn open_two(alloc: Global, one: SiteTerm, other: SiteTerm) -> Result<Box<Numbered>, Memory> {
-    let mut sites: SiteTerms = Items::new(alloc);
-    sites.push(one)?;
-    sites.push(other)?;
-    opened(alloc, &sites)
-}
-
-pub fn atom(site: u32, k: u64) -> AtomId {
-    AtomId { site, k }
-}
-
-/// What an event makes. None where it isn't possible.
-fn applied(
-    alloc: Global,
-    numbered: &Numbered,
-    event: &Event,
-) -> Result<Option<Box<Numbered>>, Memory> {
-    match apply(alloc, numbered, event)? {
-        Some(made) => Ok(Some(Box::new(alloc, made)?)),
-        None => Ok(None),
-    }
-}
-
-/// What a rule of site 0 makes of one message. None where it can't take it.
-pub fn reaction(
-    alloc: Global,
-    numbered: &Numbered,
-    rule: u64,
-    took: AtomId,
-) -> Result<Option<Box<Numbered>>, Memory> {
-    let took = Items::from_slice(alloc, &[took])?;
-    let rule = RuleId { site: 0, k: rule };
-    applied(alloc, numbered, &Event::React { rule, took })
-}
-
-/// What the move that a request of site 0 asks for makes.
-pub fn movement(
-    alloc: Global,
-    numbered: &Numbered,
-    k: u64,
-) -> Result<Option<Box<Numbered>>, Memory> {
-    applied(alloc, numbered, &Event::Move { atom: atom(0, k) })
-}
-
-/// What the halt that a request of site 0 asks for makes.
-pub fn halt(alloc: Global, numbered: &Numbered, k: u64) -> Result<Option<Box<Numbered>>, Memory> {
-    applied(alloc, numbered, &Event::Halt { atom: atom(0, k) })
-}
-
-/// What the failure that a request of site 0 asks for makes.
-pub fn detection(
-    alloc: Global,
-    numbered: &Numbered,
-    k: u64,
-) -> Result<Option<Box<Numbered>>, Memory> {
-    applied(alloc, numbered, &Event::Detect { atom: atom(0, k) })
+/// The opening of sites of these shapes, over one declaration of one argument.
+pub fn opened(alloc: Global, sites: &[Site]) -> Result<Box<Numbered>, Memory> {
+    let sites = sites_of(alloc, sites)?;
+    opening(alloc, &sites)
 }

@@ -11,3 +11,5 @@ mod expect;
 mod openings;
 #[cfg(test)]
 mod solutions;
+#[cfg(test)]
+mod steps;

@@ -1,21 +1,33 @@
 // Environments by their worked row, and copies of code.
 use chem_model::{Items, Loc, Memory, Name};
-use env_store::{Guard, Instr, Level, Mask, Slot, copy_instrs, extend, lookup};
+use env_store::{Env, Guard, Instr, Instrs, Level, Mask, Slot, copy_instrs, extend, lookup};
 use std::alloc::Global;
-use std::process::Abort;
-use std::test::Fail;
 
 const ROOT: Name = Name::Place(Loc { site: 0, k: 0 });
 
-#[test]
-fn one_name_more(rt: HostRuntime) -> Result<(), Fail> {
-    let alloc = rt.alloc();
+/// No names, and then the root.
+fn one_more(alloc: Global) -> Result<Env, Memory> {
     let more = Items::from_slice(alloc, &[ROOT])?;
-    let env = extend(alloc, &Items::new(alloc), &more)?;
-    assert_eq!(rt; env.len(), 1);
-    assert_eq!(rt; lookup(&env, &Slot::Env(0)), ROOT);
-    assert_eq!(rt; lookup(&env, &Slot::Known(Name::Seen(7))), Name::Seen(7));
-    Ok(())
+    extend(alloc, &Items::new(alloc), &more)
+}
+
+/// Whether it is the root alone, and a known name isn't looked for in it.
+fn has_the_root(env: &Env) -> bool {
+    env.len() == 1
+        && lookup(env, &Slot::Env(0)) == ROOT
+        && lookup(env, &Slot::Known(Name::Seen(7))) == Name::Seen(7)
+}
+
+fn is_extended(alloc: Global) -> bool {
+    match one_more(alloc) {
+        Ok(env) => has_the_root(&env),
+        Err(_) => false,
+    }
+}
+
+#[test]
+fn one_name_more(rt: HostRuntime) {
+    assert!(rt; is_extended(rt.alloc()));
 }
 
 fn a_guard(alloc: Global) -> Result<Guard, Memory> {
@@ -30,19 +42,25 @@ fn a_guard(alloc: Global) -> Result<Guard, Memory> {
     })
 }
 
-fn expect_guard(rt: &impl Abort, guard: &Guard) {
-    assert_eq!(rt;
-        (guard.level, guard.body, guard.births, guard.sends),
-        (1, 3, 4, 6)
-    );
-    assert_eq!(rt; guard.mask.words.as_slice(), [5u64].as_slice());
-    assert_eq!(rt; guard.chans.as_slice(), [2u32, 0].as_slice());
+fn is_the_guard(guard: &Guard) -> bool {
+    guard.level == 1
+        && guard.mask.words.as_slice() == [5u64].as_slice()
+        && guard.chans.as_slice() == [2u32, 0].as_slice()
+        && guard.body == 3
+        && guard.births == 4
+        && guard.sends == 6
 }
 
-fn expect_copied_guard(rt: &impl Abort, alloc: Global) -> Result<(), Memory> {
-    let copy = a_guard(alloc)?.copy(alloc)?;
-    expect_guard(rt, &copy);
-    Ok(())
+fn copied_guard(alloc: Global) -> Result<Guard, Memory> {
+    let guard = a_guard(alloc)?;
+    guard.copy(alloc)
+}
+
+fn is_guard_copied(alloc: Global) -> bool {
+    match copied_guard(alloc) {
+        Ok(copy) => is_the_guard(&copy),
+        Err(_) => false,
+    }
 }
 
 fn a_level(alloc: Global) -> Result<Level, Memory> {
@@ -57,34 +75,49 @@ fn a_level(alloc: Global) -> Result<Level, Memory> {
     })
 }
 
-fn expect_level(rt: &impl Abort, level: &Level) {
-    assert_eq!(rt;
-        (level.block, level.place, level.body),
-        (1, Some(2), Some(7))
-    );
-    assert_eq!(rt; (level.depth, level.first, level.guards), (4, 5, 6));
-    assert_eq!(rt; level.counts.as_slice(), [3u32].as_slice());
+fn is_the_level(level: &Level) -> bool {
+    level.block == 1
+        && level.place == Some(2)
+        && level.counts.as_slice() == [3u32].as_slice()
+        && level.depth == 4
+        && level.first == 5
+        && level.guards == 6
+        && level.body == Some(7)
 }
 
-fn expect_copied_level(rt: &impl Abort, alloc: Global) -> Result<(), Memory> {
-    let copy = a_level(alloc)?.copy(alloc)?;
-    expect_level(rt, &copy);
-    Ok(())
+fn copied_level(alloc: Global) -> Result<Level, Memory> {
+    let level = a_level(alloc)?;
+    level.copy(alloc)
 }
 
-fn expect_copied_instrs(rt: &impl Abort, alloc: Global) -> Result<(), Memory> {
-    let mut list = Items::new(alloc);
+fn is_level_copied(alloc: Global) -> bool {
+    match copied_level(alloc) {
+        Ok(copy) => is_the_level(&copy),
+        Err(_) => false,
+    }
+}
+
+fn push_two(list: &mut Instrs) -> Result<(), Memory> {
     list.push(Instr::Enter { block: 1 })?;
-    list.push(Instr::Leave { count: 2 })?;
-    let copy = copy_instrs(alloc, &list)?;
-    assert_eq!(rt; copy.len(), 2);
-    Ok(())
+    list.push(Instr::Leave { count: 2 })
+}
+
+fn copied_instrs(alloc: Global) -> Result<Instrs, Memory> {
+    let mut list = Items::new(alloc);
+    push_two(&mut list)?;
+    copy_instrs(alloc, &list)
+}
+
+fn are_instrs_copied(alloc: Global) -> bool {
+    match copied_instrs(alloc) {
+        Ok(copy) => copy.len() == 2,
+        Err(_) => false,
+    }
 }
 
 #[test]
-fn copies_are_equal(rt: HostRuntime) -> Result<(), Fail> {
-    expect_copied_guard(&rt, rt.alloc())?;
-    expect_copied_level(&rt, rt.alloc())?;
-    expect_copied_instrs(&rt, rt.alloc())?;
-    Ok(())
+fn copies_are_equal(rt: HostRuntime) {
+    assert!(rt; is_guard_copied(rt.alloc()));
+    assert!(rt; is_level_copied(rt.alloc()));
+    assert!(rt; are_instrs_copied(rt.alloc()));
 }

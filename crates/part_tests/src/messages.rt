@@ -1,53 +1,69 @@
 // One message, on an observed name and on a channel. Bodies and openings are run where there is a
 // compiler.
-use chem_model::{Items, Loc, Name};
+ghost use Rattle.std.specs.Prelude.{◌≤◌, length};
+
+use chem_model::{AtomId, Items, Loc, Memory, Name};
 use code_run::{Post, Run, message};
-use std::process::Abort;
-use std::test::Fail;
+use std::alloc::Global;
 
 const ROOT: Loc = Loc { site: 0, k: 0 };
 
 const HOME: Loc = Loc { site: 1, k: 4 };
 
-// The next number, and how many posts and observables there are.
-fn expect_sizes(rt: &impl Abort, run: &Run, sizes: [usize; 3]) {
-    let found = [run.next as usize, run.posts.len(), run.outs.len()];
-    assert_eq!(rt; found, sizes);
+/// What the message 0.7 makes at the root of site 0, where these counts are declared.
+fn run_of(alloc: Global, counts: &[u32], on: Name, args: &[Name]) -> Result<Run, Memory>
+    requires { length args.now ≤ 255 }
+{
+    let counts = Items::from_slice(alloc, counts)?;
+    let args = Items::from_slice(alloc, args)?;
+    message(alloc, &counts, 0, &ROOT, on, args, 7)
 }
 
-// That it is the message 0.7 on this name, at its home.
-fn expect_post(rt: &impl Abort, post: Option<&Post>, on: Name) {
+/// Whether this is the next number, and there are so many posts and observables.
+fn has_sizes(run: &Run, next: u64, posts: usize, outs: usize) -> bool {
+    run.next == next && run.posts.len() == posts && run.outs.len() == outs
+}
+
+/// Whether it is the message 0.7 on this name, at its home.
+fn is_post(post: Option<&Post>, on: Name) -> bool {
     match post {
         Some(Post::Message(waiting)) => {
-            assert_eq!(rt; waiting.loc, HOME);
-            assert_eq!(rt; (waiting.msg.id.site, waiting.msg.id.k), (0, 7));
-            assert_eq!(rt; waiting.msg.on, on);
+            waiting.loc == HOME
+                && waiting.msg.id == AtomId { site: 0, k: 7 }
+                && waiting.msg.on == on
         }
-        _ => assert!(rt; false),
+        _ => false,
+    }
+}
+
+/// Whether a message of one name on this name, which is declared so, leads to an observable and
+/// nothing else.
+fn is_observed(alloc: Global, on: Name) -> bool {
+    match run_of(alloc, &[1], on, &[Name::Place(ROOT)]) {
+        Ok(run) => has_sizes(&run, 7, 0, 1),
+        Err(_) => false,
     }
 }
 
 #[test]
-fn observed_with_the_declared_count(rt: HostRuntime) -> Result<(), Fail> {
-    let alloc = rt.alloc();
-    let counts = Items::from_slice(alloc, &[1])?;
-    let args = Items::from_slice(alloc, &[Name::Place(ROOT)])?;
-    let run = message(alloc, &counts, 0, &ROOT, Name::Seen(0), args, 7)?;
-    expect_sizes(&rt, &run, [7, 0, 1]);
-    Ok(())
+fn observed_with_the_declared_count(rt: HostRuntime) {
+    assert!(rt; is_observed(rt.alloc(), Name::Seen(0)));
+}
+
+/// Whether a message on this name leads to a post and nothing else.
+fn is_posted(alloc: Global, on: Name) -> bool {
+    match run_of(alloc, &[], on, &[]) {
+        Ok(run) => has_sizes(&run, 8, 1, 0) && is_post(run.posts.as_slice().first(), on),
+        Err(_) => false,
+    }
 }
 
 #[test]
-fn on_a_channel_of_another_location(rt: HostRuntime) -> Result<(), Fail> {
-    let alloc = rt.alloc();
-    let counts = Items::new(alloc);
+fn on_a_channel_of_another_location(rt: HostRuntime) {
     let on = Name::Chan {
         site: 1,
         k: 5,
         home: HOME,
     };
-    let run = message(alloc, &counts, 0, &ROOT, on, Items::new(alloc), 7)?;
-    expect_sizes(&rt, &run, [8, 1, 0]);
-    expect_post(&rt, run.posts.as_slice().first(), on);
-    Ok(())
+    assert!(rt; is_posted(rt.alloc(), on));
 }

@@ -2,7 +2,6 @@
 use chem_model::{AtomId, Items, Loc, Memory, Name, RuleId, Text};
 use std::alloc::Global;
 use std::process::Abort;
-use std::test::Fail;
 use wire_packet::{
     DecodeEnd, Flight, Flights, GroupInst, Msg, Packet, Parcel, copy_flights, decode, encode,
 };
@@ -61,30 +60,44 @@ fn full_parcel_fields() -> &'static [usize] {
     ]
 }
 
-/// The answer for bytes that are a packet, where a place is asked for.
+/// The answers for bytes that are a packet, and where memory runs out, where a place is asked for.
 const PACKET: u64 = 1_000_000;
+
+const NO_MEMORY: u64 = PACKET + 1;
 
 /// The place of the first wrong field.
 fn place_of(alloc: Global, bytes: &[u8]) -> u64 {
     match decode(alloc, bytes) {
         Ok(_) => PACKET,
         Err(DecodeEnd::Bad { place }) => place,
-        Err(DecodeEnd::Memory) => PACKET + 1,
+        Err(DecodeEnd::Memory) => NO_MEMORY,
     }
 }
 
 /// The place, once the byte at this index is another.
-fn place_with(alloc: Global, bytes: &[u8], index: usize, byte: u8) -> Result<u64, Memory> {
-    let mut changed = Items::from_slice(alloc, bytes)?;
-    changed.set(index, byte);
-    Ok(place_of(alloc, changed.as_slice()))
+fn place_with(alloc: Global, bytes: &[u8], index: usize, byte: u8) -> u64 {
+    match Items::from_slice(alloc, bytes) {
+        Ok(mut changed) => {
+            changed.set(index, byte);
+            place_of(alloc, changed.as_slice())
+        }
+        Err(_) => NO_MEMORY,
+    }
+}
+
+/// The bytes, and a byte more.
+fn longer(alloc: Global, bytes: &[u8]) -> Result<Text, Memory> {
+    let mut longer = Items::from_slice(alloc, bytes)?;
+    longer.push(0)?;
+    Ok(longer)
 }
 
 /// The place, once a byte more follows.
-fn place_behind(alloc: Global, bytes: &[u8]) -> Result<u64, Memory> {
-    let mut longer: Text = Items::from_slice(alloc, bytes)?;
-    longer.push(0)?;
-    Ok(place_of(alloc, longer.as_slice()))
+fn place_behind(alloc: Global, bytes: &[u8]) -> u64 {
+    match longer(alloc, bytes) {
+        Ok(longer) => place_of(alloc, longer.as_slice()),
+        Err(_) => NO_MEMORY,
+    }
 }
 
 /// The spelling of a copy of the packet.
@@ -93,13 +106,18 @@ fn spelled(alloc: Global, packet: &Packet) -> Result<Text, Memory> {
     encode(alloc, &copy)
 }
 
+/// Whether these are the bytes of the packet.
+fn has_bytes(alloc: Global, packet: &Packet, bytes: &[u8]) -> bool {
+    match spelled(alloc, packet) {
+        Ok(text) => text.as_slice() == bytes,
+        Err(_) => false,
+    }
+}
+
 /// Whether the packet of these bytes has them as its spelling.
 fn is_again(alloc: Global, bytes: &[u8]) -> bool {
     match decode(alloc, bytes) {
-        Ok(packet) => match spelled(alloc, &packet) {
-            Ok(text) => text.as_slice() == bytes,
-            Err(_) => false,
-        },
+        Ok(packet) => has_bytes(alloc, &packet, bytes),
         Err(_) => false,
     }
 }
@@ -139,27 +157,19 @@ fn made_parcel(alloc: Global) -> Result<Packet, Memory> {
     }))
 }
 
-/// Whether these are the bytes of the packet.
-fn has_bytes(alloc: Global, packet: &Packet, bytes: &[u8]) -> bool {
-    match spelled(alloc, packet) {
-        Ok(text) => text.as_slice() == bytes,
+/// Whether a packet is made, and has these bytes.
+fn is_spelled(alloc: Global, made: Result<Packet, Memory>, bytes: &[u8]) -> bool {
+    match made {
+        Ok(packet) => has_bytes(alloc, &packet, bytes),
         Err(_) => false,
     }
-}
-
-/// Whether the message and the parcel that are made have their bytes.
-fn are_spelled(alloc: Global) -> Result<bool, Memory> {
-    let parcel = made_parcel(alloc)?;
-    Ok(
-        has_bytes(alloc, &made_message(alloc)?, message())
-            && has_bytes(alloc, &parcel, small_parcel()),
-    )
 }
 
 #[test]
 fn there_and_back(rt: HostRuntime) {
     let alloc = rt.alloc();
-    assert_eq!(rt; are_spelled(alloc), Ok(true));
+    assert!(rt; is_spelled(alloc, made_message(alloc), message()));
+    assert!(rt; is_spelled(alloc, made_parcel(alloc), small_parcel()));
     assert!(rt; is_again(alloc, message()));
     assert!(rt; is_again(alloc, small_parcel()));
     assert!(rt; is_again(alloc, full_parcel()));
@@ -172,7 +182,7 @@ fn ends_within(rt: &impl Abort, alloc: Global, bytes: &[u8], fields: &[usize]) {
         if fields.contains(&end) {
             field = end;
         }
-        assert_eq!(rt; place_of(alloc, &bytes[..end]), field as u64);
+        expect_place(rt, alloc, &bytes[..end], field as u64);
     }
 }
 
@@ -250,40 +260,36 @@ fn full_parcel_changes() -> &'static [Change] {
     ]
 }
 
-fn with_changes(
-    rt: &impl Abort,
-    alloc: Global,
-    bytes: &[u8],
-    changes: &[Change],
-) -> Result<(), Memory> {
+fn with_changes(rt: &impl Abort, alloc: Global, bytes: &[u8], changes: &[Change]) {
     for (index, byte, place) in changes {
-        let found = place_with(alloc, bytes, *index, *byte)?;
-        assert_eq!(rt; found, *place, "{byte} at {index}");
+        let found = place_with(alloc, bytes, *index, *byte);
+        assert!(rt; found == *place, "{byte} at {index}: {found}");
     }
-    Ok(())
 }
 
-fn with_all_changes(rt: &impl Abort, alloc: Global) -> Result<(), Memory> {
-    with_changes(rt, alloc, message(), message_changes())?;
-    with_changes(rt, alloc, small_parcel(), small_parcel_changes())?;
-    with_changes(rt, alloc, full_parcel(), full_parcel_changes())
+/// That the bytes are wrong at this place.
+fn expect_place(rt: &impl Abort, alloc: Global, bytes: &[u8], place: u64) {
+    let found = place_of(alloc, bytes);
+    assert!(rt; found == place, "{found} in place of {place}");
 }
 
-fn with_a_byte_more(rt: &impl Abort, alloc: Global) -> Result<(), Memory> {
-    assert_eq!(rt; place_behind(alloc, message())?, 52);
-    assert_eq!(rt; place_behind(alloc, small_parcel())?, 57);
-    assert_eq!(rt; place_behind(alloc, full_parcel())?, 352);
-    Ok(())
+/// That the bytes, with one more behind them, are wrong at this place.
+fn expect_behind(rt: &impl Abort, alloc: Global, bytes: &[u8], place: u64) {
+    let found = place_behind(alloc, bytes);
+    assert!(rt; found == place, "{found} in place of {place}");
 }
 
 #[test]
-fn wrong_fields(rt: HostRuntime) -> Result<(), Fail> {
+fn wrong_fields(rt: HostRuntime) {
     let alloc = rt.alloc();
-    with_all_changes(&rt, alloc)?;
-    with_a_byte_more(&rt, alloc)?;
-    assert_eq!(rt; place_of(alloc, &[3]), 0);
-    assert_eq!(rt; place_of(alloc, &[2, 0, 0, 0, 0]), 5);
-    Ok(())
+    with_changes(&rt, alloc, message(), message_changes());
+    with_changes(&rt, alloc, small_parcel(), small_parcel_changes());
+    with_changes(&rt, alloc, full_parcel(), full_parcel_changes());
+    expect_behind(&rt, alloc, message(), 52);
+    expect_behind(&rt, alloc, small_parcel(), 57);
+    expect_behind(&rt, alloc, full_parcel(), 352);
+    expect_place(&rt, alloc, &[3], 0);
+    expect_place(&rt, alloc, &[2, 0, 0, 0, 0], 5);
 }
 
 /// A parcel without a group that claims lists of some length.
@@ -316,24 +322,39 @@ fn claims() -> &'static [(&'static [u8], u64)] {
 fn claimed_lengths(rt: HostRuntime) {
     let alloc = rt.alloc();
     for (bytes, place) in claims() {
-        assert_eq!(rt; place_of(alloc, *bytes), *place);
+        expect_place(&rt, alloc, *bytes, *place);
     }
 }
 
-/// Whether a copied list of one flight has its bytes and its target.
-fn is_copied(alloc: Global) -> Result<bool, Memory> {
-    let mut flights: Flights = Items::new(alloc);
+fn one_flight(alloc: Global) -> Result<Flights, Memory> {
     let bytes = Items::from_slice(alloc, message())?;
+    let mut flights = Items::new(alloc);
     flights.push(Flight { target: 3, bytes })?;
-    let copy = copy_flights(alloc, &flights)?;
-    Ok(match copy.as_slice() {
+    Ok(flights)
+}
+
+/// A copy of a list of one flight.
+fn copied_flights(alloc: Global) -> Result<Flights, Memory> {
+    let flights = one_flight(alloc)?;
+    copy_flights(alloc, &flights)
+}
+
+/// Whether it is one flight with its bytes and its target.
+fn are_the_flights(flights: &[Flight]) -> bool {
+    match flights {
         [one] => one.target == 3 && one.bytes.as_slice() == message(),
         _ => false,
-    })
+    }
+}
+
+fn are_copied(alloc: Global) -> bool {
+    match copied_flights(alloc) {
+        Ok(copy) => are_the_flights(copy.as_slice()),
+        Err(_) => false,
+    }
 }
 
 #[test]
-fn flights(rt: HostRuntime) -> Result<(), Fail> {
-    assert!(rt; is_copied(rt.alloc())?);
-    Ok(())
+fn flights(rt: HostRuntime) {
+    assert!(rt; are_copied(rt.alloc()));
 }

@@ -1,97 +1,126 @@
 // Two roots and a location that is born, moves and dies. The expected values were worked out by
 // hand.
-ghost use Rattle.std.specs.Prelude.{◌≡◌, ◌<◌};
+ghost use Rattle.std.specs.Prelude.{◌<◌};
 
 use crate::crossing::crosses;
 use chem_model::{Loc, Memory};
 use loc_tree::LocTree;
 use std::alloc::Global;
 use std::process::Abort;
-use std::test::Fail;
 
-fn loc(site: u32, k: u64) -> Loc
-    ensures { result ≡ record { site = site; k = k } }
-{
-    Loc { site, k }
+const HERE: Loc = Loc { site: 0, k: 0 };
+
+const THERE: Loc = Loc { site: 1, k: 0 };
+
+const BORN: Loc = Loc { site: 0, k: 1 };
+
+/// What is done to a tree, or what it is to be.
+#[derive(Drop)]
+enum Step {
+    /// Whether the numbers of a site are free from this one on.
+    Fresh(u32, u64, bool),
+    /// The root of a location.
+    Root(Loc, u32),
+    /// Whether a location is alive.
+    Alive(Loc, bool),
+    /// Whether a location can move to another.
+    CanMove(Loc, Loc, bool),
+    /// A location moves to another.
+    Move(Loc, Loc),
+    /// A location dies.
+    Kill(Loc),
 }
 
-fn expect_alive(rt: &impl Abort, tree: &LocTree, loc: &Loc, want: bool) {
-    assert!(rt; tree.holds(loc));
-    assert_eq!(rt; tree.alive(loc), want);
+/// Whether a location can move to another, or not, as it is wanted.
+fn can_move(tree: &LocTree, loc: &Loc, target: &Loc, want: bool) -> bool {
+    tree.holds(loc) && tree.holds(target) && tree.can_move(loc, target) == want
 }
 
-fn expect_root(rt: &impl Abort, tree: &LocTree, loc: &Loc, want: u32) {
-    assert!(rt; tree.holds(loc));
-    assert_eq!(rt; tree.root(loc), want);
+/// Moves a location to another, where it can.
+fn moves(tree: &mut LocTree, loc: &Loc, target: &Loc) -> bool {
+    let is_possible = tree.holds(loc) && tree.holds(target) && tree.can_move(loc, target);
+    if is_possible {
+        tree.rehost(loc, target);
+    }
+    is_possible
 }
 
-fn expect_move(rt: &impl Abort, tree: &LocTree, loc: &Loc, target: &Loc, want: bool) {
-    assert!(rt; tree.holds(loc));
-    assert!(rt; tree.holds(target));
-    assert_eq!(rt; tree.can_move(loc, target), want);
+/// Kills a location, where it is there.
+fn dies(tree: &mut LocTree, loc: &Loc) -> bool {
+    let is_there = tree.holds(loc);
+    if is_there {
+        tree.kill(loc);
+    }
+    is_there
 }
 
-fn rehost(rt: &impl Abort, tree: &mut LocTree, loc: &Loc, target: &Loc) {
-    expect_move(rt, tree, loc, target, true);
-    assert!(rt; tree.holds(loc));
-    assert!(rt; tree.holds(target));
-    assert!(rt; tree.can_move(loc, target));
-    tree.rehost(loc, target);
+/// Takes a step. Whether all is as the step says.
+fn is_taken(tree: &mut LocTree, step: &Step) -> bool {
+    match step {
+        Step::Fresh(site, from, want) => tree.fresh(*site, *from) == *want,
+        Step::Root(loc, want) => tree.holds(loc) && tree.root(loc) == *want,
+        Step::Alive(loc, want) => tree.holds(loc) && tree.alive(loc) == *want,
+        Step::CanMove(loc, target, want) => can_move(tree, loc, target, *want),
+        Step::Move(loc, target) => moves(tree, loc, target),
+        Step::Kill(loc) => dies(tree, loc),
+    }
 }
 
-fn kill(rt: &impl Abort, tree: &mut LocTree, loc: &Loc) {
-    assert!(rt; tree.holds(loc));
-    tree.kill(loc);
+/// That all is as each of these steps says.
+fn expect_steps(rt: &impl Abort, tree: &mut LocTree, steps: &[Step]) {
+    for (index, step) in steps.iter().enumerate() {
+        assert!(rt; is_taken(tree, step), "step {index}");
+    }
 }
 
-// The location 0.1 is born under the first root.
-fn bear(rt: &impl Abort, alloc: Global, tree: &mut LocTree) -> Result<(), Memory>
+/// The location 0.1 is born under the first root. Whether it is new.
+fn is_born(alloc: Global, tree: &mut LocTree) -> Result<bool, Memory>
     requires { 0 < tree.old.roots }
 {
-    let born = loc(0, 1);
-    assert!(rt; !tree.holds(&born));
-    assert!(rt; tree.fresh(0, 1));
     tree.reserve(alloc, 1)?;
-    tree.birth(born, 0);
-    assert!(rt; !tree.fresh(0, 1));
-    assert!(rt; tree.fresh(0, 2));
-    assert!(rt; !tree.fresh(1, 0));
-    assert!(rt; tree.fresh(2, 0));
-    Ok(())
+    let is_new = !tree.holds(&BORN) && tree.fresh(0, 1);
+    if is_new {
+        tree.birth(BORN, 0);
+    }
+    Ok(is_new)
 }
 
-fn expect_born(rt: &impl Abort, tree: &LocTree) {
-    let (here, there, born) = (loc(0, 0), loc(1, 0), loc(0, 1));
-    expect_root(rt, tree, &born, 0);
-    expect_move(rt, tree, &born, &there, true);
-    expect_move(rt, tree, &born, &here, true);
-    expect_move(rt, tree, &here, &there, false);
-    expect_move(rt, tree, &born, &born, false);
-}
+/// What follows the birth.
+const LIFE: &[Step] = &[
+    Step::Fresh(0, 1, false),
+    Step::Fresh(0, 2, true),
+    Step::Fresh(1, 0, false),
+    Step::Fresh(2, 0, true),
+    Step::Root(BORN, 0),
+    Step::CanMove(BORN, THERE, true),
+    Step::CanMove(BORN, HERE, true),
+    Step::CanMove(HERE, THERE, false),
+    Step::CanMove(BORN, BORN, false),
+    Step::Move(BORN, THERE),
+    Step::Kill(THERE),
+    Step::Root(BORN, 1),
+    Step::Alive(BORN, false),
+    Step::Alive(HERE, true),
+    Step::CanMove(BORN, HERE, false),
+];
 
-fn move_and_die(rt: &impl Abort, tree: &mut LocTree) {
-    let (here, there, born) = (loc(0, 0), loc(1, 0), loc(0, 1));
-    rehost(rt, tree, &born, &there);
-    kill(rt, tree, &there);
-    expect_root(rt, tree, &born, 1);
-    expect_alive(rt, tree, &born, false);
-    expect_alive(rt, tree, &here, true);
-    expect_move(rt, tree, &born, &here, false);
-}
-
-fn live(rt: &impl Abort, alloc: Global, tree: &mut LocTree) -> Result<(), Memory>
+/// The location is born, moves and dies.
+fn live(rt: &impl Abort, alloc: Global, tree: &mut LocTree)
     requires { 0 < tree.old.roots }
 {
-    bear(rt, alloc, tree)?;
-    expect_born(rt, tree);
-    move_and_die(rt, tree);
-    Ok(())
+    let born = is_born(alloc, tree);
+    assert!(rt; born == Ok(true));
+    expect_steps(rt, tree, LIFE);
 }
 
 #[test]
-fn a_location_moves_and_dies_with_its_root(rt: HostRuntime) -> Result<(), Fail> {
-    let mut tree = LocTree::start(rt.alloc(), 2)?;
-    crosses(&tree);
-    live(&rt, rt.alloc(), &mut tree)?;
-    Ok(())
+fn a_location_moves_and_dies_with_its_root(rt: HostRuntime) {
+    match LocTree::start(rt.alloc(), 2) {
+        Ok(mut tree) => {
+            crosses(&tree);
+            live(&rt, rt.alloc(), &mut tree);
+            drop(tree);
+        }
+        Err(_) => assert!(rt; false, "no memory"),
+    }
 }

@@ -1,5 +1,5 @@
 // Runs of the sources and sinks. The expected values were worked out by hand.
-ghost use Rattle.std.specs.Prelude.{◌<◌};
+ghost use Rattle.std.specs.Prelude.{◌<◌, ◌≤◌};
 
 use chem_model::{Items, Memory};
 use join_base::{
@@ -9,7 +9,6 @@ use std::alloc::Global;
 use std::io;
 use std::io::Write;
 use std::process::Abort;
-use std::test::Fail;
 
 const PROGRAM: &[u8] = b"observe out/1; site s [ x(u) => out(u) : x(s) ]";
 
@@ -20,75 +19,106 @@ fn program(alloc: Global, fails: &[u32]) -> Result<MemSource, Memory> {
     Ok(MemSource::new(bytes, 16, fails))
 }
 
-fn expect_pieces(rt: &impl Abort, source: &mut MemSource) {
+// Whether a read takes so many bytes.
+fn reads(source: &mut MemSource, want: usize) -> bool {
     let mut buffer = [0u8; 64];
-    for want in [16, 16, 15, 0] {
-        assert_eq!(rt; source.read(&mut buffer), Ok(want));
+    source.read(&mut buffer) == Ok(want)
+}
+
+// Whether the source has three pieces.
+fn has_pieces(source: &mut MemSource) -> bool {
+    reads(source, 16) && reads(source, 16) && reads(source, 15) && reads(source, 0)
+}
+
+#[test]
+fn reads_a_program_piece_by_piece(rt: HostRuntime) {
+    match program(rt.alloc(), &[]) {
+        Ok(mut source) => assert!(rt; has_pieces(&mut source)),
+        Err(_) => assert!(rt; false, "no memory"),
+    }
+}
+
+// Whether all that a source has is the program.
+fn has_program<S: Source>(alloc: Global, source: &mut S, limit: u32) -> bool
+    requires { limit ≤ 1048576 }
+{
+    match read_all(alloc, source, limit) {
+        Ok(text) => text.as_slice() == PROGRAM,
+        Err(_) => false,
     }
 }
 
 #[test]
-fn reads_a_program_piece_by_piece(rt: HostRuntime) -> Result<(), Fail> {
-    let mut source = program(rt.alloc(), &[])?;
-    expect_pieces(&rt, &mut source);
-    Ok(())
+fn reads_a_whole_program(rt: HostRuntime) {
+    match program(rt.alloc(), &[]) {
+        Ok(mut source) => assert!(rt; has_program(rt.alloc(), &mut source, 1_048_576)),
+        Err(_) => assert!(rt; false, "no memory"),
+    }
 }
 
-#[test]
-fn reads_a_whole_program(rt: HostRuntime) -> Result<(), Fail> {
-    let mut source = program(rt.alloc(), &[])?;
-    let text = read_all(rt.alloc(), &mut source, 1_048_576)?;
-    assert_eq!(rt; text.as_slice(), PROGRAM);
-    Ok(())
-}
-
-// How reading ends where this call fails, if it ends without a text.
-fn end_of(alloc: Global, limit: u32, call: u32) -> Result<Option<ReadEnd>, Memory>
+// Whether reading ends so, without a text or with one, where this call fails.
+fn ends_with(alloc: Global, limit: u32, call: u32, want: Option<ReadEnd>) -> bool
     requires { limit < 100 }
 {
-    let mut source = program(alloc, &[call])?;
-    Ok(read_all(alloc, &mut source, limit).err())
+    match program(alloc, &[call]) {
+        Ok(mut source) => read_all(alloc, &mut source, limit).err() == want,
+        Err(_) => false,
+    }
 }
 
 #[test]
 fn ends_without_a_text(rt: HostRuntime) {
-    for (limit, call, want) in [
-        (47, 9, None),
-        (46, 9, Some(ReadEnd::TooLong)),
-        (47, 2, Some(ReadEnd::ReadFault)),
-    ] {
-        let end = end_of(rt.alloc(), limit, call);
-        assert_eq!(rt; end, Ok(want), "limit {limit}, failing call {call}");
+    assert!(rt; ends_with(rt.alloc(), 47, 9, None));
+    assert!(rt; ends_with(rt.alloc(), 46, 9, Some(ReadEnd::TooLong)));
+    assert!(rt; ends_with(rt.alloc(), 47, 2, Some(ReadEnd::ReadFault)));
+}
+
+// A piece that is written, whether it is taken whole, and what the sink holds then.
+type Piece = (&'static [u8], bool, &'static [u8]);
+
+// Whether a sink holds these bytes.
+fn holds(sink: &MemSink, held: &[u8]) -> bool {
+    sink.taken() == held
+}
+
+// Whether a piece is taken so.
+fn takes(sink: &mut MemSink, (piece, whole, held): &Piece) -> bool {
+    write_piece(sink, *piece).is_ok() == *whole && holds(sink, *held)
+}
+
+// That each piece is taken as it says.
+fn expect_taken(rt: &impl Abort, sink: &mut MemSink, pieces: &[Piece]) {
+    for (index, piece) in pieces.iter().enumerate() {
+        assert!(rt; takes(sink, piece), "piece {index}");
     }
 }
 
-// That it takes the first two of three bytes.
-fn expect_full(rt: &impl Abort, sink: &mut MemSink) {
-    assert_eq!(rt; write_piece(sink, b"abc"), Err(Failed));
-    assert_eq!(rt; sink.taken(), b"ab".as_slice());
+// The first two of three bytes are taken.
+const TOO_LONG: &[Piece] = &[(b"abc", false, b"ab")];
+
+#[test]
+fn holds_what_fits(rt: HostRuntime) {
+    match MemSink::new(rt.alloc(), 2, 8, Items::new(rt.alloc())) {
+        Ok(mut full) => expect_taken(&rt, &mut full, TOO_LONG),
+        Err(_) => assert!(rt; false, "no memory"),
+    }
+}
+
+// The second call fails, and the next one goes on.
+const WITH_A_FAULT: &[Piece] = &[(b"out(s)", false, b"out("), (b"s)", true, b"out(s)")];
+
+// A sink that takes four bytes a call.
+fn failing_sink(alloc: Global, fails: &[u32]) -> Result<MemSink, Memory> {
+    let fails = Items::from_slice(alloc, fails)?;
+    MemSink::new(alloc, 100, 4, fails)
 }
 
 #[test]
-fn holds_what_fits(rt: HostRuntime) -> Result<(), Fail> {
-    let mut full = MemSink::new(rt.alloc(), 2, 8, Items::new(rt.alloc()))?;
-    expect_full(&rt, &mut full);
-    Ok(())
-}
-
-// That its second write fails, and the next one goes on.
-fn expect_a_fault(rt: &impl Abort, sink: &mut MemSink) {
-    assert_eq!(rt; write_piece(sink, b"out(s)"), Err(Failed));
-    assert_eq!(rt; sink.taken(), b"out(".as_slice());
-    assert_eq!(rt; write_piece(sink, b"s)"), Ok(()));
-    assert_eq!(rt; sink.taken(), b"out(s)".as_slice());
-}
-
-#[test]
-fn holds_what_came_before_a_fault(rt: HostRuntime) -> Result<(), Fail> {
-    let fails = Items::from_slice(rt.alloc(), &[2])?;
-    let mut sink = MemSink::new(rt.alloc(), 100, 4, fails)?;
-    expect_a_fault(&rt, &mut sink);
-    Ok(())
+fn holds_what_came_before_a_fault(rt: HostRuntime) {
+    match failing_sink(rt.alloc(), &[2]) {
+        Ok(mut sink) => expect_taken(&rt, &mut sink, WITH_A_FAULT),
+        Err(_) => assert!(rt; false, "no memory"),
+    }
 }
 
 // A writer that takes nothing.
@@ -105,18 +135,24 @@ impl Write for Deaf {
     }
 }
 
-#[test]
-fn adapts_real_streams(rt: HostRuntime) -> Result<(), Fail> {
+// Whether the program is read from a stream.
+fn reads_a_stream(alloc: Global) -> bool {
     let mut source = StdSource::new(PROGRAM);
-    let text = read_all(rt.alloc(), &mut source, 47)?;
-    assert_eq!(rt; text.as_slice(), PROGRAM);
+    has_program(alloc, &mut source, 47)
+}
 
-    let mut held = Vec::new(rt.alloc());
+// Whether a stream holds the program that is written to it.
+fn writes_a_stream(alloc: Global) -> bool {
+    let mut held = Vec::new(alloc);
     let mut sink = StdSink::new(&mut held);
-    assert_eq!(rt; write_piece(&mut sink, PROGRAM), Ok(()));
-    assert_eq!(rt; held.as_slice(), PROGRAM);
+    let written = write_piece(&mut sink, PROGRAM);
+    written == Ok(()) && held.as_slice() == PROGRAM
+}
 
+#[test]
+fn adapts_real_streams(rt: HostRuntime) {
+    assert!(rt; reads_a_stream(rt.alloc()));
+    assert!(rt; writes_a_stream(rt.alloc()));
     let mut deaf = StdSink::new(Deaf);
-    assert_eq!(rt; deaf.write(b"a"), Err(Failed));
-    Ok(())
+    assert!(rt; deaf.write(b"a") == Err(Failed));
 }

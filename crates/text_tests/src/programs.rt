@@ -6,85 +6,131 @@ use chem_model::{
 use join_base::{Front, Kind};
 use std::alloc::{AllocError, Global};
 use std::process::Abort;
-use std::test::Fail;
 use worked_programs::program_of;
 
-fn expect_fault(rt: &impl Abort, alloc: Global, text: &[u8], kind: Kind, place: u32) {
-    let fault = program_of(alloc, text).err();
-    assert_eq!(rt; fault, Some(Front::Refused { kind, place }));
+/// What comes of a text.
+#[derive(Clone, Copy)]
+enum End {
+    /// This fault.
+    Fault(Kind, u32),
+    /// A program with so many site-level binders and so many binders in all.
+    Binders(u32, usize),
 }
 
-// That a text has a program with so many site-level binders and so many binders in all.
-fn expect_binders(rt: &impl Abort, alloc: Global, text: &[u8], tops: u32, all: usize) {
-    let found = match program_of(alloc, text) {
-        Ok(p) => Some((p.tops, p.spell.len())),
-        Err(_) => None,
-    };
-    assert_eq!(rt; found, Some((tops, all)));
+fn ends_so(alloc: Global, text: &[u8], end: &End) -> bool {
+    match (program_of(alloc, text), end) {
+        (Err(fault), End::Fault(kind, place)) => {
+            fault
+                == Front::Refused {
+                    kind: *kind,
+                    place: *place,
+                }
+        }
+        (Ok(p), End::Binders(tops, all)) => p.tops == *tops && p.spell.len() == *all,
+        _ => false,
+    }
 }
+
+// That each text ends as its row says.
+fn expect_ends(rt: &impl Abort, alloc: Global, rows: &[(&[u8], End)]) {
+    for (at, (text, end)) in rows.iter().enumerate() {
+        assert!(rt; ends_so(alloc, *text, end), "text {at}");
+    }
+}
+
+const NOWHERE: &[(&[u8], End)] = &[
+    (b"site s [ none : q() ]", End::Fault(Kind::Scope1, 16)),
+    (
+        b"site s [ none : def m[ x() => 0 : 0 ] in 0 | x() ]",
+        End::Binders(1, 3),
+    ),
+    (
+        b"site s [ none : (def m[ x() => 0 : 0 ] in 0) | x() ]",
+        End::Fault(Kind::Scope1, 47),
+    ),
+];
 
 #[test]
 fn a_name_that_is_nowhere(rt: HostRuntime) {
-    let alloc = rt.alloc();
-    expect_fault(&rt, alloc, b"site s [ none : q() ]", Kind::Scope1, 16);
-    let outside = b"site s [ none : def m[ x() => 0 : 0 ] in 0 | x() ]";
-    expect_binders(&rt, alloc, outside, 1, 3);
-    let after = b"site s [ none : (def m[ x() => 0 : 0 ] in 0) | x() ]";
-    expect_fault(&rt, alloc, after, Kind::Scope1, 47);
+    expect_ends(&rt, rt.alloc(), NOWHERE);
 }
+
+const TWO_LOCATIONS: &[(&[u8], End)] = &[
+    (
+        b"site a [ x() => 0 and m[ x() => 0 : 0 ] : 0 ]",
+        End::Fault(Kind::Scope2, 25),
+    ),
+    (
+        b"site s [ none : def m[ x() => 0 : 0 ] and x() => 0 in 0 ]",
+        End::Fault(Kind::Scope2, 42),
+    ),
+    (
+        b"site a [ x() => 0 : 0 ] site b [ x() => 0 : 0 ]",
+        End::Fault(Kind::Scope2, 33),
+    ),
+];
 
 #[test]
 fn one_channel_at_two_locations(rt: HostRuntime) {
-    let alloc = rt.alloc();
-    let site = b"site a [ x() => 0 and m[ x() => 0 : 0 ] : 0 ]";
-    expect_fault(&rt, alloc, site, Kind::Scope2, 25);
-    let block = b"site s [ none : def m[ x() => 0 : 0 ] and x() => 0 in 0 ]";
-    expect_fault(&rt, alloc, block, Kind::Scope2, 42);
-    let sites = b"site a [ x() => 0 : 0 ] site b [ x() => 0 : 0 ]";
-    expect_fault(&rt, alloc, sites, Kind::Scope2, 33);
+    expect_ends(&rt, rt.alloc(), TWO_LOCATIONS);
 }
+
+/// Two faults, the first of which is told.
+const TWO_FAULTS: &[(&[u8], End)] = &[
+    (
+        b"site s [ x(u) => 0 : x() | q() ]",
+        End::Fault(Kind::Arity1, 21),
+    ),
+    (
+        b"site s [ x() | x(u) => 0 : 0 ]",
+        End::Fault(Kind::Scope5, 15),
+    ),
+];
 
 #[test]
 fn the_least_place_comes_first(rt: HostRuntime) {
-    let alloc = rt.alloc();
-    let text = b"site s [ x(u) => 0 : x() | q() ]";
-    expect_fault(&rt, alloc, text, Kind::Arity1, 21);
-    let places = b"site s [ x() | x(u) => 0 : 0 ]";
-    expect_fault(&rt, alloc, places, Kind::Scope5, 15);
+    expect_ends(&rt, rt.alloc(), TWO_FAULTS);
 }
 
 /// What stands twice.
-const TWICE: &[(&[u8], Kind, u32)] = &[
-    (b"site s [ s() => 0 : 0 ]", Kind::Scope3, 9),
-    (b"site s [ x(u, u) => 0 : 0 ]", Kind::Scope4, 14),
-    (b"site s [ x() | x() => 0 : 0 ]", Kind::Scope5, 15),
+const TWICE: &[(&[u8], End)] = &[
+    (b"site s [ s() => 0 : 0 ]", End::Fault(Kind::Scope3, 9)),
+    (b"site s [ x(u, u) => 0 : 0 ]", End::Fault(Kind::Scope4, 14)),
+    (
+        b"site s [ x() | x() => 0 : 0 ]",
+        End::Fault(Kind::Scope5, 15),
+    ),
     (
         b"observe out/0; site s [ out() => 0 : 0 ]",
-        Kind::Scope3,
-        24,
+        End::Fault(Kind::Scope3, 24),
     ),
 ];
 
 #[test]
 fn what_stands_twice(rt: HostRuntime) {
-    for (text, kind, place) in TWICE {
-        expect_fault(&rt, rt.alloc(), *text, *kind, *place);
-    }
+    expect_ends(&rt, rt.alloc(), TWICE);
 }
 
 /// What is used wrongly.
-const WRONG: &[(&[u8], Kind, u32)] = &[
-    (b"site s [ x() => 0 and x(u) => 0 : 0 ]", Kind::Arity2, 22),
-    (b"site s [ none : s() ]", Kind::Arity3, 16),
-    (b"site s [ x() => 0 : go(x, x) ]", Kind::Arity4, 23),
-    (b"site s [ x(u) => 0 : fail(s, x) ]", Kind::Arity1, 29),
+const WRONG: &[(&[u8], End)] = &[
+    (
+        b"site s [ x() => 0 and x(u) => 0 : 0 ]",
+        End::Fault(Kind::Arity2, 22),
+    ),
+    (b"site s [ none : s() ]", End::Fault(Kind::Arity3, 16)),
+    (
+        b"site s [ x() => 0 : go(x, x) ]",
+        End::Fault(Kind::Arity4, 23),
+    ),
+    (
+        b"site s [ x(u) => 0 : fail(s, x) ]",
+        End::Fault(Kind::Arity1, 29),
+    ),
 ];
 
 #[test]
 fn what_is_used_wrongly(rt: HostRuntime) {
-    for (text, kind, place) in WRONG {
-        expect_fault(&rt, rt.alloc(), *text, *kind, *place);
-    }
+    expect_ends(&rt, rt.alloc(), WRONG);
 }
 
 // So many sites of 18 bytes each.
@@ -99,121 +145,149 @@ fn sites(alloc: Global, count: u8) -> Result<Vec<u8>, AllocError> {
     Ok(text)
 }
 
-#[test]
-fn the_sixty_fifth_site(rt: HostRuntime) -> Result<(), Fail> {
-    let alloc = rt.alloc();
-    expect_binders(&rt, alloc, &sites(alloc, 64)?, 64, 64);
-    expect_fault(&rt, alloc, &sites(alloc, 65)?, Kind::Scope6, 1152);
-    Ok(())
+// Whether the text of so many sites ends so.
+fn sites_end_so(alloc: Global, count: u8, end: End) -> bool {
+    match sites(alloc, count) {
+        Ok(text) => ends_so(alloc, &text, &end),
+        Err(_) => false,
+    }
 }
+
+#[test]
+fn the_sixty_fifth_site(rt: HostRuntime) {
+    assert!(rt; sites_end_so(rt.alloc(), 64, End::Binders(64, 64)));
+    assert!(rt; sites_end_so(rt.alloc(), 65, End::Fault(Kind::Scope6, 1152)));
+}
+
+const HIDDEN: &[(&[u8], End)] = &[
+    // the inner channel takes two arguments, and the innermost none
+    (
+        b"site s [ x(u) => def x(v, w) => def x() => x() in x() in x(u, u) : x(s) ]",
+        End::Binders(2, 7),
+    ),
+    (
+        b"site s [ x(u) => def x(v, w) => 0 in x(u) : x(s) ]",
+        End::Fault(Kind::Arity1, 37),
+    ),
+    // a parameter hides a channel of its spelling, and has no count
+    (
+        b"site s [ x(x) => x() | x(s, s) : x(s) ]",
+        End::Binders(2, 3),
+    ),
+];
 
 #[test]
 fn inner_names_hide_outer_ones(rt: HostRuntime) {
-    let alloc = rt.alloc();
-    // the inner channel takes two arguments, and the innermost none
-    let text = b"site s [ x(u) => def x(v, w) => def x() => x() in x() in x(u, u) : x(s) ]";
-    expect_binders(&rt, alloc, text, 2, 7);
-    let outer = b"site s [ x(u) => def x(v, w) => 0 in x(u) : x(s) ]";
-    expect_fault(&rt, alloc, outer, Kind::Arity1, 37);
-    // a parameter hides a channel of its spelling, and has no count
-    let parameter = b"site s [ x(x) => x() | x(s, s) : x(s) ]";
-    expect_binders(&rt, alloc, parameter, 2, 3);
+    expect_ends(&rt, rt.alloc(), HIDDEN);
 }
+
+const USED_BEFORE: &[(&[u8], End)] = &[
+    (
+        b"site s [ x() => y(s) and m[ y(a) => 0 : 0 ] : 0 ] site t [ none : y(t) ]",
+        End::Binders(5, 6),
+    ),
+    (
+        b"site s [ x() => y() and m[ y(a) => 0 : 0 ] : 0 ]",
+        End::Fault(Kind::Arity1, 16),
+    ),
+];
 
 #[test]
 fn a_use_before_the_definition(rt: HostRuntime) {
-    let alloc = rt.alloc();
-    let text = b"site s [ x() => y(s) and m[ y(a) => 0 : 0 ] : 0 ] site t [ none : y(t) ]";
-    expect_binders(&rt, alloc, text, 5, 6);
-    let count = b"site s [ x() => y() and m[ y(a) => 0 : 0 ] : 0 ]";
-    expect_fault(&rt, alloc, count, Kind::Arity1, 16);
+    expect_ends(&rt, rt.alloc(), USED_BEFORE);
 }
 
-fn expect_spelling(rt: &impl Abort, spell: &[Text], index: usize, name: &[u8]) {
-    let found = match spell.get(index) {
-        Some(text) => Some(text.as_slice()),
-        None => None,
-    };
-    assert_eq!(rt; found, Some(name));
+// Whether these are the three names, `s`, `x` and `u`.
+fn are_names(spell: &[Text]) -> bool {
+    match spell {
+        [s, x, u] => {
+            s.as_slice() == b"s".as_slice()
+                && x.as_slice() == b"x".as_slice()
+                && u.as_slice() == b"u".as_slice()
+        }
+        _ => false,
+    }
 }
 
-// That a process is a message with one argument.
-fn expect_message(rt: &impl Abort, p: &Proc, on: Ref, arg: Ref) {
-    let found = match p.node() {
-        ProcNode::Msg { on, args } => match args.as_slice() {
-            [arg] => Some((*on, *arg)),
-            _ => None,
-        },
-        _ => None,
-    };
-    assert_eq!(rt; found, Some((on, arg)));
+// Whether a process is a message with one argument.
+fn is_message(p: &Proc, channel: Ref, argument: Ref) -> bool {
+    match p.node() {
+        ProcNode::Msg { on, args } => *on == channel && args.as_slice() == [argument].as_slice(),
+        _ => false,
+    }
 }
 
-fn expect_pattern(rt: &impl Abort, pats: &[Pat], on: Ref, param: u32) {
-    let found = match pats {
-        [pat] => match pat.params.as_slice() {
-            [param] => Some((pat.on, *param)),
-            _ => None,
-        },
-        _ => None,
-    };
-    assert_eq!(rt; found, Some((on, param)));
+// Whether it is one pattern with one parameter.
+fn is_pattern(pats: &[Pat], on: Ref, param: u32) -> bool {
+    match pats {
+        [pat] => pat.on == on && pat.params.as_slice() == [param].as_slice(),
+        _ => false,
+    }
 }
 
-fn expect_rule(rt: &impl Abort, defs: &[Defn]) {
+// Whether it is one rule, `x(u) => out(u)`.
+fn is_rule(defs: &[Defn]) -> bool {
     match defs {
         [rule] => match rule.node() {
             DefnNode::Rule { pats, body } => {
-                expect_pattern(rt, pats.as_slice(), Ref::Binder(1), 2);
-                expect_message(rt, body, Ref::Known(Name::Seen(0)), Ref::Binder(2));
+                is_pattern(pats.as_slice(), Ref::Binder(1), 2)
+                    && is_message(body, Ref::Known(Name::Seen(0)), Ref::Binder(2))
             }
-            DefnNode::Place { .. } => assert!(rt; false),
+            DefnNode::Place { .. } => false,
         },
-        _ => assert!(rt; false),
+        _ => false,
     }
 }
 
-fn expect_seen(rt: &impl Abort, seen: &[SeenDecl]) {
+// Whether it is one declaration, `out/1`.
+fn is_seen(seen: &[SeenDecl]) -> bool {
     match seen {
-        [out] => {
-            assert_eq!(rt; out.count, 1);
-            assert_eq!(rt; out.spell.as_slice(), b"out".as_slice());
-        }
-        _ => assert!(rt; false),
+        [out] => out.count == 1 && out.spell.as_slice() == b"out".as_slice(),
+        _ => false,
     }
 }
 
-fn expect_site(rt: &impl Abort, sites: &[SiteTerm]) {
+// Whether it is one site, with that rule and `x(s)`.
+fn is_site(sites: &[SiteTerm]) -> bool {
     match sites {
         [site] => {
-            assert_eq!(rt; site.name, 0);
-            expect_rule(rt, site.defs.as_slice());
-            expect_message(rt, &site.body, Ref::Binder(1), Ref::Binder(0));
+            site.name == 0
+                && is_rule(site.defs.as_slice())
+                && is_message(&site.body, Ref::Binder(1), Ref::Binder(0))
         }
-        _ => assert!(rt; false),
+        _ => false,
     }
 }
 
-// The program of the first example.
-fn expect_first(rt: &impl Abort, p: &Program) {
-    assert_eq!(rt; (p.tops, p.spell.len()), (2, 3));
-    for (at, name) in [b"s".as_slice(), b"x", b"u"].iter().enumerate() {
-        expect_spelling(rt, p.spell.as_slice(), at, *name);
+// Whether it is the program of the first example.
+fn is_first(p: &Program) -> bool {
+    p.tops == 2
+        && are_names(p.spell.as_slice())
+        && is_seen(p.seen.as_slice())
+        && is_site(p.sites.as_slice())
+}
+
+// Whether the copy of a program is that of the first example.
+fn is_first_copied(alloc: Global, p: &Program) -> bool {
+    match p.copy(alloc) {
+        Ok(copy) => {
+            let is_same = is_first(&copy);
+            drop(copy);
+            is_same
+        }
+        Err(_) => false,
     }
-    expect_seen(rt, p.seen.as_slice());
-    expect_site(rt, p.sites.as_slice());
 }
 
 #[test]
 fn the_first_example(rt: HostRuntime) {
-    let alloc = rt.alloc();
-    match program_of(alloc, b"observe out/1; site s [ x(u) => out(u) : x(s) ]") {
+    match program_of(
+        rt.alloc(),
+        b"observe out/1; site s [ x(u) => out(u) : x(s) ]",
+    ) {
         Ok(p) => {
-            expect_first(&rt, &p);
-            match p.copy(alloc) {
-                Ok(copy) => expect_first(&rt, &copy),
-                Err(_) => assert!(&rt; false),
-            }
+            assert!(&rt; is_first(&p));
+            assert!(&rt; is_first_copied(rt.alloc(), &p));
         }
         Err(_) => assert!(&rt; false),
     }

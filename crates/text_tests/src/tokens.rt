@@ -3,7 +3,6 @@ use join_base::{Front, Kind};
 use join_lex::{Key, Kind2, Sign, Token, Tokens, lex};
 use std::alloc::{AllocError, Global};
 use std::process::Abort;
-use std::test::Fail;
 
 /// What a token is to be.
 #[derive(Clone, Copy)]
@@ -17,6 +16,7 @@ enum Want {
 /// A token: where it begins, where it ends, and what it is.
 type Row = (u32, u32, Want);
 
+// Whether a token is of the wanted kind.
 fn is_wanted(kind: &Kind2, want: Want) -> bool {
     match (kind, want) {
         (Kind2::Key(found), Want::Key(key)) => *found == key,
@@ -27,29 +27,29 @@ fn is_wanted(kind: &Kind2, want: Want) -> bool {
     }
 }
 
-fn expect_token(rt: &impl Abort, token: &Token, row: &Row) {
-    assert_eq!(rt; (token.span.from, token.span.upto), (row.0, row.1));
-    assert!(rt; is_wanted(&token.kind, row.2));
+// Whether a token is as its row says.
+fn is_row(token: &Token, (from, upto, want): &Row) -> bool {
+    token.span.from == *from && token.span.upto == *upto && is_wanted(&token.kind, *want)
 }
 
-// That a text has so many tokens and bytes.
-fn expect_size(rt: &impl Abort, tokens: &Tokens, count: usize, bytes: u32) {
-    assert_eq!(rt; tokens.list.len(), count);
-    assert_eq!(rt; tokens.length, bytes);
+// Whether a text has so many tokens and bytes.
+fn has_size(tokens: &Tokens, count: usize, bytes: u32) -> bool {
+    tokens.list.len() == count && tokens.length == bytes
 }
 
-// The token at an index.
-fn expect_at(rt: &impl Abort, tokens: &Tokens, index: usize, row: &Row) {
+// Whether it is the token at an index.
+fn is_at(tokens: &Tokens, index: usize, row: &Row) -> bool {
     match tokens.list.as_slice().get(index) {
-        Some(token) => expect_token(rt, token, row),
-        None => assert!(rt; false),
+        Some(token) => is_row(token, row),
+        None => false,
     }
 }
 
+// That there are these tokens and no others, of a text of so many bytes.
 fn expect_each(rt: &impl Abort, tokens: &Tokens, rows: &[Row], bytes: u32) {
-    expect_size(rt, tokens, rows.len(), bytes);
+    assert!(rt; has_size(tokens, rows.len(), bytes));
     for (at, row) in rows.iter().enumerate() {
-        expect_at(rt, tokens, at, row);
+        assert!(rt; is_at(tokens, at, row), "token {at}");
     }
 }
 
@@ -61,9 +61,12 @@ fn expect_tokens(rt: &impl Abort, alloc: Global, text: &[u8], rows: &[Row]) {
     }
 }
 
-fn expect_fault(rt: &impl Abort, alloc: Global, text: &[u8], kind: Kind, place: u32) {
-    let fault = lex(alloc, text).err();
-    assert_eq!(rt; fault, Some(Front::Refused { kind, place }));
+// Whether a text has this fault.
+fn has_fault(alloc: Global, text: &[u8], kind: Kind, place: u32) -> bool {
+    match lex(alloc, text) {
+        Ok(_) => false,
+        Err(fault) => fault == Front::Refused { kind, place },
+    }
 }
 
 // So many of one byte.
@@ -159,47 +162,79 @@ const NO_TOKENS: &[(&[u8], u32)] = &[
 
 #[test]
 fn bytes_that_begin_no_token(rt: HostRuntime) {
-    for (text, place) in NO_TOKENS {
-        expect_fault(&rt, rt.alloc(), *text, Kind::Lex2, *place);
+    for (at, (text, place)) in NO_TOKENS.iter().enumerate() {
+        assert!(rt;
+            has_fault(rt.alloc(), *text, Kind::Lex2, *place),
+            "text {at}"
+        );
     }
 }
 
 const ONE_NUMBER: &[Row] = &[(0, 300_000, Want::Number(0))];
 
-#[test]
-fn numbers_that_are_too_large(rt: HostRuntime) -> Result<(), Fail> {
-    expect_fault(&rt, rt.alloc(), b"x 0256 $", Kind::Lex3, 2);
-    let digits = many(rt.alloc(), b'1', 300_000)?;
-    expect_fault(&rt, rt.alloc(), &digits, Kind::Lex3, 0);
-    let zeros = many(rt.alloc(), b'0', 300_000)?;
-    expect_tokens(&rt, rt.alloc(), &zeros, ONE_NUMBER);
-    Ok(())
+// Whether so many of one byte have this fault.
+fn many_have_fault(alloc: Global, byte: u8, count: usize, kind: Kind, place: u32) -> bool {
+    match many(alloc, byte, count) {
+        Ok(text) => has_fault(alloc, &text, kind, place),
+        Err(_) => false,
+    }
+}
+
+// That so many of one byte have these tokens and no others.
+fn expect_tokens_in_many(rt: &impl Abort, alloc: Global, byte: u8, count: usize, rows: &[Row]) {
+    match many(alloc, byte, count) {
+        Ok(text) => expect_tokens(rt, alloc, &text, rows),
+        Err(_) => assert!(rt; false, "no memory"),
+    }
 }
 
 #[test]
-fn the_longest_texts(rt: HostRuntime) -> Result<(), Fail> {
-    let long = many(rt.alloc(), b' ', 1_048_577)?;
-    expect_fault(&rt, rt.alloc(), &long, Kind::Lex1, 1_048_576);
-    let whole = many(rt.alloc(), b' ', 1_048_576)?;
-    expect_tokens(&rt, rt.alloc(), &whole, &[]);
-    Ok(())
+fn numbers_that_are_too_large(rt: HostRuntime) {
+    assert!(rt; has_fault(rt.alloc(), b"x 0256 $", Kind::Lex3, 2));
+    assert!(rt; many_have_fault(rt.alloc(), b'1', 300_000, Kind::Lex3, 0));
+    expect_tokens_in_many(&rt, rt.alloc(), b'0', 300_000, ONE_NUMBER);
 }
 
 #[test]
-fn the_most_tokens(rt: HostRuntime) -> Result<(), Fail> {
-    let bars = many(rt.alloc(), b'|', 1_048_576)?;
-    let tokens = lex(rt.alloc(), &bars)?;
-    expect_size(&rt, &tokens, 1_048_576, 1_048_576);
-    let last = (1_048_575, 1_048_576, Want::Sign(Sign::Bar));
-    expect_at(&rt, &tokens, 1_048_575, &last);
-    Ok(())
+fn the_longest_texts(rt: HostRuntime) {
+    assert!(rt; many_have_fault(rt.alloc(), b' ', 1_048_577, Kind::Lex1, 1_048_576));
+    expect_tokens_in_many(&rt, rt.alloc(), b' ', 1_048_576, &[]);
+}
+
+const LAST_BAR: Row = (1_048_575, 1_048_576, Want::Sign(Sign::Bar));
+
+// Whether a text has as many tokens as it has bytes, the last of which is a bar.
+fn has_bars(alloc: Global, text: &[u8]) -> bool {
+    match lex(alloc, text) {
+        Ok(tokens) => {
+            has_size(&tokens, 1_048_576, 1_048_576) && is_at(&tokens, 1_048_575, &LAST_BAR)
+        }
+        Err(_) => false,
+    }
+}
+
+#[test]
+fn the_most_tokens(rt: HostRuntime) {
+    match many(rt.alloc(), b'|', 1_048_576) {
+        Ok(bars) => assert!(rt; has_bars(rt.alloc(), &bars)),
+        Err(_) => assert!(rt; false, "no memory"),
+    }
 }
 
 const COPIED: &[Row] = &[(0, 1, Want::Name(b"x")), (2, 3, Want::Number(7))];
 
+// That a copy of the tokens has the rows.
+fn expect_copy(rt: &impl Abort, alloc: Global, tokens: &Tokens) {
+    match tokens.copy(alloc) {
+        Ok(copy) => expect_each(rt, &copy, COPIED, 3),
+        Err(_) => assert!(rt; false, "no memory"),
+    }
+}
+
 #[test]
-fn copies(rt: HostRuntime) -> Result<(), Fail> {
-    let tokens = lex(rt.alloc(), b"x 7")?.copy(rt.alloc())?;
-    expect_each(&rt, &tokens, COPIED, 3);
-    Ok(())
+fn copies(rt: HostRuntime) {
+    match lex(rt.alloc(), b"x 7") {
+        Ok(tokens) => expect_copy(&rt, rt.alloc(), &tokens),
+        Err(_) => assert!(rt; false),
+    }
 }

@@ -2,10 +2,9 @@
 use chem_model::Text;
 use join_base::{Front, Kind};
 use join_lex::lex;
-use join_parse::{ProcNode, Tree, parse, print_tree};
+use join_parse::{ProcNode, ProcTree, Tree, parse, print_tree};
 use std::alloc::{AllocError, Global};
 use std::process::Abort;
-use std::test::Fail;
 
 fn tree_of(alloc: Global, text: &[u8]) -> Result<Tree, Front> {
     let tokens = lex(alloc, text)?;
@@ -26,38 +25,49 @@ fn copy_prints_as(alloc: Global, tree: &Tree, printed: &[u8]) -> bool {
     }
 }
 
-// That a text has a tree, which prints as the other text, and whose copy does so too.
-fn expect_print(rt: &impl Abort, alloc: Global, text: &[u8], printed: &[u8]) {
+// Whether a tree prints as the text, and its copy does so too.
+fn prints_twice(alloc: Global, tree: &Tree, printed: &[u8]) -> bool {
+    prints_as(alloc, tree, printed) && copy_prints_as(alloc, tree, printed)
+}
+
+// Whether a text has a tree, which prints as the other text, and whose copy does so too.
+fn is_printed(alloc: Global, text: &[u8], printed: &[u8]) -> bool {
     match tree_of(alloc, text) {
-        Ok(tree) => {
-            assert!(rt; prints_as(alloc, &tree, printed));
-            assert!(rt; copy_prints_as(alloc, &tree, printed));
-        }
-        Err(_) => assert!(rt; false),
+        Ok(tree) => prints_twice(alloc, &tree, printed),
+        Err(_) => false,
+    }
+}
+
+// What a copy of a tree prints as.
+fn copy_printed(alloc: Global, tree: &Tree) -> Option<Text> {
+    match tree.copy(alloc) {
+        Ok(copy) => print_tree(alloc, &copy).ok(),
+        Err(_) => None,
     }
 }
 
 // What a copy of a text's tree prints as.
 fn printed_of(alloc: Global, text: &[u8]) -> Option<Text> {
-    let tree = tree_of(alloc, text).ok()?;
-    let copy = tree.copy(alloc).ok()?;
-    print_tree(alloc, &copy).ok()
-}
-
-// That a text has a tree, and what it prints as has one that prints as the same text.
-fn expect_tree(rt: &impl Abort, alloc: Global, text: &[u8]) {
-    match printed_of(alloc, text) {
-        Some(printed) => expect_print(rt, alloc, printed.as_slice(), printed.as_slice()),
-        None => assert!(rt; false),
+    match tree_of(alloc, text) {
+        Ok(tree) => copy_printed(alloc, &tree),
+        Err(_) => None,
     }
 }
 
-fn expect_fault(rt: &impl Abort, alloc: Global, text: &[u8], kind: Kind, place: u32) {
-    let found = match tree_of(alloc, text) {
-        Ok(_) => None,
-        Err(fault) => Some(fault),
-    };
-    assert_eq!(rt; found, Some(Front::Refused { kind, place }));
+// Whether a text has a tree, and what it prints as has one that prints as the same text.
+fn has_tree(alloc: Global, text: &[u8]) -> bool {
+    match printed_of(alloc, text) {
+        Some(printed) => is_printed(alloc, printed.as_slice(), printed.as_slice()),
+        None => false,
+    }
+}
+
+// Whether a text has this fault.
+fn has_fault(alloc: Global, text: &[u8], kind: Kind, place: u32) -> bool {
+    match tree_of(alloc, text) {
+        Ok(_) => false,
+        Err(fault) => fault == Front::Refused { kind, place },
+    }
 }
 
 // The pieces, each so many times.
@@ -126,32 +136,39 @@ const PRINTED: &[(&[u8], &[u8])] = &[
 
 #[test]
 fn small_trees(rt: HostRuntime) {
-    for (text, printed) in PRINTED {
-        expect_print(&rt, rt.alloc(), *text, *printed);
+    for (at, (text, printed)) in PRINTED.iter().enumerate() {
+        assert!(rt; is_printed(rt.alloc(), *text, *printed), "text {at}");
     }
 }
 
-// How many members the process of the first site has, and the one of the `def` that it begins with.
-fn members(tree: &Tree) -> Option<(usize, usize)> {
-    let site = tree.sites.as_slice().first()?;
-    let process = site.body.as_slice().first()?;
-    match process.node() {
-        ProcNode::Def { body, .. } => Some((site.body.len(), body.len())),
-        _ => None,
+// Whether it is one process, a `def` whose own process has two members.
+fn is_def_of_two(processes: &[ProcTree]) -> bool {
+    match processes {
+        [process] => match process.node() {
+            ProcNode::Def { body, .. } => body.len() == 2,
+            _ => false,
+        },
+        _ => false,
     }
 }
 
-fn members_of(alloc: Global, text: &[u8]) -> Option<(usize, usize)> {
-    let tree = tree_of(alloc, text).ok()?;
-    members(&tree)
+// Whether the process of the first site is such a `def`.
+fn begins_with_def(alloc: Global, text: &[u8]) -> bool {
+    match tree_of(alloc, text) {
+        Ok(tree) => match tree.sites.as_slice().first() {
+            Some(site) => is_def_of_two(site.body.as_slice()),
+            None => false,
+        },
+        Err(_) => false,
+    }
 }
 
 #[test]
 fn a_def_takes_all_to_its_right(rt: HostRuntime) {
     let text = b"observe out/0; site s [ none : def x() => out() in 0 | x() ]";
     let printed = b"observe out / 0 ; site s [ none : def x ( ) => out ( ) in 0 | x ( ) ]\n";
-    expect_print(&rt, rt.alloc(), text, printed);
-    assert_eq!(&rt; members_of(rt.alloc(), text), Some((1, 2)));
+    assert!(rt; is_printed(rt.alloc(), text, printed));
+    assert!(rt; begins_with_def(rt.alloc(), text));
 }
 
 /// Texts that are refused, and where.
@@ -178,31 +195,31 @@ const REFUSED: &[(&[u8], Kind, u32)] = &[
 
 #[test]
 fn refused_texts(rt: HostRuntime) {
-    for (text, kind, place) in REFUSED {
-        expect_fault(&rt, rt.alloc(), *text, *kind, *place);
+    for (at, (text, kind, place)) in REFUSED.iter().enumerate() {
+        assert!(rt; has_fault(rt.alloc(), *text, *kind, *place), "text {at}");
     }
 }
 
-// That a text has a tree, or one level too many at this place.
-fn expect_levels(rt: &impl Abort, alloc: Global, text: &[u8], place: Option<u32>) {
-    match place {
-        Some(place) => expect_fault(rt, alloc, text, Kind::Grammar2, place),
-        None => expect_tree(rt, alloc, text),
+// Whether a text is made, and has this fault, or where none is named a tree.
+fn ends_so(alloc: Global, text: Result<Vec<u8>, AllocError>, fault: Option<(Kind, u32)>) -> bool {
+    match (text, fault) {
+        (Ok(text), Some((kind, place))) => has_fault(alloc, &text, kind, place),
+        (Ok(text), None) => has_tree(alloc, &text),
+        (Err(_), _) => false,
     }
 }
 
 // The level of a `def` ends with its whole process.
 #[test]
-fn levels(rt: HostRuntime) -> Result<(), Fail> {
-    for (depth, place) in [(199, None), (200, Some(215)), (1000, Some(215))] {
-        let text = nested(rt.alloc(), depth)?;
-        expect_levels(&rt, rt.alloc(), &text, place);
-    }
-    for (depth, place) in [(199, None), (200, Some(16 + 199 * 12))] {
-        let text = defs(rt.alloc(), depth)?;
-        expect_levels(&rt, rt.alloc(), &text, place);
-    }
-    Ok(())
+fn levels(rt: HostRuntime) {
+    let alloc = rt.alloc();
+    let too_deep = Some((Kind::Grammar2, 215));
+    assert!(rt; ends_so(alloc, nested(alloc, 199), None));
+    assert!(rt; ends_so(alloc, nested(alloc, 200), too_deep));
+    assert!(rt; ends_so(alloc, nested(alloc, 1000), too_deep));
+    let too_deep = Some((Kind::Grammar2, 16 + 199 * 12));
+    assert!(rt; ends_so(alloc, defs(alloc, 199), None));
+    assert!(rt; ends_so(alloc, defs(alloc, 200), too_deep));
 }
 
 // A place at level 201.
@@ -228,24 +245,21 @@ fn a_place_within_a_place(alloc: Global) -> Result<Vec<u8>, AllocError> {
 }
 
 #[test]
-fn places_at_level_201(rt: HostRuntime) -> Result<(), Fail> {
+fn places_at_level_201(rt: HostRuntime) {
     let alloc = rt.alloc();
-    let text = a_place_too_deep(alloc)?;
-    expect_fault(&rt, alloc, &text, Kind::Grammar2, 16 + 198 + 6);
-    let text = a_place_within_a_place(alloc)?;
-    expect_fault(&rt, alloc, &text, Kind::Grammar1, 16 + 197 + 10);
-    Ok(())
+    let deep = Some((Kind::Grammar2, 16 + 198 + 6));
+    assert!(rt; ends_so(alloc, a_place_too_deep(alloc), deep));
+    let within = Some((Kind::Grammar1, 16 + 197 + 10));
+    assert!(rt; ends_so(alloc, a_place_within_a_place(alloc), within));
 }
 
 #[test]
-fn lists_of_identifiers(rt: HostRuntime) -> Result<(), Fail> {
+fn lists_of_identifiers(rt: HostRuntime) {
     let alloc = rt.alloc();
-    let text = arguments(alloc, 255)?;
-    expect_tree(&rt, alloc, &text);
+    assert!(rt; ends_so(alloc, arguments(alloc, 255), None));
     // the comma behind the 255th
-    let text = arguments(alloc, 256)?;
-    expect_fault(&rt, alloc, &text, Kind::Grammar1, 16 + 2 + 255 * 2 - 1);
-    Ok(())
+    let comma = Some((Kind::Grammar1, 16 + 2 + 255 * 2 - 1));
+    assert!(rt; ends_so(alloc, arguments(alloc, 256), comma));
 }
 
 #[test]
@@ -254,8 +268,8 @@ fn an_agent_asks_a_shop_for_a_price(rt: HostRuntime) {
         b"observe log/2;\n# an agent asks a shop for a price and comes home\nsite home [\n  agent [\n    start() => go(shop, ask) and\n    ask() => price(agent, got) and\n    got(p) => log(shop, p) | go(home, back) and\n    back() => done(agent)\n    : start()\n  ] and\n  done(a) => log(home, a)\n  : 0\n]\nsite shop [\n  cheap() => 0 and\n  price(who, k) => k(cheap)\n  : 0\n]\n";
     let printed =
         b"observe log / 2 ; site home [ agent [ start ( ) => go ( shop , ask ) and ask ( ) => price ( agent , got ) and got ( p ) => log ( shop , p ) | go ( home , back ) and back ( ) => done ( agent ) : start ( ) ] and done ( a ) => log ( home , a ) : 0 ] site shop [ cheap ( ) => 0 and price ( who , k ) => k ( cheap ) : 0 ]\n";
-    expect_print(&rt, rt.alloc(), text, printed);
-    expect_print(&rt, rt.alloc(), printed, printed);
+    assert!(rt; is_printed(rt.alloc(), text, printed));
+    assert!(rt; is_printed(rt.alloc(), printed, printed));
 }
 
 // So many members of one process.
@@ -268,14 +282,21 @@ fn messages(alloc: Global, count: usize) -> Result<Vec<u8>, AllocError> {
     text_of(alloc, &pieces)
 }
 
-fn members_at_first(alloc: Global, text: &[u8]) -> Option<usize> {
-    let tree = tree_of(alloc, text).ok()?;
-    Some(tree.sites.as_slice().first()?.body.len())
+// Whether the process of the first site has so many members.
+fn has_members(alloc: Global, text: &[u8], count: usize) -> bool {
+    match tree_of(alloc, text) {
+        Ok(tree) => match tree.sites.as_slice().first() {
+            Some(site) => site.body.len() == count,
+            None => false,
+        },
+        Err(_) => false,
+    }
 }
 
 #[test]
-fn many_messages(rt: HostRuntime) -> Result<(), Fail> {
-    let text = messages(rt.alloc(), 300_000)?;
-    assert_eq!(&rt; members_at_first(rt.alloc(), &text), Some(300_000));
-    Ok(())
+fn many_messages(rt: HostRuntime) {
+    match messages(rt.alloc(), 300_000) {
+        Ok(text) => assert!(rt; has_members(rt.alloc(), &text, 300_000)),
+        Err(_) => assert!(rt; false, "no memory"),
+    }
 }
