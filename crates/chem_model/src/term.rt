@@ -243,7 +243,8 @@ impl Items<Proc> {
     {
         let mut list = Items::new(alloc);
         for member in self.as_slice() {
-            list.push(member.copy(alloc)?)?;
+            let copy = member.copy(alloc)?;
+            list.push(copy)?;
         }
         Ok(list)
     }
@@ -257,7 +258,8 @@ impl Items<Defn> {
     {
         let mut list = Items::new(alloc);
         for member in self.as_slice() {
-            list.push(member.copy(alloc)?)?;
+            let copy = member.copy(alloc)?;
+            list.push(copy)?;
         }
         Ok(list)
     }
