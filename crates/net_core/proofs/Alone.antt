@@ -41,9 +41,9 @@ use Rattle.net_laws.specs.Site.{Group}
 use Rattle.net_core.specs.declared.turn.Made.{Made}
 use Rattle.net_core.specs.Acting.{Reacts, Delivers}
 use Rattle.net_core.specs.inside.AtSites.{AllStayFit}
-use Rattle.net_core.specs.inside.Alone.{IsAlone, IsReadyForCalls, IsBroughtTo, Arrives, HasArrived}
+use Rattle.net_core.specs.inside.Alone.{IsAlone, IsReadyForCalls, Arrives, HasArrived}
 use Rattle.net_core.specs.inside.Alone.{ReactsOnce, IsNoted, HasReacted}
-use Rattle.net_core.specs.inside.Delivering.{GoesOn}
+use Rattle.net_core.specs.inside.Delivering.{GoesOn, IsBroughtTo}
 use Rattle.net_core.specs.Lending.{mail_to, ReactsAlone, WorksAlone, used_up, rests, reacts}
 use Rattle.net_core.specs.Parts.{message_in, carried, all_carried, IsMessageFlight}
 use Rattle.net_core.specs.Playing as does

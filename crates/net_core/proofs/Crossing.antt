@@ -1,5 +1,5 @@
 -- Two sites of a list, each on its side of a place, and a move from one of them to the other.
-use Rattle.std.proofs.Common.{◌≡◌, ℕ, zero, suc, ◌+◌, ◌<◌, true, List, [], ◌∷◌, ◌++◌, length, Option, Some, Result, Ok, Err, refl, sym, ap, ◌∙◌, subst, arith}
+use Rattle.std.proofs.Common.{◌≡◌, ℕ, zero, suc, ◌<◌, true, List, [], ◌∷◌, ◌++◌, length, Option, Some, Result, Ok, Err, refl, sym, ap, ◌∙◌, subst, arith}
 use Rattle.std.specs.Prelude.{slice_get, slice_set, slice_index_or, IfOk, OnOk, OnErr}
 use Rattle.std.proofs.lemmas.Option.{get_or_from_slice_get}
 use Rattle.chem_model.specs.declared.event.AtomId.{AtomId}
@@ -8,11 +8,13 @@ use Rattle.loc_tree.specs.Tree.{Tree}
 use Rattle.net_laws.specs.Site.{Site}
 use Rattle.site_solution.specs.Staying.{StillFits, HasReceived}
 use Rattle.site_solution.specs.declared.effects.Effects.{Effects}
-use Rattle.migration.specs.Across.{IsMoveBetween}
+use Rattle.migration.specs.Moves.{can_go}
+use Rattle.migration.specs.Within.{leads_into}
+use Rattle.migration.specs.Across.{can_join, IsMoveBetween}
 use Rattle.net_core.specs.inside.AtSites.{AllStayFit, MayCrossAt, CrossesAt}
 use Rattle.net_core.specs.inside.Fitting.{AreNumbered}
 use Rattle.net_core.specs.Whole.{AllFit}
-use Rattle.net_core.proofs.Fitting.{fits_at, others_stay, stay_set}
+use Rattle.net_core.proofs.Fitting.{Fits, fits_at, others_stay, stay_set, set_same}
 
 pub ok_three : {A E : Type 0} (P Q S R : Type 0) (r : Result A E) → (P → Q → S → R) → IfOk r (λ _. P) → IfOk r (λ _. Q) → IfOk r (λ _. S) → OnOk r R
 ok_three P Q S R (Ok x) f p q s = f p q s
@@ -45,11 +47,6 @@ set_swap (z ∷ zs) zero (suc j) x y far = refl
 set_swap (z ∷ zs) (suc i) zero x y far = refl
 set_swap (z ∷ zs) (suc i) (suc j) x y far = ap (λ us. z ∷ us) (set_swap zs i j x y (λ same. far (ap suc same)))
 
-set_own : {X : Type 0} (xs : List X) (i : ℕ) (x : X) → slice_get xs i ≡ Some x → slice_set xs i x ≡ xs
-set_own [] i x e = refl
-set_own (y ∷ ys) zero x e = let same : y ≡ x = cc in ap (λ z. z ∷ ys) (sym same)
-set_own (y ∷ ys) (suc i) x e = ap (λ us. y ∷ us) (set_own ys i x e)
-
 module _ {X : Type 0} (xs front back : List X) (i : ℕ) (value : xs ≡ front ++ back) where
   pub before : (x d : X) → i < length front → slice_get xs i ≡ Some x → slice_index_or front i d ≡ x
   before x d h e = get_or_from_slice_get front i x d (front_get front back i x h (ap (λ us. slice_get us i) (sym value) ∙ e))
@@ -63,6 +60,28 @@ module _ {X : Type 0} (xs front back : List X) (i : ℕ) (value : xs ≡ front +
 
 pub both_set_back : {X : Type 0} (xs front back : List X) (i j : ℕ) (value : xs ≡ front ++ back) (x y : X) → (i ≡ j → ⊥) → j < length front → length front ≡ i → slice_set front j y ++ slice_set back 0 x ≡ slice_set (slice_set xs i x) j y
 both_set_back xs front back i j value x y far h long = both_set xs front back j value i y x h long ∙ set_swap xs i j x y far
+
+-- ---- what the move asks of the two sites
+
+pub record MayMove (c : CodeParts) (t : Tree) (a : AtomId) (x y : Site) : Type 0 where
+  pub from : Fits c t x
+  pub into : Fits c t y
+  pub can : can_go t a x ≡ true
+  pub hosted : leads_into a x y ≡ true
+  pub joins : can_join a x y ≡ true
+
+module _ (c : CodeParts) (t : Tree) (sites : List Site) (i j : ℕ) (a : AtomId) (may : MayCrossAt t sites i j a) (fit : AllFit c t sites) (front back : List Site) (value : sites ≡ front ++ back) (d e : Site) where
+  may_move : (x y : Site) → x ≡ may.from → y ≡ may.into → MayMove c t a x y
+  may_move x y x_is y_is =
+      subst (λ (s : Site). MayMove c t a s y) (sym x_is)
+      (subst (λ (s : Site). MayMove c t a may.from s) (sym y_is)
+      (record { from = fits_at c t sites i may.from fit may.from_is; into = fits_at c t sites j may.into fit may.into_is; can = may.can; hosted = may.hosted; joins = may.joins }))
+
+  pub may_up : i < length front → length front ≡ j → MayMove c t a (slice_index_or front i d) (slice_index_or back 0 e)
+  may_up less long = may_move (slice_index_or front i d) (slice_index_or back 0 e) (before sites front back i value may.from d less may.from_is) (behind sites front back j value may.into e long may.into_is)
+
+  pub may_down : j < length front → length front ≡ i → MayMove c t a (slice_index_or back 0 d) (slice_index_or front j e)
+  may_down less long = may_move (slice_index_or back 0 d) (slice_index_or front j e) (behind sites front back i value may.from d long may.from_is) (before sites front back j value may.into e less may.into_is)
 
 -- ---- the move
 
@@ -113,7 +132,7 @@ module _ {E : Type 0} (t u : Tree) (sites : List Site) (i j : ℕ) (a : AtomId) 
           let left_is : left ≡ may.from = e ∙ from_is in
           let after_is : after ≡ may.into = f ∙ into_is in
           new_is ∙ ap (λ (s : Site). slice_set (slice_set sites i s) j after) left_is ∙ ap (λ (s : Site). slice_set (slice_set sites i may.from) j s) after_is
-          ∙ ap (λ us. slice_set us j may.into) (set_own sites i may.from may.from_is) ∙ set_own sites j may.into may.into_is
+          ∙ ap (λ us. slice_set us j may.into) (set_same sites i may.from may.from_is) ∙ set_same sites j may.into may.into_is
 
       go : (q : Result Effects E) → OnErr q (left ≡ old_from) → OnErr q (after ≡ old_into) → OnErr q (new ≡ sites)
       go (Ok e) p q = tt

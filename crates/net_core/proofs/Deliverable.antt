@@ -1,7 +1,7 @@
 -- A message under way may be delivered to its target: that follows from what the network stands for.
-use Rattle.std.proofs.Common.{◌≡◌, ℕ, ◌+◌, ◌<◌, ◌≤◌, ◌==◌, Bool, true, false, cond, List, [], ◌∷◌, Option, Some, None, length, slice_get, refl, sym, ap, ◌∙◌, subst, arith, inl, inr, eqb-true, lt-ltb}
+use Rattle.std.proofs.Common.{◌≡◌, ℕ, ◌<◌, ◌==◌, Bool, true, false, cond, List, [], ◌∷◌, Option, Some, None, length, slice_get, refl, sym, ap, ◌∙◌, arith, inl, inr, eqb-true, lt-ltb}
 use Rattle.std.specs.Prelude.{◌&&◌, ◌||◌, not, is_some, slice_index, nat_lt}
-use Rattle.std.specs.List.{list_any, list_all}
+use Rattle.std.specs.List.{list_any}
 use Rattle.std.proofs.lemmas.Bool.{and_from, or_cases}
 use Rattle.chem_model.specs.declared.name.Loc.{Loc}
 use Rattle.chem_model.specs.declared.name.Name.{Name}
@@ -11,7 +11,7 @@ use Rattle.chem_model.specs.declared.numbered.NumberedRule.{NumberedRule}
 use Rattle.chem_model.specs.declared.numbered.NumberedAtom.{NumberedAtom}
 use Rattle.chem_model.specs.declared.numbered.Numbered.{Numbered}
 use Rattle.chem_model.specs.Apply.{same_atom}
-use Rattle.chem_model.specs.Bag.{one, bag}
+use Rattle.chem_model.specs.Bag.{bag}
 use Rattle.chem_model.specs.Each.{Each}
 use Rattle.chem_model.specs.Opening.{root_of}
 use Rattle.chem_model.specs.Reduction.{all_known}
@@ -25,10 +25,10 @@ use Rattle.wire_packet.specs.declared.packet.GroupInst.{GroupInst}
 use Rattle.wire_packet.specs.declared.packet.Waiting.{Waiting}
 use Rattle.wire_packet.specs.declared.packet.Request.{Request}
 use Rattle.loc_tree.specs.declared.tree.Spot.{Spot}
-use Rattle.loc_tree.specs.Tree.{Tree, spot, is_root}
+use Rattle.loc_tree.specs.Tree.{spot, is_root}
 use Rattle.loc_tree.specs.Places.{standing_in}
 use Rattle.net_laws.specs.Site.{Group, Site, coded_atom, message_atom, request_atom, messages_at, queues_at, queue_atoms, waiting_atoms, request_atoms, atoms_of}
-use Rattle.net_laws.specs.Net.{Addressed, Net, Stands, IsChannel, IsOnItsWay, home_or, all_atoms, under_way, made_of, without_packet}
+use Rattle.net_laws.specs.Net.{Addressed, Net, Stands, IsChannel, IsOnItsWay, home_or, under_way, made_of}
 use Rattle.net_laws.specs.Holding.{request_with}
 use Rattle.net_laws.proofs.Found.{atom_in}
 use Rattle.net_laws.proofs.Follows.{atom_below, flying_elsewhere}

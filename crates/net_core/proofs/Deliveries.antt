@@ -1,8 +1,8 @@
 -- A delivery, from its parts.
-use Rattle.std.proofs.Common.{◌≡◌, ℕ, zero, suc, ◌+◌, ◌<◌, ◌^◌, Bool, true, false, cond, List, [], ◌∷◌, ◌++◌, Option, Some, None, length, slice_get, refl, sym, ap, ◌∙◌, subst, arith, length-append}
-use Rattle.std.specs.Prelude.{slice_set, ◌-◌, IsSome}
+use Rattle.std.proofs.Common.{◌≡◌, ℕ, zero, suc, ◌+◌, ◌<◌, Bool, true, false, cond, List, [], ◌∷◌, ◌++◌, Option, Some, None, Result, Ok, Err, length, slice_get, refl, sym, ap, ◌∙◌, subst, arith, length-append}
+use Rattle.std.specs.Prelude.{slice_set, slice_index_or, ◌-◌, IfOk}
+use Rattle.std.proofs.lemmas.Option.{get_or_from_slice_get}
 use Rattle.chem_model.specs.declared.name.Loc.{Loc}
-use Rattle.chem_model.specs.declared.event.Out.{Out}
 use Rattle.chem_model.specs.Each.{Each}
 use Rattle.chem_model.specs.Opening.{root_of}
 use Rattle.chem_laws.proofs.Lists.{Each-append, append_nil}
@@ -12,11 +12,10 @@ use Rattle.env_store.specs.CodeParts.{CodeParts}
 use Rattle.env_store.specs.Laws.{rules_of_group}
 use Rattle.loc_tree.specs.Tree.{Tree, bare}
 use Rattle.net_laws.specs.Site.{Site}
-use Rattle.net_laws.specs.Net.{Addressed, Net, Stands, among, home_or, address, without_packet, IsOnItsWay}
+use Rattle.net_laws.specs.Net.{Addressed, Net, among, home_or, address, without_packet, IsOnItsWay}
 use Rattle.net_laws.specs.Holding.{put}
 use Rattle.net_laws.proofs.Holds.{each_get}
-use Rattle.router.specs.Delivering.{home_at, can_deliver, IsDelivery}
-use Rattle.router.specs.declared.routing.Delivery.TheVariants.{Forward}
+use Rattle.router.specs.Delivering.{home_at, can_deliver}
 use Rattle.net_core.specs.declared.parts.Parts.{Parts}
 use Rattle.net_core.specs.Parts.{joined, message_in, carried, all_carried, IsMessageFlight, net_of}
 use Rattle.net_core.specs.inside.Pieces.{without, IsPlace}
@@ -24,10 +23,13 @@ use Rattle.net_core.specs.Whole.{AllFit, AreFlying, IsWhole, IsRunning}
 use Rattle.net_core.specs.Acting.{Delivers, delivered}
 use Rattle.net_core.specs.inside.Handing.{AreAsBefore}
 use Rattle.net_core.specs.Playing.{deliver}
-use Rattle.net_core.specs.inside.Delivering.{IsBrought, GoesOn}
-use Rattle.net_core.proofs.Carrying.{carried_append, carried_without, carried_at, carried_length, each_without}
+use Rattle.net_core.specs.inside.Alone.{IsReadyForCalls}
+use Rattle.net_core.specs.inside.Delivering.{IsBroughtTo, IsBrought, GoesOn, IsFlightBrought}
+use Rattle.net_core.specs.inside.Delivering.{IsFlightBroughtAt}
+use Rattle.net_core.proofs.Carrying.{carried_append, carried_without, carried_at, each_without}
 use Rattle.net_core.proofs.Deliverable.{may_be_delivered}
-use Rattle.net_core.proofs.Fitting.{fit_bare, fit_full}
+use Rattle.net_core.proofs.Fitting.{fit_bare, fits_at, all_fit_set, set_same}
+use Rattle.net_core.proofs.Leading.{get_some}
 use Rattle.net_core.proofs.Members.{without_length}
 use Rattle.net_core.proofs.Stepping.{running_on}
 
@@ -65,19 +67,31 @@ as_before_whole c old new events h whole = record {
 
 -- ---- a message that is brought
 
-set_same : {X : Type 0} (xs : List X) (i : ℕ) (x : X) → slice_get xs i ≡ Some x → slice_set xs i x ≡ xs
-set_same [] i x e = refl
-set_same (y ∷ xs) zero x e = let same : y ≡ x = cc in ap (λ z. z ∷ xs) (sym same)
-set_same (y ∷ xs) (suc i) x e = ap (λ r. y ∷ r) (set_same xs i x e)
+-- at one of the sites, as at that site
+module _ (t : Tree) (sites : List Site) (f : Flight) (d new : Site) where
+  abbrev here : Site
+  here = slice_index_or sites f.target d
 
-pub brought_on : (t : Tree) (sites : List Site) (i : ℕ) (s u new : Site) (m msg : MessageParts) (target : ℕ) → u ≡ s → slice_get sites i ≡ Some s → IsDelivery t u m (Forward target msg) new → IsBrought t i s m (Some target) sites (slice_set sites i new)
-brought_on t sites i s u new m msg target same at d =
-    let stays : new ≡ s = d.3 ∙ same in
-    (ap (λ (v : Site). among v.locs (home_at v m)) (sym same) ∙ d.0, d.1 ∙ ap (λ (v : Site). address t (home_at v m)) same, ap (slice_set sites i) stays ∙ set_same sites i s at)
+  brought_at : (s : Site) → slice_get sites f.target ≡ Some s → (o : Option ℕ) → IsBroughtTo t s (message_in f.bytes) o new → IsBrought t f.target s (message_in f.bytes) o sites (slice_set sites f.target new)
+  brought_at s at None b = (b.0, ap (slice_set sites f.target) b.1)
+  brought_at s at (Some target) b = (b.0, b.1, ap (slice_set sites f.target) b.2 ∙ set_same sites f.target s at)
 
-pub brought_same : (t : Tree) (i : ℕ) (s : Site) (m : MessageParts) (on : Option ℕ) (old new : List Site) → IsSome on → IsBrought t i s m on old new → new ≡ old
-brought_same t i s m None old new h b = absurd (cc)
-brought_same t i s m (Some target) old new h b = b.2
+  flight_at : (more : List Flight) → IsFlightBrought t here f more new → (s : Site) → slice_get sites f.target ≡ Some s → IsFlightBroughtAt t s f more sites (slice_set sites f.target new)
+  flight_at more b s at =
+      let same : here ≡ s = get_or_from_slice_get sites f.target s d at in
+      record { on = b.on; brought = brought_at s at b.on (subst (λ (u : Site). IsBroughtTo t u (message_in f.bytes) b.on new) same b.brought); goes = b.goes }
+
+  pub flight_brought : {E : Type 0} (r : Result (List Flight) E) → IfOk r (λ more. IsFlightBrought t here f more new) → IfOk r (λ more. (s : Site) → slice_get sites f.target ≡ Some s → IsFlightBroughtAt t s f more sites (slice_set sites f.target new))
+  flight_brought (Ok more) b = flight_at more b
+  flight_brought (Err e) b = tt
+
+  pub brought_fit : f.target < length sites → ((c : CodeParts) → IsReadyForCalls c t here → IsReadyForCalls c t new) → (c : CodeParts) → AllFit c t sites → AllFit c t (slice_set sites f.target new)
+  brought_fit below ready c fit =
+      let at = get_some sites f.target below in
+      let fits = fits_at c t sites f.target at.0 fit at.1 in
+      let old : IsReadyForCalls c t at.0 = record { in_tree = fits.in_tree; in_code = fits.in_code; draws = fits.draws } in
+      let now = ready c (subst (IsReadyForCalls c t) (sym (get_or_from_slice_get sites f.target at.0 d at.1)) old) in
+      all_fit_set c t sites f.target new fit (record { in_tree = now.in_tree; in_code = now.in_code; draws = now.draws })
 
 -- ---- that it may be delivered
 
@@ -98,6 +112,10 @@ flight_may c p events f flight s h at here =
     (each_get (IsOnItsWay (length p.sites.items)) net.packets f (carried flight) flies some.runs.keeps.packets)
 
 -- ---- what it leaves
+
+pub goes_few : (f : Flight) (more : List Flight) (on : Option ℕ) → GoesOn f on more → length more < 2
+goes_few f more None g = omega (arith, ap length g)
+goes_few f more (Some target) g = omega (arith, ap length g)
 
 module _ (c : CodeParts) (old new : Parts) (events f : ℕ) (flight : Flight) (on : Option ℕ) (more : List Flight) (s : Site) (h : IsWhole c old events)
     (at : slice_get (joined old.flights.items) f ≡ Some flight) (here : slice_get old.sites.items flight.target ≡ Some s)
@@ -156,10 +174,6 @@ module _ (c : CodeParts) (old new : Parts) (events f : ℕ) (flight : Flight) (o
   more_spelled None g = subst (Each IsMessageFlight) (sym g) tt
   more_spelled (Some target) g = subst (Each IsMessageFlight) (sym g) (flight_spelled old f flight h.flying at, tt)
 
-  more_few : (o : Option ℕ) → GoesOn flight o more → length more < 2
-  more_few None g = omega (arith, ap length g)
-  more_few (Some target) g = omega (arith, ap length g)
-
   pub delivered_whole : AllFit c new.tree new.sites.items → new.under_way ≡ old.under_way - 1 + length more → IsWhole c new events
   delivered_whole fit count = record {
     running =
@@ -168,7 +182,7 @@ module _ (c : CodeParts) (old new : Parts) (events f : ℕ) (flight : Flight) (o
     flying = record {
       spelled = subst (Each IsMessageFlight) (sym flights) (Each-append IsMessageFlight (without f (joined old.flights.items)) more (each_without IsMessageFlight (joined old.flights.items) f h.flying.spelled) (more_spelled on goes));
       counted = omega (arith, count, h.flying.counted, ap length flights, length-append (without f (joined old.flights.items)) more, without_length (joined old.flights.items) f (below_some (joined old.flights.items) f flight at));
-      few = omega (arith, count, h.flying.few, more_few on goes, h.flying.counted, below_some (joined old.flights.items) f flight at);
+      few = omega (arith, count, h.flying.few, goes_few flight more on goes, h.flying.counted, below_some (joined old.flights.items) f flight at);
     };
   }
 
@@ -185,7 +199,7 @@ flights_left ps qs rs news f i j more kept first at is =
     let here : IsPlace qs f i j = subst (λ (us : List (List Flight)). IsPlace us f i j) first at in
     is f here ∙ ap (λ (us : List (List Flight)). without f (joined us) ++ more) kept
 
-pub brought_in : (t : Tree) (i : ℕ) (s : Site) (m n : MessageParts) (on : Option ℕ) (olds sites news : List Site) → m ≡ n → olds ≡ sites → ((u : Site) → slice_get olds i ≡ Some u → IsBrought t i u m on olds news) → slice_get sites i ≡ Some s → IsBrought t i s n on sites news
-brought_in t i s m n on olds sites news same kept brought at =
-    let here : slice_get olds i ≡ Some s = ap (λ (us : List Site). slice_get us i) kept ∙ at in
-    subst (λ (us : List Site). IsBrought t i s n on us news) kept (subst (λ (k : MessageParts). IsBrought t i s k on olds news) same (brought s here))
+pub brought_in : (t : Tree) (f : Flight) (s : Site) (more : List Flight) (olds sites news : List Site) → olds ≡ sites → ((u : Site) → slice_get olds f.target ≡ Some u → IsFlightBroughtAt t u f more olds news) → slice_get sites f.target ≡ Some s → IsFlightBroughtAt t s f more sites news
+brought_in t f s more olds sites news kept brought at =
+    let here : slice_get olds f.target ≡ Some s = ap (λ (us : List Site). slice_get us f.target) kept ∙ at in
+    subst (λ (us : List Site). IsFlightBroughtAt t s f more us news) kept (brought s here)

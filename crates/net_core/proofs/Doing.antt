@@ -1,9 +1,8 @@
 -- Which request is met, and where it leads.
-use Rattle.std.proofs.Common.{◌≡◌, ℕ, ◌+◌, ◌<◌, Bool, true, false, List, [], ◌∷◌, Option, Some, None, Result, Ok, Err, length, slice_get, refl, sym, ap, ◌∙◌, subst, arith}
-use Rattle.std.specs.Prelude.{slice_index_or, OnOk}
+use Rattle.std.proofs.Common.{◌≡◌, ℕ, ◌<◌, true, false, List, Option, Some, None, length, slice_get, refl, sym, ap, ◌∙◌, subst, arith}
+use Rattle.std.specs.Prelude.{slice_index_or}
 use Rattle.std.proofs.lemmas.Option.{get_or_from_slice_get}
 use Rattle.chem_model.specs.declared.name.Loc.{Loc}
-use Rattle.chem_model.specs.declared.name.Name.{Name}
 use Rattle.chem_model.specs.declared.name.Name.TheVariants as name
 use Rattle.chem_model.specs.declared.event.AtomId.{AtomId}
 use Rattle.chem_model.specs.Opening.{root_of}
@@ -20,9 +19,9 @@ use Rattle.net_laws.specs.Holding.{request_with}
 use Rattle.net_laws.specs.Parcels.{pack}
 use Rattle.net_laws.proofs.Sites.{length_made, get_below}
 use Rattle.site_solution.specs.Apart.{is_apart}
-use Rattle.migration.specs.Moves.{can_go, is_ready}
+use Rattle.migration.specs.Moves.{is_ready}
 use Rattle.migration.specs.Within.{leads_into, leads_to_one_of, goes_to_one_of}
-use Rattle.migration.specs.Across.{joins, can_join}
+use Rattle.migration.specs.Across.{joins}
 use Rattle.net_core.specs.declared.choice.Choice.{Choice}
 use Rattle.net_core.specs.inside.Searched.{meets, IsMet, NoneMeets}
 use Rattle.net_core.specs.inside.AtSites.{MayGoAt, HasGoal, MayMoveAt, MayCrossAt}
@@ -96,10 +95,6 @@ goal_asks sites i a target g d is q here =
     let both : Some q ≡ Some g.request = sym here ∙ goal_there sites i a target g d is in
     let same : q ≡ g.request = cc in
     ap (λ (r : Request). r.ask) same ∙ g.asks
-
-pub on_ok : {A E : Type 0} (P Q : Type 0) (r : Result A E) → (P → Q) → OnOk r P → OnOk r Q
-on_ok P Q (Ok x) f p = f p
-on_ok P Q (Err e) f p = tt
 
 pub met_not : (sites : List Site) (t : Tree) (x : Choice) (i : ℕ) → IsMet sites t x i → NoneMeets sites t x (length sites) → ⊥
 met_not sites t x i met none = let no_one : meets t x met.site ≡ false = none i met.site (get_below sites i met.site met.site_is) met.site_is in absurd (cc)

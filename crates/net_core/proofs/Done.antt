@@ -1,5 +1,5 @@
 -- What a choice that was made has done.
-use Rattle.std.proofs.Common.{◌≡◌, ℕ, ◌+◌, ◌<◌, true, arith, Option, Some, None, Result, Ok, Err, List, refl, sym, ap, ◌∙◌, subst, length}
+use Rattle.std.proofs.Common.{◌≡◌, ℕ, ◌+◌, ◌<◌, true, arith, Option, Some, None, Result, Ok, Err, sym, ap, ◌∙◌, subst}
 use Rattle.std.specs.Prelude.{IfOk, OnOk}
 use Rattle.chem_model.specs.declared.event.AtomId.{AtomId}
 use Rattle.chem_model.specs.declared.event.Event.{Event}
@@ -21,7 +21,6 @@ use Rattle.net_core.specs.inside.Searched.{meets, IsMet}
 use Rattle.net_core.specs.Acting.{Reacts, Delivers, Halts, Detects, Moves}
 use Rattle.net_core.specs.Acts.{Acts}
 use Rattle.net_core.specs.Acts as acts
-use Rattle.net_core.specs.Laws.{IsLedFrom}
 use Rattle.net_core.specs.Making.{counted, Falls, HasActed}
 use Rattle.net_core.specs.Playing.{Does}
 use Rattle.net_core.specs.Playing as does

@@ -1,12 +1,12 @@
 -- What sites keep when one of them changes, or the tree does.
-use Rattle.std.proofs.Common.{◌≡◌, ℕ, zero, suc, ◌+◌, ◌<◌, ◌^◌, true, List, [], ◌∷◌, Some, Result, Ok, Err, refl, sym, ap, ◌∙◌, subst, arith, slice_get}
-use Rattle.std.specs.Prelude.{slice_set, IsTrue, IfOk, OnOk, OnErr}
+use Rattle.std.proofs.Common.{◌≡◌, ℕ, zero, suc, ◌<◌, ◌^◌, true, List, [], ◌∷◌, Some, Result, Ok, Err, refl, sym, ap, ◌∙◌, arith, slice_get}
+use Rattle.std.specs.Prelude.{slice_set, slice_index_or, IsTrue, IfOk, OnOk, OnErr}
+use Rattle.std.proofs.lemmas.Option.{get_or_from_slice_get}
 use Rattle.chem_model.specs.Each.{Each}
 use Rattle.env_store.specs.CodeParts.{CodeParts}
 use Rattle.loc_tree.specs.Tree.{Tree, IsFresh, bare}
 use Rattle.chem_laws.proofs.Lists.{Each-weaker}
 use Rattle.net_laws.specs.Site.{Site}
-use Rattle.net_laws.specs.Net.{Net}
 use Rattle.net_laws.proofs.Posting.{each_set}
 use Rattle.net_laws.proofs.Holds.{each_get}
 use Rattle.site_solution.specs.InTree.{is_in_tree}
@@ -58,9 +58,27 @@ pub ok_both : {A E : Type 0} (P Q R : Type 0) (r : Result A E) → (P → Q → 
 ok_both P Q R (Ok x) f p q = f p q
 ok_both P Q R (Err e) f p q = tt
 
+pub on_ok : {A E : Type 0} (P R : Type 0) (r : Result A E) → (P → R) → OnOk r P → OnOk r R
+on_ok P R (Ok x) f p = f p
+on_ok P R (Err e) f p = tt
+
+pub on_ok_both : {A E : Type 0} (P Q R : Type 0) (r : Result A E) → (P → Q → R) → OnOk r P → OnOk r Q → OnOk r R
+on_ok_both P Q R (Ok x) f p q = f p q
+on_ok_both P Q R (Err e) f p q = tt
+
 pub on_err : {A E : Type 0} (P : Type 0) (r : Result A E) → P → OnErr r P
 on_err P (Ok x) p = tt
 on_err P (Err e) p = p
+
+-- a member of a list is set to itself
+pub set_same : {X : Type 0} (xs : List X) (i : ℕ) (x : X) → slice_get xs i ≡ Some x → slice_set xs i x ≡ xs
+set_same [] i x e = refl
+set_same (y ∷ xs) zero x e = let same : y ≡ x = cc in ap (λ z. z ∷ xs) (sym same)
+set_same (y ∷ xs) (suc i) x e = ap (λ r. y ∷ r) (set_same xs i x e)
+
+pub none_set : {X A E : Type 0} (xs : List X) (i : ℕ) (x d new : X) (r : Result A E) → slice_get xs i ≡ Some x → OnErr r (new ≡ slice_index_or xs i d) → OnErr r (slice_set xs i new ≡ xs)
+none_set xs i x d new (Ok a) at same = tt
+none_set xs i x d new (Err e) at same = ap (slice_set xs i) (same ∙ get_or_from_slice_get xs i x d at) ∙ set_same xs i x at
 
 pub fit_stays : (c : CodeParts) (t : Tree) (sites : List Site) → AllFit c t sites → AllStayFit c t sites
 fit_stays c t sites h = record {

@@ -1,6 +1,6 @@
 -- Moves, from their parts.
-use Rattle.std.proofs.Common.{◌≡◌, ℕ, zero, suc, ◌+◌, ◌<◌, ◌≤◌, Bool, true, false, cond, List, [], ◌∷◌, ◌++◌, Option, Some, None, Result, Ok, Err, length, slice_get, take, drop, refl, sym, ap, ◌∙◌, subst, arith, ◌==◌, eqb-true}
-use Rattle.std.specs.Prelude.{slice_set, ◌-◌, ◌&&◌, not, nat_lt, IfOk, OnOk, IsTrue}
+use Rattle.std.proofs.Common.{◌≡◌, ℕ, ◌<◌, true, List, [], ◌++◌, Some, slice_get, refl, sym, ap, ◌∙◌, subst, ◌==◌, eqb-true}
+use Rattle.std.specs.Prelude.{slice_set, ◌&&◌, not, nat_lt}
 use Rattle.std.proofs.lemmas.Bool.{and_parts, ltb-true}
 use Rattle.chem_model.specs.Opening.{root_of}
 use Rattle.chem_model.specs.declared.name.Loc.{Loc}
@@ -8,7 +8,6 @@ use Rattle.chem_model.specs.declared.name.Name.{Name}
 use Rattle.chem_model.specs.declared.name.Name.TheVariants as name
 use Rattle.chem_model.specs.declared.event.AtomId.{AtomId}
 use Rattle.chem_model.specs.declared.event.Out.{Out}
-use Rattle.chem_model.specs.declared.numbered.Made.{Made}
 use Rattle.wire_packet.specs.declared.packet.Ask.{Ask}
 use Rattle.wire_packet.specs.declared.packet.Ask.TheVariants as request
 use Rattle.wire_packet.specs.declared.packet.Request.{Request}
@@ -17,7 +16,7 @@ use Rattle.loc_tree.specs.Tree.{Tree, spot, number_in, is_alive, is_root, can_mo
 use Rattle.net_laws.specs.Site.{Site}
 use Rattle.net_laws.specs.Net.{Addressed, Net, among}
 use Rattle.net_laws.specs.Holding.{request_with, drop_request}
-use Rattle.net_laws.specs.Posting.{posted_of, Outcome, pour_here}
+use Rattle.net_laws.specs.Posting.{posted_of, Outcome}
 use Rattle.net_laws.specs.Parcels.{pack, remove, take_in}
 use Rattle.net_laws.specs.Choices.{moved_between}
 use Rattle.net_laws.specs.Meeting.{continuation_made, sent_here}
@@ -27,7 +26,7 @@ use Rattle.migration.specs.Moves.{can_go, is_ready}
 use Rattle.migration.specs.Within.{leads_into, leads_to_one_of, goes_to_one_of}
 use Rattle.net_core.specs.declared.parts.Parts.{Parts}
 use Rattle.net_core.specs.Parts.{joined, all_carried, net_of}
-use Rattle.net_core.specs.Acting.{MayGo, Stays, Leaves, Moves, stays, leaves}
+use Rattle.net_core.specs.Acting.{MayGo, Moves, stays, leaves}
 use Rattle.net_core.specs.inside.AtSites.{MovesAt, CrossesAt}
 use Rattle.net_core.specs.Whole.{RunsSome}
 use Rattle.net_core.proofs.Carrying.{carried_append, all_carry}

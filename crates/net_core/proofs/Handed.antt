@@ -1,6 +1,6 @@
 -- What an event of a site leaves of a network, from its parts.
-use Rattle.std.proofs.Common.{◌≡◌, ℕ, zero, suc, ◌+◌, ◌<◌, ◌≤◌, ◌^◌, Bool, true, false, cond, List, [], ◌∷◌, ◌++◌, Option, Some, None, length, slice_get, refl, sym, ap, ◌∙◌, subst, arith, length-append}
-use Rattle.std.specs.Prelude.{slice_set, ◌-◌, ◌&&◌, is_some}
+use Rattle.std.proofs.Common.{◌≡◌, ℕ, suc, ◌+◌, ◌<◌, ◌≤◌, ◌^◌, Bool, true, false, cond, List, [], ◌∷◌, ◌++◌, Some, None, length, slice_get, refl, sym, ap, ◌∙◌, subst, arith, length-append}
+use Rattle.std.specs.Prelude.{slice_set, ◌&&◌, is_some}
 use Rattle.std.proofs.lemmas.Bool.{and_parts}
 use Rattle.chem_model.specs.declared.name.Loc.{Loc}
 use Rattle.chem_model.specs.declared.name.Name.{Name}
@@ -11,20 +11,17 @@ use Rattle.chem_model.specs.declared.event.Event.TheVariants as event
 use Rattle.chem_model.specs.declared.event.Out.{Out}
 use Rattle.chem_model.specs.declared.numbered.Made.{Made}
 use Rattle.chem_model.specs.Each.{Each}
-use Rattle.chem_model.specs.Opening.{root_of}
-use Rattle.chem_model.specs.Pour.{is_count, message_made}
-use Rattle.chem_model.specs.declared.name.Ref.TheVariants.{Known}
+use Rattle.chem_model.specs.Pour.{is_count}
 use Rattle.wire_packet.specs.declared.packet.Ask.{Ask}
 use Rattle.wire_packet.specs.declared.packet.Ask.TheVariants as request
-use Rattle.wire_packet.specs.declared.packet.Request.{Request}
 use Rattle.wire_packet.specs.declared.packet.Flight.{Flight}
 use Rattle.env_store.specs.CodeParts.{CodeParts}
 use Rattle.env_store.specs.Running.{Ran}
-use Rattle.loc_tree.specs.Tree.{Tree, spot, is_alive, is_dead, with_birth, with_number, with_mark, bare}
+use Rattle.loc_tree.specs.Tree.{Tree, is_alive, is_dead, with_birth, with_mark, bare}
 use Rattle.net_laws.specs.Site.{Site}
-use Rattle.net_laws.specs.Net.{Addressed, Net, among, address, with_births}
-use Rattle.net_laws.specs.Holding.{put, ask, request_with, drop_request, host_all, lay_all}
-use Rattle.net_laws.specs.Posting.{Posted, a_message, a_request, posted_of, Outcome, post, post_all, pour_here}
+use Rattle.net_laws.specs.Net.{Addressed, among, address, with_births}
+use Rattle.net_laws.specs.Holding.{put, request_with, drop_request, host_all, lay_all}
+use Rattle.net_laws.specs.Posting.{Posted, a_message, a_request, posted_of, Outcome, post, post_all}
 use Rattle.net_laws.specs.Parcels.{all_told}
 use Rattle.net_laws.specs.Choices.{with_outcome}
 use Rattle.net_laws.specs.ByCode.{told_by, run_here}
@@ -32,12 +29,11 @@ use Rattle.net_laws.specs.Meeting.{continuation_made, sent_here}
 use Rattle.net_laws.specs.Opened.{AreNew}
 use Rattle.site_solution.specs.Answers.{AreFlights, Answers}
 use Rattle.site_solution.specs.declared.effects.Effects.{Effects}
-use Rattle.failure.specs.Halts.{can_halt, is_halt, is_ready, IsHalt}
+use Rattle.failure.specs.Halts.{can_halt, is_halt, is_ready}
 use Rattle.failure.specs.Deaths.{dead_for, sees_death}
-use Rattle.failure.specs.Detects.{IsDetection}
 use Rattle.net_core.specs.declared.parts.Parts.{Parts}
 use Rattle.net_core.specs.Parts.{joined, all_carried, IsMessageFlight, net_of}
-use Rattle.net_core.specs.Acting.{Asks, Halts, Detects}
+use Rattle.net_core.specs.Acting.{Halts, Detects}
 use Rattle.net_core.specs.inside.AtSites.{AllStayFit, HaltsAt, DetectsAt}
 use Rattle.net_core.specs.Playing.{Does}
 use Rattle.net_core.specs.Whole.{IsWhole}

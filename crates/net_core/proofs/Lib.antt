@@ -12,6 +12,7 @@ pub mod Joins
 pub mod Fitting
 pub mod Stepping
 pub mod Deliveries
+pub mod AtSite
 pub mod ReactAt
 pub mod OneAnswer
 pub mod Picking

@@ -1,24 +1,19 @@
 -- A reaction, from its parts.
-use Rattle.std.proofs.Common.{◌≡◌, ℕ, ◌+◌, ◌<◌, ◌≤◌, Bool, true, List, [], ◌∷◌, ◌++◌, Option, Some, None, length, slice_get, refl, sym, ap, ◌∙◌, subst, arith}
-use Rattle.std.specs.Prelude.{slice_set, ◌-◌}
+use Rattle.std.proofs.Common.{◌≡◌, ℕ, ◌+◌, ◌<◌, ◌≤◌, true, List, [], ◌∷◌, ◌++◌, Option, Some, length, slice_get, refl, sym, ap, ◌∙◌, subst, arith}
 use Rattle.chem_model.specs.declared.name.Loc.{Loc}
 use Rattle.chem_model.specs.declared.event.Event.{Event}
-use Rattle.chem_model.specs.declared.numbered.Numbered.{Numbered}
 use Rattle.chem_model.specs.Sound.{IsRule}
-use Rattle.chem_model.specs.ProgramFacts.{ProgramTerms, IsProgram}
 use Rattle.chem_laws.proofs.Taking.{apart, rule_found}
 use Rattle.env_store.specs.CodeParts.{CodeParts}
 use Rattle.env_store.specs.CodeFacts.{IsCode}
-use Rattle.env_store.specs.Reading.{IsCodeOf}
 use Rattle.env_store.specs.Laws.{rules_of_group}
 use Rattle.env_store.specs.Running.{code_made}
-use Rattle.loc_tree.specs.Tree.{Tree, is_alive, bare}
+use Rattle.loc_tree.specs.Tree.{Tree, bare}
 use Rattle.net_laws.specs.Site.{Group, Site}
-use Rattle.net_laws.specs.Net.{Net, Stands, with_births}
+use Rattle.net_laws.specs.Net.{Net, with_births}
 use Rattle.net_laws.specs.Changes.{Takes}
 use Rattle.net_laws.specs.Posting.{Outcome, with_queues}
 use Rattle.net_laws.specs.ByCode.{args_of, run_here}
-use Rattle.net_laws.specs.Opened.{RunsCode}
 use Rattle.net_laws.specs.Kept.{IsKept}
 use Rattle.net_laws.specs.ByCode.{IsOfCode}
 use Rattle.net_laws.specs.Site.{told_in}
@@ -47,7 +42,7 @@ use Rattle.site_solution.specs.Held.{taken_in, taken_at, without_fronts}
 use Rattle.site_solution.specs.Answers.{Answers}
 use Rattle.site_solution.specs.declared.effects.Effects.{Effects}
 use Rattle.reducer.specs.declared.pick.Pick.{Pick}
-use Rattle.reducer.specs.Picks.{Picked, Picks, Fires}
+use Rattle.reducer.specs.Picks.{Picked, Fires}
 use Rattle.reducer.specs.Fronts.{taken_by, event_of}
 use Rattle.reducer.proofs.Masks.{AreDifferent, HaveFronts, held_fronts, fronts_taken, fronts_args}
 use Rattle.net_core.specs.declared.parts.Parts.{Parts}

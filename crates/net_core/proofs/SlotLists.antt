@@ -1,15 +1,17 @@
 -- Lists of slots.
-use Rattle.std.proofs.Common.{◌≡◌, ℕ, suc, ◌+◌, ◌<◌, append_assoc, List, [], ◌∷◌, ◌++◌, take, drop, length, slice_index_or, Some, refl, ap, sym, ◌∙◌, arith, length-append}
+use Rattle.std.proofs.Common.{◌≡◌, ℕ, suc, ◌+◌, ◌<◌, append_assoc, subst, List, [], ◌∷◌, ◌++◌, take, drop, map, length, slice_index_or, Some, refl, ap, sym, ◌∙◌, arith, length-append}
+use Rattle.std.specs.Prelude.{◌^◌}
 use Rattle.std.proofs.Math.Seq.{take-append_seam}
 use Rattle.chem_model.specs.declared.event.Event.{Event}
 use Rattle.chem_laws.proofs.Lists.{Each-append, append_nil}
 use Rattle.wire_packet.specs.declared.packet.Flight.{Flight}
+use Rattle.net_laws.specs.Site.{Site}
 use Rattle.net_core.specs.declared.parts.Parts.{Parts}
 use Rattle.net_core.specs.declared.slots.Slot.{Slot}
 use Rattle.net_core.specs.declared.turn.Work.{Work}
 use Rattle.net_core.specs.Parts.{joined}
-use Rattle.net_core.specs.inside.Slots.{Pairwise, HasWork, events_in, outs_in, flights_in, sites_of}
-use Rattle.net_core.specs.inside.Slots.{events_of, outs_of, flights_of, AreBack}
+use Rattle.net_core.specs.inside.Slots.{Pairwise, slot_of, HasWork, events_in, outs_in, flights_in, sites_of}
+use Rattle.net_core.specs.inside.Slots.{events_of, outs_of, flights_of, IsTaken, AreBack}
 
 module _ {X : Type 0} (R : X → X → Type 0) where
   pub pairwise : (xs ys : List X) → length ys ≡ length xs → ((i : ℕ) (d : X) → i < length xs → R (slice_index_or xs i d) (slice_index_or ys i d)) → Pairwise R xs ys
@@ -25,6 +27,10 @@ whole_written n ys xs e f = ap (λ k. take k (ys ++ drop (length ys) xs)) (f ∙
 pub joined_more : {X : Type 0} (xss : List (List X)) (xs : List X) → joined (xss ++ xs ∷ []) ≡ joined xss ++ xs
 joined_more [] xs = append_nil xs
 joined_more (ys ∷ xss) xs = ap (λ zs. ys ++ zs) (joined_more xss xs) ∙ sym (append_assoc ys (joined xss) xs)
+
+pub slots_more : (ss : List Site) (s : Site) → map slot_of (ss ++ s ∷ []) ≡ map slot_of ss ++ slot_of s ∷ []
+slots_more [] s = refl
+slots_more (x ∷ ss) s = ap (λ rs. slot_of x ∷ rs) (slots_more ss s)
 
 -- ---- what slots hold, one behind the other
 
@@ -71,12 +77,26 @@ more_back ss rs old mid new es fs gs a b = record {
 }
 
 -- of one slot with the work of its turn
-pub flights_back : (s : Slot) (w : Work) → s.work ≡ Some w → (olds mids news : List Flight) → mids ≡ olds ++ w.on → news ≡ mids ++ w.made.sends → news ≡ olds ++ flights_of (s ∷ [])
-flights_back s w is olds mids news a b =
-    let all : flights_of (s ∷ []) ≡ w.on ++ w.made.sends = ap (λ o. flights_in o ++ []) is ∙ append_nil (w.on ++ w.made.sends) in
-    b ∙ ap (λ xs. xs ++ w.made.sends) a ∙ append_assoc olds w.on w.made.sends ∙ ap (λ xs. olds ++ xs) (sym all)
+pub taken_back : (s : Slot) (w : Work) → s.work ≡ Some w → (old mid new : Parts) (es fs : List Event) → mid.sites.items ≡ old.sites.items ++ s.site ∷ [] → mid.tree ≡ old.tree → mid.trace ≡ old.trace → mid.flights ≡ old.flights → mid.under_way ≡ old.under_way → IsTaken w mid es new fs → AreBack (s ∷ []) old es new fs
+taken_back s w is old mid new es fs sites tree trace flights under t =
+    let outs_are : outs_of (s ∷ []) ≡ w.made.outs = ap (λ o. outs_in o ++ []) is ∙ append_nil w.made.outs in
+    let flights_are : flights_of (s ∷ []) ≡ w.on ++ w.made.sends = ap (λ o. flights_in o ++ []) is ∙ append_nil (w.on ++ w.made.sends) in
+    let events_are : events_of (s ∷ []) ≡ w.made.events = ap (λ o. events_in o ++ []) is ∙ append_nil w.made.events in
+    let few : old.under_way < 2 ^ 32 → new.under_way < 2 ^ 32 = subst (λ (n : ℕ). n < 2 ^ 32 → new.under_way < 2 ^ 32) under t.few in
+    record {
+      worked = ((w, is), tt);
+      sites = t.sites ∙ sites;
+      tree = t.tree ∙ tree;
+      trace = t.trace ∙ ap (λ v. joined v.items ++ w.made.outs) trace ∙ ap (λ xs. joined old.trace.items ++ xs) (sym outs_are);
+      flights = t.flights ∙ ap (λ v. joined v.items ++ (w.on ++ w.made.sends)) flights ∙ ap (λ xs. joined old.flights.items ++ xs) (sym flights_are);
+      count = t.count ∙ ap (λ n. n + length (w.on ++ w.made.sends)) under ∙ ap (λ (xs : List Flight). old.under_way + length xs) (sym flights_are);
+      few = few;
+      events = t.events ∙ ap (λ xs. es ++ xs) (sym events_are);
+    }
 
-pub count_back : (s : Slot) (w : Work) → s.work ≡ Some w → (old mid new : ℕ) → mid ≡ old + length w.on → new ≡ mid + length w.made.sends → new ≡ old + length (flights_of (s ∷ []))
-count_back s w is old mid new a b =
-    let all : flights_of (s ∷ []) ≡ w.on ++ w.made.sends = ap (λ o. flights_in o ++ []) is ∙ append_nil (w.on ++ w.made.sends) in
-    omega (arith, a, b, ap length all, length-append w.on w.made.sends)
+-- both lists of packets that a turn leaves
+pub both_sent : (on sends olds mids news : List Flight) → mids ≡ olds ++ on → news ≡ mids ++ sends → news ≡ olds ++ (on ++ sends)
+both_sent on sends olds mids news a b = b ∙ ap (λ xs. xs ++ sends) a ∙ append_assoc olds on sends
+
+pub both_counted : (on sends : List Flight) (old mid new : ℕ) → mid ≡ old + length on → new ≡ mid + length sends → new ≡ old + length (on ++ sends)
+both_counted on sends old mid new a b = omega (arith, a, b, length-append on sends)

@@ -53,7 +53,7 @@ use Rattle.net_core.specs.inside.Starting.{IsUpTo}
 use Rattle.net_core.proofs.Carrying.{carried_append, all_carry}
 use Rattle.net_core.proofs.Deliveries.{same_net}
 use Rattle.net_core.proofs.Fitting.{fit_bare, fit_full}
-use Rattle.net_core.proofs.Handed.{run_bare, births_bare, new_full}
+use Rattle.net_core.proofs.Handed.{run_bare, births_bare}
 
 -- ---- the first tree
 
@@ -187,11 +187,10 @@ module _ (c : CodeParts) (kept : IsCode c) (n : ℕ) (old : Parts) (upto : IsUpT
   head = subst (λ (sites : List SiteCode). BearNew c n sites before) (drop_next c.sites n site at) upto.new
 
   -- the births are new, with whatever room the tree has
-  pub births_new : (t : Tree) → bare t ≡ bare old.tree → AreNew t n e.births
-  births_new t same =
+  pub births_new : AreNew (bare old.tree) n e.births
+  births_new =
       let here : AreNew (bare old.tree) n (not_in old.tree a.births) = subst (AreNew (bare old.tree) n) (not_in_bare old.tree a.births) head.0 in
-      let there : AreNew (bare t) n e.births = subst (λ (ls : List Loc). AreNew (bare t) n ls) (sym opens.births) (subst (λ (u : Tree). AreNew u n (not_in old.tree a.births)) (sym same) here) in
-      new_full t n e.births there
+      subst (AreNew (bare old.tree) n) (sym opens.births) here
 
   module _ (new : Parts) (t : Tree) (room : bare t ≡ bare old.tree) (fits : IsOpenedFit c (with_births old.tree n e.births) s)
       (sites : new.sites.items ≡ old.sites.items ++ s ∷ []) (tree : new.tree ≡ with_births t n e.births) (trace : joined new.trace.items ≡ joined old.trace.items ++ e.outs)

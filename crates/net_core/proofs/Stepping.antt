@@ -1,5 +1,5 @@
 -- What a network keeps over one choice.
-use Rattle.std.proofs.Common.{◌≡◌, ℕ, ◌+◌, ◌*◌, ◌<◌, ◌≤◌, ◌^◌, List, [], ◌∷◌, Option, Some, None, refl, sym, ap, ◌∙◌, subst, arith, length}
+use Rattle.std.proofs.Common.{◌≡◌, ℕ, ◌+◌, ◌*◌, ◌<◌, ◌≤◌, ◌^◌, List, [], ◌∷◌, Option, Some, None, arith, length}
 use Rattle.chem_model.specs.declared.event.Event.{Event}
 use Rattle.env_store.specs.CodeParts.{CodeParts}
 use Rattle.net_laws.specs.Site.{Site}

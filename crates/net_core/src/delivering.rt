@@ -10,7 +10,9 @@ ghost use Rattle.net_core.specs.Acting.{Delivers};
 ghost use Rattle.net_core.specs.Parts.{joined, message_in, IsMessageFlight, net_of};
 ghost use Rattle.net_core.specs.inside.Pieces.{without, IsPlace};
 ghost use Rattle.net_core.specs.Whole.{AllFit, IsWhole};
-ghost use Rattle.net_core.specs.inside.Delivering.{IsBrought, GoesOn};
+ghost use Rattle.net_core.specs.inside.Alone.{IsReadyForCalls};
+ghost use Rattle.net_core.specs.inside.Delivering.{IsBroughtTo, GoesOn, IsFlightBrought};
+ghost use Rattle.net_core.specs.inside.Delivering.{IsFlightBroughtAt};
 
 use crate::parts::Parts;
 use crate::pieces::{add_piece, member_at, place_of, take_out};
@@ -33,7 +35,7 @@ fn message_of(packet: Packet) -> Msg
 }
 
 // The message that a flight carries.
-pub(crate) fn read_flight(alloc: Global, flight: &Flight) -> Result<Msg, Memory>
+fn read_flight(alloc: Global, flight: &Flight) -> Result<Msg, Memory>
     requires { IsMessageFlight flight.now }
     ensures { IfOk result (λ msg. msg ≡ message_in flight.now.bytes) }
 {
@@ -45,17 +47,13 @@ pub(crate) fn read_flight(alloc: Global, flight: &Flight) -> Result<Msg, Memory>
 }
 
 // Brings a message to a site: it is put there, or the answer is the site to which it goes on.
-fn bring(sites: &mut [Site], tree: &LocTree, target: u32, msg: Msg) -> Result<Option<u32>, Memory>
-    requires target { target < length sites.old }
-    requires can { (s : site_seen) → slice_get sites.old target ≡ Some s
-        → can_deliver tree.now s msg ≡ true }
-    ensures ok { IfOk result (λ on. (s : site_seen) → slice_get sites.old target ≡ Some s
-        → IsBrought tree.now target s msg on sites.old sites.new) }
-    ensures fit { OnOk result ((c : CodeParts) → AllFit c tree.now sites.old
-        → AllFit c tree.now sites.new) }
-    ensures err { OnErr result (sites.new ≡ sites.old) }
+fn bring(site: &mut Site, tree: &LocTree, msg: Msg) -> Result<Option<u32>, Memory>
+    requires { can_deliver tree.now site.old msg ≡ true }
+    ensures ok { IfOk result (λ on. IsBroughtTo tree.now site.old msg on site.new) }
+    ensures fit { OnOk result ((c : CodeParts) → IsReadyForCalls c tree.now site.old
+        → IsReadyForCalls c tree.now site.new) }
+    ensures err { OnErr result (site.new ≡ site.old) }
 {
-    let site = &mut sites[target as usize];
     match deliver(site, tree, msg) {
         Ok(Delivery::Delivered) => Ok(None),
         Ok(Delivery::Forward(target, _)) => Ok(Some(target)),
@@ -64,7 +62,7 @@ fn bring(sites: &mut [Site], tree: &LocTree, target: u32, msg: Msg) -> Result<Op
 }
 
 // The flight with these bytes to the site to which it goes on, if it does.
-pub(crate) fn onward(alloc: Global, flight: &Flight, on: Option<u32>) -> Result<Flights, Memory>
+fn onward(alloc: Global, flight: &Flight, on: Option<u32>) -> Result<Flights, Memory>
     ensures ok { IfOk result (λ more. GoesOn flight.now on more) }
     ensures err { OnErr result (IsSome on) }
 {
@@ -74,6 +72,48 @@ pub(crate) fn onward(alloc: Global, flight: &Flight, on: Option<u32>) -> Result<
         more.push(Flight { target, bytes })?;
     }
     Ok(more)
+}
+
+// Brings a flight to a site: its message is put there, or the answer is the flight that goes on.
+pub(crate) fn bring_flight(
+    alloc: Global,
+    site: &mut Site,
+    tree: &LocTree,
+    flight: &Flight,
+) -> Result<Flights, Memory>
+    requires flight { IsMessageFlight flight.now }
+    requires can { can_deliver tree.now site.old (message_in flight.now.bytes) ≡ true }
+    ensures ok { IfOk result (λ more.
+        IsFlightBrought tree.now site.old flight.now more site.new) }
+    ensures fit { OnOk result ((c : CodeParts) → IsReadyForCalls c tree.now site.old
+        → IsReadyForCalls c tree.now site.new) }
+    ensures err { OnErr result (site.new ≡ site.old) }
+{
+    let msg = read_flight(alloc, flight)?;
+    let on = bring(site, tree, msg)?;
+    onward(alloc, flight, on)
+}
+
+// Brings a flight to that of the sites which is its target.
+fn bring_to_target(
+    alloc: Global,
+    sites: &mut [Site],
+    tree: &LocTree,
+    flight: &Flight,
+) -> Result<Flights, Memory>
+    requires flight { IsMessageFlight flight.now }
+    requires target { flight.now.target < length sites.old }
+    requires can { (s : site_seen) → slice_get sites.old flight.now.target ≡ Some s
+        → can_deliver tree.now s (message_in flight.now.bytes) ≡ true }
+    ensures ok { IfOk result (λ more. (s : site_seen)
+        → slice_get sites.old flight.now.target ≡ Some s
+        → IsFlightBroughtAt tree.now s flight.now more sites.old sites.new) }
+    ensures fit { OnOk result ((c : CodeParts) → AllFit c tree.now sites.old
+        → AllFit c tree.now sites.new) }
+    ensures err { OnErr result (sites.new ≡ sites.old) }
+{
+    let site = &mut sites[flight.target as usize];
+    bring_flight(alloc, site, tree, flight)
 }
 
 // Takes a flight out, and adds others behind all.
@@ -102,9 +142,7 @@ pub(crate) fn deliver_flight(alloc: Global, parts: &mut Parts, flight: u32) -> R
     parts.flights.reserve(1)?;
     let (piece, index) = place_of(parts.flights.as_slice(), flight as usize);
     let found = member_at(parts.flights.as_slice(), piece, index);
-    let msg = read_flight(alloc, found)?;
-    let on = bring(&mut parts.sites, &parts.tree, found.target, msg)?;
-    let more = onward(alloc, found, on)?;
+    let more = bring_to_target(alloc, &mut parts.sites, &parts.tree, found)?;
     let count = more.len() as u32;
     replace(&mut parts.flights, piece, index, more);
     parts.under_way = parts.under_way - 1 + count;

@@ -3,9 +3,11 @@ ghost use Rattle.std.specs.Prelude.{◌≡◌, ◌+◌, ◌<◌, length, IfOk, O
 ghost use Rattle.chem_model.specs.Opening.{opening};
 ghost use Rattle.env_store.specs.Reading.{IsCodeOf};
 ghost use Rattle.env_store.specs.Laws.{rules_of_group};
+ghost use Rattle.loc_tree.specs.Tree.{bare};
 ghost use Rattle.net_laws.specs.Net.{Stands};
-ghost use Rattle.net_laws.specs.Opened.{opened_net};
+ghost use Rattle.net_laws.specs.Opened.{opened_net, AreNew};
 ghost use Rattle.reducer.specs.Opens.{IsOfProgram};
+ghost use Rattle.net_core.specs.inside.Handing.{HandsOut};
 ghost use Rattle.net_core.specs.inside.Starting.{IsUpTo};
 
 use crate::handing::{add_births, add_flights, make_room};
@@ -15,7 +17,31 @@ use crate::pieces::add_piece;
 use chem_model::{Memory, Program};
 use env_store::Code;
 use reducer::{first_tree, opening};
+use site_solution::Effects;
 use std::alloc::Global;
+
+// Hands out what the opening of the site with this number leaves: its births, its observables and
+// its packets.
+fn hand_out(alloc: Global, parts: &mut Parts, effects: Effects, number: u32) -> Result<(), Memory>
+    requires new { AreNew (bare parts.old.tree) number effects.births }
+    requires site { number < parts.old.tree.roots }
+    ensures { OnOk result (HandsOut number effects parts.old parts.new) }
+{
+    let births = effects.births.len() as u32;
+    let sends = effects.sends.len() as u32;
+    match make_room(alloc, parts, births, sends) {
+        Ok(()) => {
+            add_births(&mut parts.tree, effects.births.as_slice(), number);
+            add_piece(&mut parts.trace, effects.outs);
+            add_flights(&mut parts.flights, &mut parts.under_way, effects.sends);
+            Ok(())
+        }
+        Err(memory) => {
+            drop(effects);
+            Err(memory)
+        }
+    }
+}
 
 // Opens the site with this number, where those before it are opened.
 fn open_site(alloc: Global, parts: &mut Parts, code: &Code, number: u32) -> Result<(), Memory>
@@ -26,13 +52,27 @@ fn open_site(alloc: Global, parts: &mut Parts, code: &Code, number: u32) -> Resu
 {
     let _tops = &code.tops;
     let (site, effects) = opening(alloc, code, &parts.tree, number)?;
-    let births = effects.births.len() as u32;
-    let sends = effects.sends.len() as u32;
-    make_room(alloc, parts, births, sends)?;
-    add_births(&mut parts.tree, effects.births.as_slice(), number);
-    add_piece(&mut parts.trace, effects.outs);
-    add_flights(&mut parts.flights, &mut parts.under_way, effects.sends);
-    parts.sites.push(site)?;
+    match hand_out(alloc, parts, effects, number) {
+        Ok(()) => {
+            parts.sites.push(site)?;
+            Ok(())
+        }
+        Err(memory) => {
+            drop(site);
+            Err(memory)
+        }
+    }
+}
+
+// Opens each site, in order.
+fn open_each(alloc: Global, parts: &mut Parts, code: &Code) -> Result<(), Memory>
+    requires program { IsOfProgram code.now }
+    requires none { IsUpTo code.now 0 parts.old }
+    ensures { OnOk result (IsUpTo code.now (length code.now.sites) parts.new) }
+{
+    for number in 0..code.sites.len() as u32 {
+        open_site(alloc, parts, code, number)?;
+    }
     Ok(())
 }
 
@@ -41,6 +81,7 @@ fn open_all(alloc: Global, code: &Code) -> Result<Parts, Memory>
     requires { IsOfProgram code.now }
     ensures { IfOk result (λ parts. IsUpTo code.now (length code.now.sites) parts) }
 {
+    let _known = &code.tops;
     let tree = first_tree(alloc, code)?;
     let mut parts = Parts {
         sites: Vec::new(alloc),
@@ -49,10 +90,13 @@ fn open_all(alloc: Global, code: &Code) -> Result<Parts, Memory>
         flights: Vec::new(alloc),
         under_way: 0,
     };
-    for number in 0..code.sites.len() as u32 {
-        open_site(alloc, &mut parts, code, number)?;
+    match open_each(alloc, &mut parts, code) {
+        Ok(()) => Ok(parts),
+        Err(memory) => {
+            drop(parts);
+            Err(memory)
+        }
     }
-    Ok(parts)
 }
 
 impl Net {
@@ -69,11 +113,16 @@ impl Net {
         let _tops = &program.tops;
         let _known = &code.tops;
         let parts = open_all(alloc, code)?;
-        let code = code.copy(alloc)?;
-        Ok(Net {
-            code,
-            parts,
-            events: 0,
-        })
+        match code.copy(alloc) {
+            Ok(code) => Ok(Net {
+                code,
+                parts,
+                events: 0,
+            }),
+            Err(memory) => {
+                drop(parts);
+                Err(memory)
+            }
+        }
     }
 }

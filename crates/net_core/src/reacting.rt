@@ -1,7 +1,8 @@
 // Reactions at one of the sites.
 ghost use Rattle.std.specs.Prelude.{◌≡◌, Some, slice_get, IfOk, OnErr};
 ghost use Rattle.net_laws.specs.Site.{Site as site_seen};
-ghost use Rattle.reducer.specs.Picks.{Picked, Picks};
+ghost use Rattle.reducer.specs.Picks.{Picked, Picks, MayFire};
+ghost use Rattle.net_core.specs.inside.Alone.{IsReadyForCalls, ReactsBy};
 ghost use Rattle.net_core.specs.inside.AtSites.{MayReactAt, ReactsAt};
 ghost use Rattle.net_core.specs.Whole.{AllFit};
 
@@ -12,8 +13,26 @@ use reducer::{Pick, event_of, react};
 use site_solution::{Effects, Site};
 use std::alloc::Global;
 
-// Makes the reaction of a pick at the site with this number. The births have to be added to the
-// tree.
+// Makes the reaction of a pick. The births have to be added to the tree.
+pub(crate) fn react_by(
+    alloc: Global,
+    site: &mut Site,
+    code: &Code,
+    tree: &LocTree,
+    pick: &Pick,
+) -> Result<(Event, Effects), Memory>
+    requires fires { MayFire code.now tree.now site.old pick.now }
+    requires fit { IsReadyForCalls code.now tree.now site.old }
+    ensures ok { IfOk result (λ done.
+        ReactsBy code.now tree.now site.old pick.now done.0 done.1 site.new) }
+    ensures err { OnErr result (site.new ≡ site.old) }
+{
+    let event = event_of(alloc, site, code, pick)?;
+    let effects = react(alloc, site, code, tree, pick)?;
+    Ok((event, effects))
+}
+
+// Makes the reaction of a pick at the site with this number.
 pub(crate) fn react_at(
     alloc: Global,
     sites: &mut [Site],
@@ -30,7 +49,5 @@ pub(crate) fn react_at(
     ensures err { OnErr result (sites.new ≡ sites.old) }
 {
     let site = &mut sites[number];
-    let event = event_of(alloc, site, code, pick)?;
-    let effects = react(alloc, site, code, tree, pick)?;
-    Ok((event, effects))
+    react_by(alloc, site, code, tree, pick)
 }

@@ -10,52 +10,48 @@ use crate::slots::{join_all, lend, slots_of, take_all_back};
 use chem_model::{Items, Journal, Memory};
 use env_store::Code;
 use std::alloc::Global;
+use std::mem;
 use std::thread::Threads;
 
-// Lends each site to one of the workers, and takes all back.
+// Lends each site to one of the workers, and takes all back. Where there is no memory, the parts
+// are not whole any more.
 fn round_of<R: Threads + Sync>(
     rt: &R,
     alloc: Global,
-    parts: Parts,
+    parts: &mut Parts,
     code: &Code,
     workers: u32,
     quota: u32,
-) -> Result<(Parts, Journal), Memory>
+) -> Result<Journal, Memory>
     requires workers { 1 ≤ workers }
-    requires few { (events : ℕ) × (events + quota * length parts.sites.items < 2 ^ 32 - 1)
-        × IsWhole code.now parts events }
-    ensures { IfOk result (λ r. HasRound code.now quota parts r.0 r.1) }
+    requires few { (events : ℕ) × (events + quota * length parts.old.sites.items < 2 ^ 32 - 1)
+        × IsWhole code.now parts.old events }
+    ensures { IfOk result (λ journal. HasRound code.now quota parts.old parts.new journal) }
 {
-    let Parts {
-        sites,
-        tree,
-        trace,
-        flights,
-        under_way,
-    } = parts;
-    let _ = under_way;
+    let flights = mem::replace(&mut parts.flights, Vec::new(alloc));
     let mail = join_all(alloc, flights)?;
+    let sites = mem::replace(&mut parts.sites, Vec::new(alloc));
     let mut slots = slots_of(alloc, sites)?;
     lend(
         rt,
         alloc,
         code,
-        &tree,
+        &parts.tree,
         mail.as_slice(),
         quota,
         workers,
         slots.as_mut_slice(),
     );
-    let mut after = Parts {
-        sites: Vec::new(alloc),
-        tree,
-        trace,
-        flights: Vec::new(alloc),
-        under_way: 0,
-    };
+    drop(mail);
+    parts.under_way = 0;
     let mut journal = Items::new(alloc);
-    take_all_back(&mut after, &mut journal, slots)?;
-    Ok((after, journal))
+    match take_all_back(parts, &mut journal, slots) {
+        Ok(()) => Ok(journal),
+        Err(memory) => {
+            drop(journal);
+            Err(memory)
+        }
+    }
 }
 
 impl Net {
@@ -80,16 +76,24 @@ impl Net {
     {
         let Net {
             code,
-            parts,
+            mut parts,
             events,
         } = self;
-        let (parts, journal) = round_of(rt, alloc, parts, &code, workers, quota)?;
-        let events = events + journal.len() as u32;
-        let net = Net {
-            code,
-            parts,
-            events,
-        };
-        Ok((net, journal))
+        match round_of(rt, alloc, &mut parts, &code, workers, quota) {
+            Ok(journal) => {
+                let events = events + journal.len() as u32;
+                let net = Net {
+                    code,
+                    parts,
+                    events,
+                };
+                Ok((net, journal))
+            }
+            Err(memory) => {
+                drop(parts);
+                drop(code);
+                Err(memory)
+            }
+        }
     }
 }

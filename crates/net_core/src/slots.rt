@@ -2,7 +2,8 @@
 ghost use Rattle.std.specs.Prelude.{◌≡◌, ◌+◌, ◌<◌, ◌≤◌, ◌^◌, ◌∷◌, [], ◌++◌};
 ghost use Rattle.std.specs.Prelude.{All, map, length, IfOk, OnOk};
 ghost use Rattle.net_core.specs.Parts.{joined};
-ghost use Rattle.net_core.specs.inside.Slots.{CanWork, IsServed, Pairwise, slot_of, AreBack};
+ghost use Rattle.net_core.specs.inside.Slots.{CanWork, IsServed, Pairwise, slot_of};
+ghost use Rattle.net_core.specs.inside.Slots.{IsTaken, AreBack};
 
 use crate::handing::add_flights;
 use crate::parts::Parts;
@@ -91,26 +92,33 @@ fn send(flights: &mut Vec<Flights>, under_way: &mut u32, more: Flights) -> Resul
     Ok(())
 }
 
-// Takes a site back, with what its turn leaves.
-fn take_back(parts: &mut Parts, journal: &mut Journal, slot: Slot) -> Result<(), Memory>
-    ensures { OnOk result (AreBack (slot ∷ []) parts.old journal.old parts.new journal.new) }
+// Takes back what the turn of a site leaves.
+fn take_work(parts: &mut Parts, journal: &mut Journal, work: Work) -> Result<(), Memory>
+    ensures { OnOk result (IsTaken work parts.old journal.old parts.new journal.new) }
 {
-    let Slot { site, work } = slot;
-    let Some(Work { on, made }) = work else {
-        return Err(Memory);
-    };
+    let Work { on, made } = work;
     let Made {
         sends,
         outs,
         mut events,
     } = made;
     journal.append(&mut events)?;
-    parts.sites.push(site)?;
     parts.trace.reserve(1)?;
     add_piece(&mut parts.trace, outs);
     send(&mut parts.flights, &mut parts.under_way, on)?;
-    send(&mut parts.flights, &mut parts.under_way, sends)?;
-    Ok(())
+    send(&mut parts.flights, &mut parts.under_way, sends)
+}
+
+// Takes a site back, with what its turn leaves.
+fn take_back(parts: &mut Parts, journal: &mut Journal, slot: Slot) -> Result<(), Memory>
+    ensures { OnOk result (AreBack (slot ∷ []) parts.old journal.old parts.new journal.new) }
+{
+    let Slot { site, work } = slot;
+    parts.sites.push(site)?;
+    match work {
+        Some(work) => take_work(parts, journal, work),
+        None => Err(Memory),
+    }
 }
 
 // Takes all sites back, in order.

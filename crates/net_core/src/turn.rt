@@ -7,23 +7,24 @@ ghost use Rattle.site_solution.specs.InTree.{is_in_tree};
 ghost use Rattle.site_solution.specs.InCode.{is_in_code};
 ghost use Rattle.reducer.specs.Picks.{MayFire};
 ghost use Rattle.router.specs.Delivering.{can_deliver};
-ghost use Rattle.net_core.specs.inside.Alone.{IsAlone, IsReadyForCalls, IsBroughtTo, Arrives};
+ghost use Rattle.net_core.specs.inside.Alone.{IsAlone, IsReadyForCalls, Arrives};
 ghost use Rattle.net_core.specs.inside.Alone.{HasArrived};
-ghost use Rattle.net_core.specs.inside.Alone.{IsNextHere, NoneIsNext, ReactsBy, IsNoted};
+ghost use Rattle.net_core.specs.inside.Alone.{IsNextHere, NoneIsNext, IsNoted};
+ghost use Rattle.net_core.specs.inside.Alone.{ReactsAndNotes};
 ghost use Rattle.net_core.specs.inside.Alone.{HasReacted};
 ghost use Rattle.net_core.specs.inside.Alone.{IsWorked};
 ghost use Rattle.net_core.specs.Lending.{mail_to};
 ghost use Rattle.net_core.specs.Parts.{message_in, all_carried, IsMessageFlight};
 
-use crate::delivering::{onward, read_flight};
+use crate::delivering::bring_flight;
+use crate::reacting::react_by;
 use chem_model::{Event, Items, Journal, Memory, Outs};
 use env_store::Code;
 use loc_tree::LocTree;
-use reducer::{Pick, births, event_of, react, ready};
-use router::{Delivery, deliver};
+use reducer::{Pick, births, ready};
 use site_solution::{Effects, Site};
 use std::alloc::Global;
-use wire_packet::{Flight, Flights, Msg};
+use wire_packet::{Flight, Flights};
 
 // What reactions leave: the packets that the site sends, its observables and its events, in order.
 #[derive(Drop)]
@@ -42,20 +43,6 @@ pub(crate) struct Work {
 
 // ---- mail
 
-// Brings a message to a site: it is put there, or the answer is the site to which it goes on.
-fn bring_to(site: &mut Site, tree: &LocTree, msg: Msg) -> Result<Option<u32>, Memory>
-    requires { can_deliver tree.now site.old msg ≡ true }
-    ensures ok { IfOk result (λ on. IsBroughtTo tree.now site.old msg on site.new) }
-    ensures fit { OnOk result ((c : CodeParts) → IsReadyForCalls c tree.now site.old
-        → IsReadyForCalls c tree.now site.new) }
-{
-    match deliver(site, tree, msg) {
-        Ok(Delivery::Delivered) => Ok(None),
-        Ok(Delivery::Forward(target, _)) => Ok(Some(target)),
-        Err(back) => Err(back.1),
-    }
-}
-
 // Brings a flight to a site: its message is put there, or it goes behind those that go on.
 fn arrive(
     alloc: Global,
@@ -70,11 +57,8 @@ fn arrive(
     ensures fit { OnOk result ((c : CodeParts) → IsReadyForCalls c tree.now site.old
         → IsReadyForCalls c tree.now site.new) }
 {
-    let msg = read_flight(alloc, flight)?;
-    let target = bring_to(site, tree, msg)?;
-    let mut more = onward(alloc, flight, target)?;
-    on.append(&mut more)?;
-    Ok(())
+    let mut more = bring_flight(alloc, site, tree, flight)?;
+    on.append(&mut more)
 }
 
 // Works the mail of a site off: those of the flights that go to it, in order.
@@ -122,33 +106,31 @@ fn next_pick(site: &Site, code: &Code, tree: &LocTree) -> Option<Pick>
     Some(pick)
 }
 
-// Makes the reaction of a pick.
+// An event and its effects go behind what was made so far.
+fn note(made: &mut Made, event: Event, effects: &mut Effects) -> Result<(), Memory>
+    ensures { OnOk result (IsNoted event effects.old made.old made.new) }
+{
+    made.events.push(event)?;
+    made.outs.append(&mut effects.outs)?;
+    made.sends.append(&mut effects.sends)
+}
+
+// Makes the reaction of a pick: what it leaves goes behind what was made so far.
 fn react_once(
     alloc: Global,
     site: &mut Site,
     code: &Code,
     tree: &LocTree,
     pick: &Pick,
-) -> Result<(Event, Effects), Memory>
+    made: &mut Made,
+) -> Result<(), Memory>
     requires fires { MayFire code.now tree.now site.old pick.now }
     requires fit { IsReadyForCalls code.now tree.now site.old }
-    ensures { IfOk result (λ done.
-        ReactsBy code.now tree.now site.old pick.now done.0 done.1 site.new) }
+    ensures { OnOk result (ReactsAndNotes code.now tree.now site.old pick.now made.old site.new
+        made.new) }
 {
-    let event = event_of(alloc, site, code, pick)?;
-    let effects = react(alloc, site, code, tree, pick)?;
-    Ok((event, effects))
-}
-
-// An event and its effects go behind what was made so far.
-fn note(made: &mut Made, event: Event, effects: Effects) -> Result<(), Memory>
-    ensures { OnOk result (IsNoted event effects made.old made.new) }
-{
-    let mut effects = effects;
-    made.events.push(event)?;
-    made.outs.append(&mut effects.outs)?;
-    made.sends.append(&mut effects.sends)?;
-    Ok(())
+    let (event, mut effects) = react_by(alloc, site, code, tree, pick)?;
+    note(made, event, &mut effects)
 }
 
 // Reacts with what is ready, until the quota is used up, none is ready, or the one that is opens a
@@ -174,8 +156,7 @@ fn react_up_to(
         let Some(pick) = next_pick(site, code, tree) else {
             return Ok(made);
         };
-        let (event, effects) = react_once(alloc, site, code, tree, &pick)?;
-        note(&mut made, event, effects)?;
+        react_once(alloc, site, code, tree, &pick, &mut made)?;
     }
     Ok(made)
 }

@@ -1,16 +1,14 @@
 -- A site that works while its network is elsewhere: it does what it would do in the network, where
 -- all the others wait.
-use Rattle.std.specs.Prelude.{◌≡◌, ℕ, ◌+◌, ◌<◌, ◌^◌, List, [], ◌∷◌, ◌++◌, length, true, false, Some}
-use Rattle.std.specs.Prelude.{None, Option, slice_get}
+use Rattle.std.specs.Prelude.{◌≡◌, ℕ, ◌+◌, ◌<◌, ◌^◌, List, [], ◌∷◌, ◌++◌, length, true, Some}
+use Rattle.std.specs.Prelude.{Option, slice_get}
 use Rattle.chem_model.specs.declared.event.Event.{Event}
 use Rattle.chem_model.specs.Each.{Each}
-use Rattle.wire_packet.specs.MessageFacts.{MessageParts}
 use Rattle.wire_packet.specs.declared.packet.Flight.{Flight}
 use Rattle.env_store.specs.CodeParts.{CodeParts}
 use Rattle.loc_tree.specs.Tree.{Tree, bare}
 use Rattle.net_laws.specs.Site.{Site}
-use Rattle.net_laws.specs.Net.{Addressed, Net, among, address}
-use Rattle.net_laws.specs.Holding.{put}
+use Rattle.net_laws.specs.Net.{Addressed, Net}
 use Rattle.net_laws.specs.Rounds.{WorksOff}
 use Rattle.site_solution.specs.InTree.{is_in_tree}
 use Rattle.site_solution.specs.InCode.{is_in_code}
@@ -21,10 +19,9 @@ use Rattle.reducer.specs.Picks.{Picked, Picks}
 use Rattle.reducer.specs.Fronts.{event_of}
 use Rattle.reducer.specs.Ready.{IsReady}
 use Rattle.reducer.specs.Reacted.{Reacts, StaysFit}
-use Rattle.router.specs.Delivering.{home_at}
 use Rattle.net_core.specs.declared.turn.Made.{Made}
 use Rattle.net_core.specs.declared.turn.Work.{Work}
-use Rattle.net_core.specs.inside.Delivering.{GoesOn}
+use Rattle.net_core.specs.inside.Delivering.{GoesOn, IsBroughtTo}
 use Rattle.net_core.specs.Lending.{mail_to, WorksAlone}
 use Rattle.net_core.specs.Parts.{message_in, all_carried, IsMessageFlight}
 use Rattle.net_core.specs.Scheduling.{births_of}
@@ -48,12 +45,6 @@ pub record IsReadyForCalls (c : CodeParts) (t : Tree) (s : Site) : Type 0 where
   pub draws : CanDraw t s
 
 -- ---- its mail
-
--- a message is put at its home, or the answer is the site to which it goes on
-abbrev pub IsBroughtTo : Tree → Site → MessageParts → Option ℕ → Site → Type 0
-IsBroughtTo t s m None new = (among s.locs (home_at s m) ≡ true) × (new ≡ put (home_at s m) m s)
-IsBroughtTo t s m (Some target) new =
-    (among s.locs (home_at s m) ≡ false) × (target ≡ address t (home_at s m)) × (new ≡ s)
 
 -- a flight came to the site: its message is put there, or it goes behind those that go on
 pub record Arrives (t : Tree) (s : Site) (f : Flight) (old : List Flight) (new : Site)
@@ -96,6 +87,14 @@ pub record IsNoted (e : Event) (effects : Effects) (old new : Made) : Type 0 whe
   pub events : new.events ≡ old.events ++ e ∷ []
   pub outs : new.outs ≡ old.outs ++ effects.outs
   pub sends : new.sends ≡ old.sends ++ effects.sends
+
+-- the reaction of a pick was made, and what it leaves is noted
+pub record ReactsAndNotes (c : CodeParts) (t : Tree) (s : Site) (q : Pick) (old : Made)
+    (new : Site) (made : Made) : Type 0 where
+  pub event : Event
+  pub effects : Effects
+  pub reacts : ReactsBy c t s q event effects new
+  pub noted : IsNoted event effects old made
 
 -- reactions up to a quota
 pub record HasReacted (c : CodeParts) (t : Tree) (i quota : ℕ) (s : Site) (m : Made) (new : Site)

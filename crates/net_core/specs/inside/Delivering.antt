@@ -7,6 +7,13 @@ use Rattle.net_laws.specs.Site.{Site}
 use Rattle.net_laws.specs.Net.{among, address}
 use Rattle.net_laws.specs.Holding.{put}
 use Rattle.router.specs.Delivering.{home_at}
+use Rattle.net_core.specs.Parts.{message_in}
+
+-- a message was put at its home at the site, or it goes on from there to another site
+abbrev pub IsBroughtTo : Tree → Site → MessageParts → Option ℕ → Site → Type 0
+IsBroughtTo t s m None new = (among s.locs (home_at s m) ≡ true) × (new ≡ put (home_at s m) m s)
+IsBroughtTo t s m (Some target) new =
+    (among s.locs (home_at s m) ≡ false) × (target ≡ address t (home_at s m)) × (new ≡ s)
 
 -- the message was put at the site with this number, or it goes on from there to another
 abbrev pub IsBrought : Tree → ℕ → Site → MessageParts → Option ℕ → List Site → List Site → Type 0
@@ -19,3 +26,17 @@ IsBrought t i s m (Some target) old new =
 abbrev pub GoesOn : Flight → Option ℕ → List Flight → Type 0
 GoesOn f None more = more ≡ []
 GoesOn f (Some target) more = more ≡ record { target = target; bytes = f.bytes } ∷ []
+
+-- the message of a flight was put at the site, or it goes on from there
+pub record IsFlightBrought (t : Tree) (s : Site) (f : Flight) (more : List Flight) (new : Site)
+    : Type 0 where
+  pub on : Option ℕ
+  pub brought : IsBroughtTo t s (message_in f.bytes) on new
+  pub goes : GoesOn f on more
+
+-- the message of a flight was put at its target, or it goes on from there
+pub record IsFlightBroughtAt (t : Tree) (s : Site) (f : Flight) (more : List Flight)
+    (old new : List Site) : Type 0 where
+  pub on : Option ℕ
+  pub brought : IsBrought t f.target s (message_in f.bytes) on old new
+  pub goes : GoesOn f on more

@@ -83,6 +83,17 @@ flights_of (s ∷ ss) = flights_in s.work ++ flights_of ss
 
 -- ---- taking back
 
+-- what the work of a turn left is behind what the parts and the journal had
+pub record IsTaken (w : Work) (old : Parts) (before : List Event) (new : Parts)
+    (after : List Event) : Type 0 where
+  pub sites : new.sites.items ≡ old.sites.items
+  pub tree : new.tree ≡ old.tree
+  pub trace : joined new.trace.items ≡ joined old.trace.items ++ w.made.outs
+  pub flights : joined new.flights.items ≡ joined old.flights.items ++ (w.on ++ w.made.sends)
+  pub count : new.under_way ≡ old.under_way + length (w.on ++ w.made.sends)
+  pub few : old.under_way < 2 ^ 32 → new.under_way < 2 ^ 32
+  pub events : after ≡ before ++ w.made.events
+
 -- what the slots hold is behind what the parts and the journal had
 pub record AreBack (slots : List Slot) (old : Parts) (before : List Event) (new : Parts)
     (after : List Event) : Type 0 where

@@ -1,8 +1,9 @@
-use Rattle.std.proofs.Common.{◌≡◌, ◌+◌, ◌<◌, ◌^◌, ℕ, List, refl, sym, ap, subst, arith}
+use Rattle.std.proofs.Common.{◌≡◌, ◌+◌, ℕ, sym, subst, arith}
 use Rattle.net_core.specs.declared.choice.Choice.{Choice}
 use Rattle.net_core.specs.Choosing.{Allows}
 use Rattle.net_core.specs.Parts.{net_of}
 use Rattle.net_core.specs.Whole.{IsWhole}
+use Rattle.net_core.proofs.Deliveries.{as_before_net, as_before_whole}
 use Rattle.net_core.proofs.Done.{may_react, may_deliver, reacted_acts, delivered_acts}
 use Rattle.net_core.proofs.Fitting.{on_err}
 use Rattle.net_core.proofs.acting.make.Goals as goal
@@ -29,3 +30,15 @@ returns-in_ok-deliver_flight-in-Deliver-clause-acts c = delivered_acts c.args.co
 
 pub returns-in_ok-deliver_flight-in-Deliver-clause-whole : goal.returns-in_ok-deliver_flight-in-Deliver-clause-whole
 returns-in_ok-deliver_flight-in-Deliver-clause-whole c = λ events few whole. let e : events + 0 ≡ events = omega arith in subst (IsWhole c.args.code.now c.deliver_flight.new.parts) (sym e) (c.deliver_flight.ensures.whole c.args.code.now events whole)
+
+pub returns-in_err-event-in-React-clause-err : goal.returns-in_err-event-in-React-clause-err
+returns-in_err-event-in-React-clause-err c = on_err ((events : ℕ) → IsWhole c.args.code.now c.args.parts.now events → IsWhole c.args.code.now c.react_pick.new.parts events) c.from_residual.result (λ events whole. as_before_whole c.args.code.now c.args.parts.now c.react_pick.new.parts events c.in_err-event-in-React.ensures.err whole)
+
+pub returns-in_err-event-in-React-clause-same : goal.returns-in_err-event-in-React-clause-same
+returns-in_err-event-in-React-clause-same c = on_err (net_of c.args.code.now.seen c.react_pick.new.parts ≡ net_of c.args.code.now.seen c.args.parts.now) c.from_residual.result (as_before_net c.args.code.now.seen c.args.parts.now c.react_pick.new.parts c.in_err-event-in-React.ensures.err)
+
+pub returns-in_err-event-in-Move-clause-err : goal.returns-in_err-event-in-Move-clause-err
+returns-in_err-event-in-Move-clause-err c = on_err ((events : ℕ) → IsWhole c.args.code.now c.args.parts.now events → IsWhole c.args.code.now c.meet.new.parts events) c.from_residual-in_err-event-in-Move.result (λ events whole. as_before_whole c.args.code.now c.args.parts.now c.meet.new.parts events c.in_err-event-in-Move.ensures.err whole)
+
+pub returns-in_err-event-in-Move-clause-same : goal.returns-in_err-event-in-Move-clause-same
+returns-in_err-event-in-Move-clause-same c = on_err (net_of c.args.code.now.seen c.meet.new.parts ≡ net_of c.args.code.now.seen c.args.parts.now) c.from_residual-in_err-event-in-Move.result (as_before_net c.args.code.now.seen c.args.parts.now c.meet.new.parts c.in_err-event-in-Move.ensures.err)

@@ -1,9 +1,9 @@
-use Rattle.std.proofs.Common.{◌≡◌, ◌+◌, ◌<◌, ◌^◌, ℕ, List, refl, sym, ap, subst}
+use Rattle.std.proofs.Common.{◌≡◌, ◌+◌, ◌<◌, ◌^◌, ℕ, List, sym, ap, subst}
 use Rattle.net_core.specs.Acting.{Detects}
 use Rattle.net_core.specs.Parts.{net_of}
 use Rattle.net_core.specs.Whole.{IsWhole}
 use Rattle.env_store.specs.CodeParts.{CodeParts}
-use Rattle.net_core.proofs.Doing.{on_ok}
+use Rattle.net_core.proofs.Fitting.{on_ok}
 use Rattle.net_core.proofs.Done.{moved_acts, detected_acts, halted_acts}
 use Rattle.net_core.proofs.acting.meet.Goals as goal
 

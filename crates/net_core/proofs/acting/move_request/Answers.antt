@@ -6,7 +6,8 @@ use Rattle.chem_model.specs.declared.name.Loc.{Loc}
 use Rattle.net_laws.specs.Site.{Site}
 use Rattle.net_core.specs.inside.AtSites.{HasGoal, MayGoAt, MayCrossAt}
 use Rattle.net_core.specs.Parts.{net_of}
-use Rattle.net_core.proofs.Doing.{has_goal, goes_here, goes_over, on_ok}
+use Rattle.net_core.proofs.Doing.{has_goal, goes_here, goes_over}
+use Rattle.net_core.proofs.Fitting.{on_ok}
 use Rattle.net_core.proofs.acting.move_request.Goals as goal
 
 pub goal_at-goal-requires : goal.goal_at-goal-requires

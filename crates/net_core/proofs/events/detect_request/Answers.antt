@@ -1,10 +1,8 @@
-use Rattle.std.proofs.Common.{◌≡◌, ◌<◌, ◌≤◌, ◌+◌, ◌++◌, ◌∙◌, ◌^◌, ℕ, List, Some, length, slice_get, sym, ap, subst, refl, true, arith}
-use Rattle.std.specs.Prelude.{is_some, slice_set}
+use Rattle.std.proofs.Common.{◌≡◌, ◌<◌, ◌≤◌, ◌+◌, ◌∙◌, ◌^◌, ℕ, List, Some, length, slice_get, sym, ap, subst, refl, true, arith}
+use Rattle.std.specs.Prelude.{is_some}
 use Rattle.std.specs.Vec.{with_items}
 use Rattle.std.proofs.lemmas.List.{with_items_is}
-use Rattle.chem_model.specs.declared.event.Out.{Out}
 use Rattle.chem_model.specs.declared.event.Event.TheVariants as event
-use Rattle.env_store.specs.CodeParts.{CodeParts}
 use Rattle.loc_tree.specs.Tree.{Tree}
 use Rattle.net_laws.specs.Site.{Site}
 use Rattle.net_laws.specs.Net.{Net}
@@ -14,9 +12,9 @@ use Rattle.failure.specs.Deaths.{dead_for}
 use Rattle.net_core.specs.declared.parts.Parts.{Parts}
 use Rattle.net_core.specs.Acting.{Detects}
 use Rattle.net_core.specs.inside.AtSites.{AllStayFit, DetectsAt}
-use Rattle.net_core.specs.Parts.{joined, net_of, IsMessageFlight}
+use Rattle.net_core.specs.Parts.{net_of}
 use Rattle.net_core.specs.Playing.{detect}
-use Rattle.net_core.specs.Whole.{AllFit, IsWhole}
+use Rattle.net_core.specs.Whole.{AllFit}
 use Rattle.net_core.proofs.Carrying.{all_carry}
 use Rattle.net_core.proofs.Deliveries.{as_before_net, as_before_whole, set_length}
 use Rattle.net_core.proofs.Fitting.{fit_full}

@@ -1,4 +1,4 @@
-use Rattle.std.proofs.Common.{◌≡◌, ◌<◌, ◌≤◌, ◌+◌, ◌++◌, ◌∙◌, ◌^◌, ℕ, List, [], Some, length, slice_get, sym, ap, subst, refl, true, arith}
+use Rattle.std.proofs.Common.{◌≡◌, ◌∙◌, List, [], Some, length, slice_get, sym, ap, subst, refl, arith}
 use Rattle.std.specs.Vec.{with_items}
 use Rattle.std.proofs.lemmas.List.{with_items_is}
 use Rattle.chem_laws.proofs.Lists.{append_nil}

@@ -1,27 +1,24 @@
-use Rattle.std.proofs.Common.{◌≡◌, ◌<◌, ◌≤◌, ◌+◌, ◌++◌, ◌∙◌, ◌^◌, ℕ, List, [], Some, length, slice_get, sym, ap, subst, refl, true, arith}
+use Rattle.std.proofs.Common.{◌≡◌, ◌<◌, ◌≤◌, ◌+◌, ◌∙◌, ◌^◌, ℕ, List, Some, length, slice_get, sym, ap, subst, true, arith}
 use Rattle.std.specs.Vec.{with_items}
 use Rattle.std.proofs.lemmas.List.{with_items_is}
 use Rattle.chem_model.specs.declared.event.Event.TheVariants as event
-use Rattle.env_store.specs.CodeParts.{CodeParts}
 use Rattle.loc_tree.specs.Tree.{Tree}
 use Rattle.net_laws.specs.Site.{Site}
 use Rattle.net_laws.specs.Net.{Net}
 use Rattle.net_laws.specs.Holding.{drop_request}
-use Rattle.net_laws.specs.Parcels.{pack, take_in}
 use Rattle.net_laws.specs.Meeting.{continuation_made, sent_here}
 use Rattle.migration.specs.Moves.{can_go}
 use Rattle.net_core.specs.declared.parts.Parts.{Parts}
 use Rattle.net_core.specs.Acting.{Moves}
-use Rattle.net_core.specs.inside.AtSites.{AllStayFit, MovesAt, CrossesAt}
-use Rattle.net_core.specs.Parts.{joined, net_of}
+use Rattle.net_core.specs.inside.AtSites.{AllStayFit, MovesAt}
+use Rattle.net_core.specs.Parts.{net_of}
 use Rattle.net_core.specs.Playing.{move}
 use Rattle.net_core.specs.Whole.{AllFit}
 use Rattle.net_core.proofs.Carrying.{all_carry}
 use Rattle.net_core.proofs.Deliveries.{as_before_net, as_before_whole, set_length}
 use Rattle.net_core.proofs.Fitting.{fit_full}
-use Rattle.net_core.proofs.Going.{moves_net, crosses_net, goal_here}
+use Rattle.net_core.proofs.Going.{moves_net, goal_here}
 use Rattle.net_core.proofs.Handed.{continuation_few, flights_long, event_whole, stay_bare}
-use Rattle.net_core.proofs.Reaching.{are_numbered}
 use Rattle.net_core.proofs.events.move_here.Goals as goal
 
 pub move_at-requires-clause-fit : goal.move_at-requires-clause-fit

@@ -1,19 +1,16 @@
-use Rattle.std.proofs.Common.{◌≡◌, ◌<◌, ◌≤◌, ◌+◌, ◌++◌, ◌∙◌, ◌^◌, ℕ, List, [], Some, length, slice_get, sym, ap, subst, refl, true, arith}
+use Rattle.std.proofs.Common.{◌≡◌, ◌≤◌, ◌∙◌, List, Some, length, slice_get, sym, ap, subst, arith}
 use Rattle.std.specs.Vec.{with_items}
 use Rattle.std.proofs.lemmas.List.{with_items_is}
-use Rattle.chem_laws.proofs.Lists.{append_nil}
-use Rattle.env_store.specs.CodeParts.{CodeParts}
 use Rattle.loc_tree.specs.Tree.{Tree, bare}
 use Rattle.net_laws.specs.Site.{Site}
 use Rattle.net_laws.specs.Net.{Net, with_births}
 use Rattle.net_laws.specs.Opened.{AreNew}
-use Rattle.chem_model.specs.declared.name.Loc.{Loc}
 use Rattle.reducer.specs.Picks.{Fires}
 use Rattle.reducer.specs.Reacting.{ran_by, outcome_of}
 use Rattle.net_core.specs.declared.parts.Parts.{Parts}
 use Rattle.net_core.specs.Acting.{Reacts}
 use Rattle.net_core.specs.inside.AtSites.{AllStayFit, ReactsAt}
-use Rattle.net_core.specs.Parts.{joined, net_of}
+use Rattle.net_core.specs.Parts.{net_of}
 use Rattle.net_core.specs.Playing.{react}
 use Rattle.net_core.specs.Whole.{AllFit}
 use Rattle.net_core.proofs.Carrying.{all_carry}

@@ -1,7 +1,6 @@
-use Rattle.std.proofs.Common.{◌≡◌, ◌<◌, ◌++◌, arith, length}
+use Rattle.std.proofs.Common.{◌<◌, ◌++◌, arith, length}
 use Rattle.std.specs.Prelude.{slice_set, slice_index_or}
-use Rattle.net_laws.specs.Site.{Site}
-use Rattle.net_core.proofs.Crossing.{before, behind, both_set, both_set_back, cross_ok, cross_fit, cross_err}
+use Rattle.net_core.proofs.Crossing.{before, behind, may_up, may_down, both_set, both_set_back, cross_ok, cross_fit, cross_err}
 use Rattle.net_core.proofs.moving.cross.Goals as goal
 
 pub returns-then-from-into-clause-ok : goal.returns-then-from-into-clause-ok
@@ -96,3 +95,105 @@ returns-else-from-into-clause-err c =
     let new_is = both_set_back sites front back i j c.split_at_mut-front-else-from-into.ensures.value c.move_between-else-from-into.new.from c.move_between-else-from-into.new.into far less c.split_at_mut-front-else-from-into.ensures.front_len in
     let new = slice_set front j c.move_between-else-from-into.new.into ++ slice_set back 0 c.move_between-else-from-into.new.from in
     cross_err c.args.tree.now c.move_between-else-from-into.new.tree sites i j c.args.atom.now may (slice_index_or back 0 c.index-back-0-else-from-into.result) (slice_index_or front j c.index-front-into.result) c.move_between-else-from-into.new.from c.move_between-else-from-into.new.into x_is y_is new new_is c.move_between-else-from-into.result c.move_between-else-from-into.ensures.err_from c.move_between-else-from-into.ensures.err_into
+
+pub move_between-requires-clause-from_tree : goal.move_between-requires-clause-from_tree
+move_between-requires-clause-from_tree c =
+    let front = c.split_at_mut-front.result.0.now in
+    let less : c.args.from < length front = omega arith in
+    (may_up c.args.code.now c.args.tree.now c.args.sites.now c.args.from c.args.into c.args.atom.now c.requires.may c.requires.fit front c.split_at_mut-front.result.1.now c.split_at_mut-front.ensures.value c.index-front-from.result c.index-back-0.result less c.split_at_mut-front.ensures.front_len).from.in_tree
+
+pub move_between-requires-clause-into_tree : goal.move_between-requires-clause-into_tree
+move_between-requires-clause-into_tree c =
+    let front = c.split_at_mut-front.result.0.now in
+    let less : c.args.from < length front = omega arith in
+    (may_up c.args.code.now c.args.tree.now c.args.sites.now c.args.from c.args.into c.args.atom.now c.requires.may c.requires.fit front c.split_at_mut-front.result.1.now c.split_at_mut-front.ensures.value c.index-front-from.result c.index-back-0.result less c.split_at_mut-front.ensures.front_len).into.in_tree
+
+pub move_between-requires-clause-from_code : goal.move_between-requires-clause-from_code
+move_between-requires-clause-from_code c =
+    let front = c.split_at_mut-front.result.0.now in
+    let less : c.args.from < length front = omega arith in
+    (may_up c.args.code.now c.args.tree.now c.args.sites.now c.args.from c.args.into c.args.atom.now c.requires.may c.requires.fit front c.split_at_mut-front.result.1.now c.split_at_mut-front.ensures.value c.index-front-from.result c.index-back-0.result less c.split_at_mut-front.ensures.front_len).from.in_code
+
+pub move_between-requires-clause-into_code : goal.move_between-requires-clause-into_code
+move_between-requires-clause-into_code c =
+    let front = c.split_at_mut-front.result.0.now in
+    let less : c.args.from < length front = omega arith in
+    (may_up c.args.code.now c.args.tree.now c.args.sites.now c.args.from c.args.into c.args.atom.now c.requires.may c.requires.fit front c.split_at_mut-front.result.1.now c.split_at_mut-front.ensures.value c.index-front-from.result c.index-back-0.result less c.split_at_mut-front.ensures.front_len).into.in_code
+
+pub move_between-requires-clause-can_draw : goal.move_between-requires-clause-can_draw
+move_between-requires-clause-can_draw c =
+    let front = c.split_at_mut-front.result.0.now in
+    let less : c.args.from < length front = omega arith in
+    (may_up c.args.code.now c.args.tree.now c.args.sites.now c.args.from c.args.into c.args.atom.now c.requires.may c.requires.fit front c.split_at_mut-front.result.1.now c.split_at_mut-front.ensures.value c.index-front-from.result c.index-back-0.result less c.split_at_mut-front.ensures.front_len).into.draws
+
+pub move_between-requires-clause-ready : goal.move_between-requires-clause-ready
+move_between-requires-clause-ready c =
+    let front = c.split_at_mut-front.result.0.now in
+    let less : c.args.from < length front = omega arith in
+    (may_up c.args.code.now c.args.tree.now c.args.sites.now c.args.from c.args.into c.args.atom.now c.requires.may c.requires.fit front c.split_at_mut-front.result.1.now c.split_at_mut-front.ensures.value c.index-front-from.result c.index-back-0.result less c.split_at_mut-front.ensures.front_len).can
+
+pub move_between-requires-clause-hosted : goal.move_between-requires-clause-hosted
+move_between-requires-clause-hosted c =
+    let front = c.split_at_mut-front.result.0.now in
+    let less : c.args.from < length front = omega arith in
+    (may_up c.args.code.now c.args.tree.now c.args.sites.now c.args.from c.args.into c.args.atom.now c.requires.may c.requires.fit front c.split_at_mut-front.result.1.now c.split_at_mut-front.ensures.value c.index-front-from.result c.index-back-0.result less c.split_at_mut-front.ensures.front_len).hosted
+
+pub move_between-requires-clause-joins : goal.move_between-requires-clause-joins
+move_between-requires-clause-joins c =
+    let front = c.split_at_mut-front.result.0.now in
+    let less : c.args.from < length front = omega arith in
+    (may_up c.args.code.now c.args.tree.now c.args.sites.now c.args.from c.args.into c.args.atom.now c.requires.may c.requires.fit front c.split_at_mut-front.result.1.now c.split_at_mut-front.ensures.value c.index-front-from.result c.index-back-0.result less c.split_at_mut-front.ensures.front_len).joins
+
+pub move_between-requires-else-from-into-clause-from_tree : goal.move_between-requires-else-from-into-clause-from_tree
+move_between-requires-else-from-into-clause-from_tree c =
+    let front = c.split_at_mut-front-else-from-into.result.0.now in
+    let less : c.args.into < length front = let far = c.requires.may.away in omega arith in
+    (may_down c.args.code.now c.args.tree.now c.args.sites.now c.args.from c.args.into c.args.atom.now c.requires.may c.requires.fit front c.split_at_mut-front-else-from-into.result.1.now c.split_at_mut-front-else-from-into.ensures.value c.index-back-0-else-from-into.result c.index-front-into.result less c.split_at_mut-front-else-from-into.ensures.front_len).from.in_tree
+
+pub move_between-requires-else-from-into-clause-into_tree : goal.move_between-requires-else-from-into-clause-into_tree
+move_between-requires-else-from-into-clause-into_tree c =
+    let front = c.split_at_mut-front-else-from-into.result.0.now in
+    let less : c.args.into < length front = let far = c.requires.may.away in omega arith in
+    (may_down c.args.code.now c.args.tree.now c.args.sites.now c.args.from c.args.into c.args.atom.now c.requires.may c.requires.fit front c.split_at_mut-front-else-from-into.result.1.now c.split_at_mut-front-else-from-into.ensures.value c.index-back-0-else-from-into.result c.index-front-into.result less c.split_at_mut-front-else-from-into.ensures.front_len).into.in_tree
+
+pub move_between-requires-else-from-into-clause-from_code : goal.move_between-requires-else-from-into-clause-from_code
+move_between-requires-else-from-into-clause-from_code c =
+    let front = c.split_at_mut-front-else-from-into.result.0.now in
+    let less : c.args.into < length front = let far = c.requires.may.away in omega arith in
+    (may_down c.args.code.now c.args.tree.now c.args.sites.now c.args.from c.args.into c.args.atom.now c.requires.may c.requires.fit front c.split_at_mut-front-else-from-into.result.1.now c.split_at_mut-front-else-from-into.ensures.value c.index-back-0-else-from-into.result c.index-front-into.result less c.split_at_mut-front-else-from-into.ensures.front_len).from.in_code
+
+pub move_between-requires-else-from-into-clause-into_code : goal.move_between-requires-else-from-into-clause-into_code
+move_between-requires-else-from-into-clause-into_code c =
+    let front = c.split_at_mut-front-else-from-into.result.0.now in
+    let less : c.args.into < length front = let far = c.requires.may.away in omega arith in
+    (may_down c.args.code.now c.args.tree.now c.args.sites.now c.args.from c.args.into c.args.atom.now c.requires.may c.requires.fit front c.split_at_mut-front-else-from-into.result.1.now c.split_at_mut-front-else-from-into.ensures.value c.index-back-0-else-from-into.result c.index-front-into.result less c.split_at_mut-front-else-from-into.ensures.front_len).into.in_code
+
+pub move_between-requires-else-from-into-clause-can_draw : goal.move_between-requires-else-from-into-clause-can_draw
+move_between-requires-else-from-into-clause-can_draw c =
+    let front = c.split_at_mut-front-else-from-into.result.0.now in
+    let less : c.args.into < length front = let far = c.requires.may.away in omega arith in
+    (may_down c.args.code.now c.args.tree.now c.args.sites.now c.args.from c.args.into c.args.atom.now c.requires.may c.requires.fit front c.split_at_mut-front-else-from-into.result.1.now c.split_at_mut-front-else-from-into.ensures.value c.index-back-0-else-from-into.result c.index-front-into.result less c.split_at_mut-front-else-from-into.ensures.front_len).into.draws
+
+pub move_between-requires-else-from-into-clause-ready : goal.move_between-requires-else-from-into-clause-ready
+move_between-requires-else-from-into-clause-ready c =
+    let front = c.split_at_mut-front-else-from-into.result.0.now in
+    let less : c.args.into < length front = let far = c.requires.may.away in omega arith in
+    (may_down c.args.code.now c.args.tree.now c.args.sites.now c.args.from c.args.into c.args.atom.now c.requires.may c.requires.fit front c.split_at_mut-front-else-from-into.result.1.now c.split_at_mut-front-else-from-into.ensures.value c.index-back-0-else-from-into.result c.index-front-into.result less c.split_at_mut-front-else-from-into.ensures.front_len).can
+
+pub move_between-requires-else-from-into-clause-hosted : goal.move_between-requires-else-from-into-clause-hosted
+move_between-requires-else-from-into-clause-hosted c =
+    let front = c.split_at_mut-front-else-from-into.result.0.now in
+    let less : c.args.into < length front = let far = c.requires.may.away in omega arith in
+    (may_down c.args.code.now c.args.tree.now c.args.sites.now c.args.from c.args.into c.args.atom.now c.requires.may c.requires.fit front c.split_at_mut-front-else-from-into.result.1.now c.split_at_mut-front-else-from-into.ensures.value c.index-back-0-else-from-into.result c.index-front-into.result less c.split_at_mut-front-else-from-into.ensures.front_len).hosted
+
+pub move_between-requires-else-from-into-clause-joins : goal.move_between-requires-else-from-into-clause-joins
+move_between-requires-else-from-into-clause-joins c =
+    let front = c.split_at_mut-front-else-from-into.result.0.now in
+    let less : c.args.into < length front = let far = c.requires.may.away in omega arith in
+    (may_down c.args.code.now c.args.tree.now c.args.sites.now c.args.from c.args.into c.args.atom.now c.requires.may c.requires.fit front c.split_at_mut-front-else-from-into.result.1.now c.split_at_mut-front-else-from-into.ensures.value c.index-back-0-else-from-into.result c.index-front-into.result less c.split_at_mut-front-else-from-into.ensures.front_len).joins
+
+pub returns-then-from-into-clause-err_tree : goal.returns-then-from-into-clause-err_tree
+returns-then-from-into-clause-err_tree c = c.move_between.ensures.err_tree
+
+pub returns-else-from-into-clause-err_tree : goal.returns-else-from-into-clause-err_tree
+returns-else-from-into-clause-err_tree c = c.move_between-else-from-into.ensures.err_tree

@@ -21,8 +21,9 @@ returns-in_default c =
 pub loop-event-preserved : goal.loop-event-preserved
 loop-event-preserved c =
     let next = c.in-Some.ensures.some in
+    let done = c.in_ok-react_once.ensures in
     reacts_more c.args.code.now c.args.tree.now c.args.site.now.number c.args.quota c.args.site.now c.loop-event._event c.loop-event.site c.loop-event.made c.loop-event.invariant c.requires.0 c.requires.1 c.requires.2
-    c.loop-event-test.true c.react_once.new.site c.in-Some.pick next.ready next.none c.in_ok-event.event c.in_ok-event.effects (c.in_ok-event.ensures next.ready.pick next.ready.fires.covers.picks) c.note.new.made c.in_ok-note.ensures
+    c.loop-event-test.true c.react_once.new.site c.in-Some.pick next.ready next.none done.event done.effects (done.reacts next.ready.pick next.ready.fires.covers.picks) c.react_once.new.made done.noted
 
 pub returns : goal.returns
 returns c =

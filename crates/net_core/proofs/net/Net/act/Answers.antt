@@ -1,4 +1,4 @@
-use Rattle.std.proofs.Common.{◌≡◌, ◌+◌, ◌<◌, ◌^◌, ℕ, Option, Some, None, refl, sym, ap, subst, arith}
+use Rattle.std.proofs.Common.{◌≡◌, ◌+◌, ◌<◌, ◌^◌, Option, Some, None, refl, ap, subst, arith}
 use Rattle.chem_model.specs.declared.event.Event.{Event}
 use Rattle.net_core.specs.Acts.{Acts}
 use Rattle.net_core.specs.Making.{counted, HasActed}

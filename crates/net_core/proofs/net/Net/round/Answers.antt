@@ -9,21 +9,21 @@ pub overflow_add-events : goal.overflow_add-events
 overflow_add-events g c =
     let inside = c.self.inside in
     let few : inside.events + c.args.quota * length inside.parts.sites.items < 2 ^ 32 - 1 = subst (λ (v : NetParts). v.events + c.args.quota * length v.net.sites < 2 ^ 32 - 1) (sym c.self.view_is) c.requires.few in
-    let within : length c.in_ok-parts.journal ≤ c.args.quota * length inside.parts.sites.items = c.in_ok-parts.ensures.within in
-    let count : c.len.result ≡ length c.in_ok-parts.journal = c.len.ensures.count in
+    let within : length c.in-Ok.journal ≤ c.args.quota * length inside.parts.sites.items = c.in-Ok.ensures.within in
+    let count : c.len.result ≡ length c.in-Ok.journal = c.len.ensures.count in
     omega arith
 
 pub invariant_of-net : goal.invariant_of-net
 invariant_of-net g c =
     let inside = c.self.inside in
     let few : inside.events + c.args.quota * length inside.parts.sites.items < 2 ^ 32 - 1 = subst (λ (v : NetParts). v.events + c.args.quota * length v.net.sites < 2 ^ 32 - 1) (sym c.self.view_is) c.requires.few in
-    subst (λ (k : ℕ). IsWhole inside.code c.in_ok-parts.parts (inside.events + k)) (sym c.len.ensures.count) (c.in_ok-parts.ensures.whole inside.events few c.self.invariant)
+    subst (λ (k : ℕ). IsWhole inside.code c.round_of.new.parts (inside.events + k)) (sym c.len.ensures.count) (c.in-Ok.ensures.whole inside.events few c.self.invariant)
 
-pub returns : goal.returns
-returns g c =
+pub returns-in-Ok : goal.returns-in-Ok
+returns-in-Ok g c =
     let inside = c.self.inside in
-    let done = c.in_ok-parts.ensures in
+    let done = c.in-Ok.ensures in
     let old : NetParts = record { code = inside.code; net = net_of inside.code.seen inside.parts; events = inside.events } in
-    let new : NetParts = record { code = inside.code; net = net_of inside.code.seen c.in_ok-parts.parts; events = inside.events + c.len.result } in
-    subst (λ (v : NetParts). HasWorked c.args.quota v c.in_ok-parts.journal new) c.self.view_is
-    (has_worked old new c.args.quota inside.events c.in_ok-parts.journal c.self.invariant.running done.turns refl (ap (λ (k : ℕ). inside.events + k) c.len.ensures.count) done.within done.tree done.sites)
+    let new : NetParts = record { code = inside.code; net = net_of inside.code.seen c.round_of.new.parts; events = inside.events + c.len.result } in
+    subst (λ (v : NetParts). HasWorked c.args.quota v c.in-Ok.journal new) c.self.view_is
+    (has_worked old new c.args.quota inside.events c.in-Ok.journal c.self.invariant.running done.turns refl (ap (λ (k : ℕ). inside.events + k) c.len.ensures.count) done.within done.tree done.sites)

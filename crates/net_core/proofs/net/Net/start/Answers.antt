@@ -1,13 +1,14 @@
-use Rattle.std.proofs.Common.{◌<◌, ◌^◌, length, sym, subst, arith}
+use Rattle.std.proofs.Common.{◌≡◌, ◌<◌, ◌^◌, length, sym, subst, arith}
 use Rattle.chem_model.specs.Opening.{opening}
 use Rattle.chem_model.specs.ProgramFacts.{IsProgram}
 use Rattle.env_store.specs.CodeFacts.{IsCode}
 use Rattle.env_store.specs.CodeParts.{CodeParts}
 use Rattle.env_store.specs.Laws.{rules_of_group}
 use Rattle.net_laws.specs.Net.{Stands}
+use Rattle.net_laws.specs.Opened.{opened_net}
 use Rattle.net_core.specs.Parts.{net_of}
 use Rattle.net_core.specs.Whole.{IsWhole}
-use Rattle.net_core.proofs.Starting.{opened_whole, opened_is}
+use Rattle.net_core.proofs.Starting.{opened_whole, opened_is, all_are_opened}
 use Rattle.net_core.proofs.net.Net.start.Goals as goal
 
 pub invariant_of-result : goal.invariant_of-result
@@ -15,11 +16,15 @@ invariant_of-result c =
     let ok : IsProgram c.args.program.now = subst IsProgram c.program.view_is c.program.invariant in
     let kept : IsCode c.args.code.now = subst IsCode c.code.view_is c.code.invariant in
     let few : length c.args.code.now.sites < 2 ^ 32 = omega (arith, c.requires.no_other_sites, ok.few_sites) in
-    subst (λ (x : CodeParts). IsWhole x c.in_ok-parts.parts 0) (sym c.in_ok-code.ensures) (opened_whole c.args.program.now c.args.code.now ok kept c.requires few c.in_ok-parts.parts c.in_ok-parts.ensures)
+    subst (λ (x : CodeParts). IsWhole x c.in_ok-parts.parts 0) (sym c.in-Ok.ensures) (opened_whole c.args.program.now c.args.code.now ok kept c.requires few c.in_ok-parts.parts c.in_ok-parts.ensures)
 
-pub returns-clause-stands : goal.returns-clause-stands
-returns-clause-stands c =
+pub returns-in-Ok-clause-stands : goal.returns-in-Ok-clause-stands
+returns-in-Ok-clause-stands c =
     let ok : IsProgram c.args.program.now = subst IsProgram c.program.view_is c.program.invariant in
     let kept : IsCode c.args.code.now = subst IsCode c.code.view_is c.code.invariant in
-    subst (λ (x : CodeParts). Stands (rules_of_group c.args.program.now) (net_of x.seen c.in_ok-parts.parts) (opening c.args.program.now)) (sym c.in_ok-code.ensures)
+    subst (λ (x : CodeParts). Stands (rules_of_group c.args.program.now) (net_of x.seen c.in_ok-parts.parts) (opening c.args.program.now)) (sym c.in-Ok.ensures)
     (opened_is c.args.program.now c.args.code.now ok kept c.requires c.in_ok-parts.parts c.in_ok-parts.ensures)
+
+pub returns-in-Ok-clause-opened : goal.returns-in-Ok-clause-opened
+returns-in-Ok-clause-opened c =
+    subst (λ (x : CodeParts). net_of x.seen c.in_ok-parts.parts ≡ opened_net c.args.code.now) (sym c.in-Ok.ensures) (all_are_opened c.args.code.now c.in_ok-parts.parts c.in_ok-parts.ensures)
