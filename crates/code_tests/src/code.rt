@@ -1,179 +1,207 @@
-// What the code of a text has, as plain values.
+// What is expected of the code of a text.
 
-use chem_model::{Name, Names, Nums};
-use env_store::{Blocks, Bodies, Code, Guard, Guards, Instr, Level, Levels, Locs, SiteCodes, Slot};
+use chem_model::{Loc, Memory, Name};
+use env_store::{Code, Instr, Slot};
 use guard_compile::{compile, top_names};
 use std::alloc::Global;
 use std::process::Abort;
 use worked_programs::program_of;
 
-/// The parts of a program's code.
-#[derive(Drop)]
-pub struct Parts {
-    pub guards: Guards,
-    pub levels: Levels,
-    pub blocks: Blocks,
-    pub bodies: Bodies,
-    pub seen: Nums,
-    pub tops: Locs,
-    pub sites: SiteCodes,
+/// Whose body it is.
+#[derive(Clone, Copy)]
+pub enum Body {
+    /// That of the rule with this guard.
+    Rule(usize),
+    /// That of the place of this level.
+    Place(usize),
+    /// That of the first site.
+    Site,
 }
 
-/// The parts of a copy of a code.
-fn parts_of(alloc: Global, code: &Code) -> Option<Box<Parts>> {
-    let copy = code.copy(alloc).ok()?;
-    let parts = Parts {
-        guards: copy.guards,
-        levels: copy.levels,
-        blocks: copy.blocks,
-        bodies: copy.bodies,
-        seen: copy.seen,
-        tops: copy.tops,
-        sites: copy.sites,
-    };
-    Box::new(alloc, parts).ok()
+/// What a code has. Levels, guards and the instructions of a body go by their numbers.
+#[derive(Clone, Copy)]
+pub enum Fact {
+    /// So many levels, guards, blocks, bodies and sites.
+    Sizes([usize; 5]),
+    /// The counts of the observed names.
+    Seen(&'static [u32]),
+    /// The locations that the sites define.
+    Tops(&'static [Loc]),
+    /// The depth of a level, the first of its guards and how many there are, and its place.
+    Level(usize, [u32; 3], Option<u32>),
+    /// The counts of a level's channels: how many there are, and the first.
+    Counts(usize, usize, u32),
+    /// The levels of the block of a level, and how many names it makes.
+    Block(usize, &'static [u32], u32),
+    /// A guard's level, and how many locations its body opens and messages it pours.
+    Guard(usize, [u32; 3]),
+    /// The words of a guard's mask.
+    Mask(usize, &'static [u64]),
+    /// An instruction that sends, with at most one argument.
+    Send(Body, usize, Slot, Option<Slot>),
+    /// An instruction that enters a block with so many names.
+    Enter(Body, usize, u32),
+    /// An instruction that drops so many names.
+    Leave(Body, usize, u32),
 }
 
-/// The parts of a copy of the code of a text.
-pub fn code_of(alloc: Global, text: &[u8]) -> Option<Box<Parts>> {
-    let program = program_of(alloc, text).ok()?;
-    let code = compile(alloc, &program).ok()?;
-    parts_of(alloc, &code)
+fn has_sizes(code: &Code, sizes: [usize; 5]) -> bool {
+    code.levels.len() == sizes[0]
+        && code.guards.len() == sizes[1]
+        && code.blocks.len() == sizes[2]
+        && code.bodies.len() == sizes[3]
+        && code.sites.len() == sizes[4]
 }
 
-/// The names of the site-level binders of a text.
-pub fn tops_of(alloc: Global, text: &[u8]) -> Option<Names> {
-    let program = program_of(alloc, text).ok()?;
-    top_names(alloc, &program).ok()
+fn has_level(code: &Code, number: usize, numbers: [u32; 3], place: Option<u32>) -> bool {
+    match code.levels.as_slice().get(number) {
+        Some(level) => [level.depth, level.first, level.guards] == numbers && level.place == place,
+        None => false,
+    }
 }
 
-/// How many levels, guards, blocks, bodies and sites there are.
-pub fn expect_sizes(rt: &impl Abort, code: &Parts, sizes: [usize; 5]) {
-    assert_eq!(rt;
-        [
-            code.levels.len(),
-            code.guards.len(),
-            code.blocks.len(),
-            code.bodies.len(),
-            code.sites.len(),
-        ],
-        sizes
-    );
-}
-
-fn level(code: &Parts, number: usize) -> Option<&Level> {
-    code.levels.as_slice().get(number)
-}
-
-/// The depth of a level, the first of its guards and how many there are, and its place.
-pub fn expect_level(
-    rt: &impl Abort,
-    code: &Parts,
-    number: usize,
-    numbers: [u32; 3],
-    place: Option<u32>,
-) {
-    let found = level(code, number).map(|l| ([l.depth, l.first, l.guards], l.place));
-    assert_eq!(rt; found, Some((numbers, place)));
-}
-
-/// The counts of a level's channels: how many there are, and the first.
-pub fn expect_counts(
-    rt: &impl Abort,
-    code: &Parts,
-    number: usize,
-    many: usize,
-    first: Option<u32>,
-) {
-    let found = level(code, number).map(|l| (l.counts.len(), l.counts.as_slice().first().copied()));
-    assert_eq!(rt; found, Some((many, first)));
-}
-
-/// The levels of a block, and how many names it makes.
-pub fn expect_block(rt: &impl Abort, code: &Parts, of_level: usize, levels: &[u32], names: u32) {
-    let number = match level(code, of_level) {
-        Some(level) => level.block,
-        None => 0,
-    };
-    match code.blocks.as_slice().get(number as usize) {
-        Some(block) => {
-            assert_eq!(rt; block.levels.as_slice(), levels);
-            assert_eq!(rt; block.names, names);
+fn has_counts(code: &Code, number: usize, many: usize, first: u32) -> bool {
+    match code.levels.as_slice().get(number) {
+        Some(level) => {
+            level.counts.len() == many && level.counts.as_slice().first() == Some(&first)
         }
-        None => assert!(rt; false),
+        None => false,
     }
 }
 
-fn guard(code: &Parts, number: usize) -> Option<&Guard> {
-    code.guards.as_slice().get(number)
-}
-
-/// A guard's level, and how many locations its body opens and messages it pours.
-pub fn expect_guard(rt: &impl Abort, code: &Parts, number: usize, numbers: [u32; 3]) {
-    let found = guard(code, number).map(|g| [g.level, g.births, g.sends]);
-    assert_eq!(rt; found, Some(numbers));
-}
-
-/// The words of a guard's mask.
-pub fn expect_mask(rt: &impl Abort, code: &Parts, number: usize, words: &[u64]) {
-    match guard(code, number) {
-        Some(guard) => assert_eq!(rt; guard.mask.words.as_slice(), words),
-        None => assert!(rt; false),
+/// Whether a block has these levels and makes so many names.
+fn is_block(code: &Code, number: u32, levels: &[u32], names: u32) -> bool {
+    match code.blocks.as_slice().get(number as usize) {
+        Some(block) => block.levels.as_slice() == levels && block.names == names,
+        None => false,
     }
 }
 
-/// The body of a guard, of a place's process and of a site's process.
-pub fn guard_body(code: &Parts, number: usize) -> Option<u32> {
-    guard(code, number).map(|g| g.body)
+fn has_block(code: &Code, of_level: usize, levels: &[u32], names: u32) -> bool {
+    match code.levels.as_slice().get(of_level) {
+        Some(level) => is_block(code, level.block, levels, names),
+        None => false,
+    }
 }
 
-pub fn place_body(code: &Parts, number: usize) -> Option<u32> {
-    level(code, number).and_then(|l| l.body)
+fn has_guard(code: &Code, number: usize, numbers: [u32; 3]) -> bool {
+    match code.guards.as_slice().get(number) {
+        Some(guard) => [guard.level, guard.births, guard.sends] == numbers,
+        None => false,
+    }
 }
 
-pub fn site_body(code: &Parts) -> Option<u32> {
-    code.sites.as_slice().first().map(|s| s.body)
+fn has_mask(code: &Code, number: usize, words: &[u64]) -> bool {
+    match code.guards.as_slice().get(number) {
+        Some(guard) => guard.mask.words.as_slice() == words,
+        None => false,
+    }
 }
 
-fn instr(code: &Parts, body: Option<u32>, at: usize) -> Option<&Instr> {
-    let instrs = code.bodies.as_slice().get(body? as usize)?;
+/// The number of a body.
+fn body_of(code: &Code, whose: Body) -> Option<u32> {
+    match whose {
+        Body::Rule(guard) => code.guards.as_slice().get(guard).map(|g| g.body),
+        Body::Place(level) => code.levels.as_slice().get(level)?.body,
+        Body::Site => code.sites.as_slice().first().map(|s| s.body),
+    }
+}
+
+fn instr(code: &Code, whose: Body, at: usize) -> Option<&Instr> {
+    let instrs = code.bodies.as_slice().get(body_of(code, whose)? as usize)?;
     instrs.as_slice().get(at)
 }
 
-/// A message with at most one argument.
-pub fn expect_send(
-    rt: &impl Abort,
-    code: &Parts,
-    body: Option<u32>,
-    at: usize,
-    on: Slot,
-    arg: Option<Slot>,
-) {
-    let found = match instr(code, body, at) {
-        Some(Instr::Send { on, args }) => Some((*on, args.as_slice().first().copied())),
-        _ => None,
-    };
-    assert_eq!(rt; found, Some((on, arg)));
+fn sends(instr: Option<&Instr>, channel: Slot, arg: Option<Slot>) -> bool {
+    match instr {
+        Some(Instr::Send { on, args }) => {
+            *on == channel && args.as_slice().first().copied() == arg
+        }
+        _ => false,
+    }
 }
 
-/// That a block with so many names is entered.
-pub fn expect_enter(rt: &impl Abort, code: &Parts, body: Option<u32>, at: usize, names: u32) {
-    let block = match instr(code, body, at) {
-        Some(Instr::Enter { block }) => code.blocks.as_slice().get(*block as usize),
-        _ => None,
-    };
-    assert_eq!(rt; block.map(|b| b.names), Some(names));
+/// Whether a block makes so many names.
+fn has_names(code: &Code, block: u32, names: u32) -> bool {
+    match code.blocks.as_slice().get(block as usize) {
+        Some(block) => block.names == names,
+        None => false,
+    }
 }
 
-pub fn expect_leave(rt: &impl Abort, code: &Parts, body: Option<u32>, at: usize, names: u32) {
-    let found = match instr(code, body, at) {
-        Some(Instr::Leave { count }) => Some(*count),
-        _ => None,
-    };
-    assert_eq!(rt; found, Some(names));
+fn enters(code: &Code, instr: Option<&Instr>, names: u32) -> bool {
+    match instr {
+        Some(Instr::Enter { block }) => has_names(code, *block, names),
+        _ => false,
+    }
 }
 
-/// The observed name of the first declaration.
-pub fn observed() -> Slot {
-    Slot::Known(Name::Seen(0))
+fn leaves(instr: Option<&Instr>, names: u32) -> bool {
+    match instr {
+        Some(Instr::Leave { count }) => *count == names,
+        _ => false,
+    }
+}
+
+/// Whether the code is as the fact says.
+fn holds(code: &Code, fact: &Fact) -> bool {
+    match fact {
+        Fact::Sizes(sizes) => has_sizes(code, *sizes),
+        Fact::Seen(counts) => code.seen.as_slice() == *counts,
+        Fact::Tops(tops) => code.tops.as_slice() == *tops,
+        Fact::Level(number, numbers, place) => has_level(code, *number, *numbers, *place),
+        Fact::Counts(number, many, first) => has_counts(code, *number, *many, *first),
+        Fact::Block(of_level, levels, names) => has_block(code, *of_level, *levels, *names),
+        Fact::Guard(number, numbers) => has_guard(code, *number, *numbers),
+        Fact::Mask(number, words) => has_mask(code, *number, *words),
+        Fact::Send(whose, at, on, arg) => sends(instr(code, *whose, *at), *on, *arg),
+        Fact::Enter(whose, at, names) => enters(code, instr(code, *whose, *at), *names),
+        Fact::Leave(whose, at, names) => leaves(instr(code, *whose, *at), *names),
+    }
+}
+
+fn boxed(alloc: Global, code: Result<Code, Memory>) -> Option<Box<Code>> {
+    match code {
+        Ok(code) => Box::new(alloc, code).ok(),
+        Err(_) => None,
+    }
+}
+
+fn code_of(alloc: Global, text: &[u8]) -> Option<Box<Code>> {
+    match program_of(alloc, text) {
+        Ok(program) => boxed(alloc, compile(alloc, &program)),
+        Err(_) => None,
+    }
+}
+
+/// A copy of the code of a text.
+fn copied(alloc: Global, text: &[u8]) -> Option<Box<Code>> {
+    let code = code_of(alloc, text)?;
+    boxed(alloc, code.copy(alloc))
+}
+
+/// That the code is as each of these facts says.
+fn expect_each(rt: &impl Abort, code: &Code, facts: &[Fact]) {
+    for (index, fact) in facts.iter().enumerate() {
+        assert!(rt; holds(code, fact), "fact {index}");
+    }
+}
+
+/// That a copy of the code of this text is as each of these facts says.
+pub fn expect_code(rt: &impl Abort, alloc: Global, text: &[u8], facts: &[Fact]) {
+    match copied(alloc, text) {
+        Some(code) => expect_each(rt, &code, facts),
+        None => assert!(rt; false, "no code"),
+    }
+}
+
+/// Whether these are the names of the site-level binders of a text.
+pub fn has_top_names(alloc: Global, text: &[u8], names: &[Name]) -> bool {
+    match program_of(alloc, text) {
+        Ok(program) => match top_names(alloc, &program) {
+            Ok(found) => found.as_slice() == names,
+            Err(_) => false,
+        },
+        Err(_) => false,
+    }
 }

@@ -1,76 +1,63 @@
 // The expected values were worked out by hand.
 
-use crate::code::{
-    Parts, code_of, expect_block, expect_counts, expect_enter, expect_guard, expect_leave,
-    expect_level, expect_mask, expect_send, expect_sizes, guard_body, observed, place_body,
-    site_body, tops_of,
-};
+use crate::code::{Body, Fact, expect_code, has_top_names};
 use chem_model::{Loc, Name};
 use env_store::Slot;
 use std::alloc::{AllocError, Global};
-use std::process::Abort;
-use std::test::Fail;
 
 const ROOT: Loc = Loc { site: 0, k: 0 };
 
-fn channel(k: u64) -> Name {
-    Name::Chan {
-        site: 0,
-        k,
-        home: ROOT,
-    }
-}
+/// The channel `x` of the first example.
+const CHANNEL: Name = Name::Chan {
+    site: 0,
+    k: 1,
+    home: ROOT,
+};
 
-// The level of the first example, and its guard.
-fn expect_one_level(rt: &impl Abort, code: &Parts) {
-    expect_sizes(rt, code, [1, 1, 1, 2, 1]);
-    expect_level(rt, code, 0, [0, 0, 1], None);
-    expect_counts(rt, code, 0, 1, Some(1));
-    expect_guard(rt, code, 0, [0, 0, 1]);
-    expect_mask(rt, code, 0, &[1]);
-    assert_eq!(rt; code.seen.as_slice(), [1].as_slice());
-    assert_eq!(rt; code.tops.as_slice(), [ROOT].as_slice());
-}
+/// The root as an argument.
+const AT_ROOT: Slot = Slot::Known(Name::Place(ROOT));
 
-// The bodies of its rule and of its site.
-fn expect_two_bodies(rt: &impl Abort, code: &Parts) {
-    let rule = guard_body(code, 0);
-    expect_send(rt, code, rule, 0, observed(), Some(Slot::Env(0)));
-    let root = Slot::Known(Name::Place(ROOT));
-    let process = site_body(code);
-    expect_send(rt, code, process, 0, Slot::Known(channel(1)), Some(root));
+/// The observed name of the first declaration.
+const OBSERVED: Slot = Slot::Known(Name::Seen(0));
+
+/// The level of the first example and its guard, and the bodies of its rule and of its site.
+fn first_example() -> &'static [Fact] {
+    &[
+        Fact::Sizes([1, 1, 1, 2, 1]),
+        Fact::Level(0, [0, 0, 1], None),
+        Fact::Counts(0, 1, 1),
+        Fact::Guard(0, [0, 0, 1]),
+        Fact::Mask(0, &[1]),
+        Fact::Seen(&[1]),
+        Fact::Tops(&[ROOT]),
+        Fact::Send(Body::Rule(0), 0, OBSERVED, Some(Slot::Env(0))),
+        Fact::Send(Body::Site, 0, Slot::Known(CHANNEL), Some(AT_ROOT)),
+    ]
 }
 
 #[test]
-fn the_first_example(rt: HostRuntime) -> Result<(), Fail> {
-    let alloc = rt.alloc();
+fn the_first_example(rt: HostRuntime) {
     let text = b"observe out/1; site s [ x(u) => out(u) : x(s) ]";
-    let code = code_of(alloc, text).ok_or("no code")?;
-    expect_one_level(&rt, &code);
-    expect_two_bodies(&rt, &code);
-    let tops = tops_of(alloc, text).ok_or("no names")?;
-    assert_eq!(rt; tops.as_slice(), [Name::Place(ROOT), channel(1)].as_slice());
-    Ok(())
+    expect_code(&rt, rt.alloc(), text, first_example());
+    assert!(rt; has_top_names(rt.alloc(), text, &[Name::Place(ROOT), CHANNEL]));
 }
 
 /// The rule receives `u`, and the block within names the inner `x`.
-fn expect_inner_name(rt: &impl Abort, code: &Parts) {
-    expect_sizes(rt, code, [2, 2, 2, 3, 1]);
-    expect_level(rt, code, 1, [2, 1, 1], None);
-    let rule = guard_body(code, 0);
-    expect_enter(rt, code, rule, 0, 1);
-    expect_send(rt, code, rule, 1, Slot::Env(1), Some(Slot::Env(0)));
-    expect_leave(rt, code, rule, 2, 1);
-    let inner = guard_body(code, 1);
-    expect_send(rt, code, inner, 0, observed(), Some(Slot::Env(2)));
+fn inner_name() -> &'static [Fact] {
+    &[
+        Fact::Sizes([2, 2, 2, 3, 1]),
+        Fact::Level(1, [2, 1, 1], None),
+        Fact::Enter(Body::Rule(0), 0, 1),
+        Fact::Send(Body::Rule(0), 1, Slot::Env(1), Some(Slot::Env(0))),
+        Fact::Leave(Body::Rule(0), 2, 1),
+        Fact::Send(Body::Rule(1), 0, OBSERVED, Some(Slot::Env(2))),
+    ]
 }
 
 #[test]
-fn the_inner_name_hides_the_outer_one(rt: HostRuntime) -> Result<(), Fail> {
+fn the_inner_name_hides_the_outer_one(rt: HostRuntime) {
     let text = b"observe out/1; site s [ x(u) => def x(v) => out(v) in x(u) : x(s) ]";
-    let code = code_of(rt.alloc(), text).ok_or("no code")?;
-    expect_inner_name(&rt, &code);
-    Ok(())
+    expect_code(&rt, rt.alloc(), text, inner_name());
 }
 
 /// A `def` within a rule within a `def`, two places, and 65 channels in the site's level: `a`, and
@@ -91,83 +78,76 @@ fn nested() -> &'static [u8] {
 /// The levels are the site's, the outer `def`'s, the inner one's, and those of `m` and `n`. The
 /// names of the outer block are `b`, `m`, `k` and `n`, and the inner rule stands
 /// under these, `u` and `c`.
-fn expect_five_levels(rt: &impl Abort, code: &Parts) {
-    expect_sizes(rt, code, [5, 5, 3, 8, 1]);
-    expect_counts(rt, code, 0, 65, Some(0));
-    expect_level(rt, code, 0, [0, 0, 2], None);
-    expect_level(rt, code, 1, [4, 2, 1], None);
-    expect_level(rt, code, 2, [6, 3, 1], None);
-    expect_level(rt, code, 3, [4, 4, 1], Some(0));
-    expect_level(rt, code, 4, [4, 5, 0], Some(1));
-    expect_block(rt, code, 0, &[0], 65);
-    expect_block(rt, code, 1, &[1, 3, 4], 4);
-    expect_block(rt, code, 2, &[2], 1);
-}
-
-fn expect_five_guards(rt: &impl Abort, code: &Parts) {
-    expect_guard(rt, code, 0, [0, 2, 3]);
-    expect_guard(rt, code, 2, [1, 0, 1]);
-    expect_guard(rt, code, 3, [2, 0, 1]);
-    expect_guard(rt, code, 4, [3, 0, 1]);
-    expect_mask(rt, code, 0, &[1, 0]);
-    expect_mask(rt, code, 1, &[u64::MAX - 1, 1]);
+fn nested_levels() -> &'static [Fact] {
+    &[
+        Fact::Sizes([5, 5, 3, 8, 1]),
+        Fact::Counts(0, 65, 0),
+        Fact::Level(0, [0, 0, 2], None),
+        Fact::Level(1, [4, 2, 1], None),
+        Fact::Level(2, [6, 3, 1], None),
+        Fact::Level(3, [4, 4, 1], Some(0)),
+        Fact::Level(4, [4, 5, 0], Some(1)),
+        Fact::Block(0, &[0], 65),
+        Fact::Block(1, &[1, 3, 4], 4),
+        Fact::Block(2, &[2], 1),
+        Fact::Guard(0, [0, 2, 3]),
+        Fact::Guard(2, [1, 0, 1]),
+        Fact::Guard(3, [2, 0, 1]),
+        Fact::Guard(4, [3, 0, 1]),
+        Fact::Mask(0, &[1, 0]),
+        Fact::Mask(1, &[u64::MAX - 1, 1]),
+    ]
 }
 
 #[test]
-fn levels_and_guards(rt: HostRuntime) -> Result<(), Fail> {
-    let code = code_of(rt.alloc(), nested()).ok_or("no code")?;
-    expect_five_levels(&rt, &code);
-    expect_five_guards(&rt, &code);
-    Ok(())
+fn levels_and_guards(rt: HostRuntime) {
+    expect_code(&rt, rt.alloc(), nested(), nested_levels());
 }
 
-fn expect_rules(rt: &impl Abort, code: &Parts) {
-    let rule = guard_body(code, 0);
-    expect_enter(rt, code, rule, 0, 4);
-    let root = Slot::Known(Name::Place(ROOT));
-    expect_send(rt, code, rule, 1, Slot::Env(0), Some(root));
-    expect_leave(rt, code, rule, 2, 4);
-    let within = guard_body(code, 2);
-    expect_enter(rt, code, within, 0, 1);
-    expect_send(rt, code, within, 1, Slot::Env(5), None);
-    let inner = guard_body(code, 3);
-    expect_send(rt, code, inner, 0, observed(), Some(Slot::Env(4)));
+/// The bodies of the rules of `a`, `b`, `c` and `k`, and of the places.
+fn nested_bodies() -> &'static [Fact] {
+    &[
+        Fact::Enter(Body::Rule(0), 0, 4),
+        Fact::Send(Body::Rule(0), 1, Slot::Env(0), Some(AT_ROOT)),
+        Fact::Leave(Body::Rule(0), 2, 4),
+        Fact::Enter(Body::Rule(2), 0, 1),
+        Fact::Send(Body::Rule(2), 1, Slot::Env(5), None),
+        Fact::Send(Body::Rule(3), 0, OBSERVED, Some(Slot::Env(4))),
+        Fact::Send(Body::Rule(4), 0, Slot::Env(0), Some(Slot::Env(1))),
+        Fact::Send(Body::Place(3), 0, Slot::Env(2), None),
+        Fact::Send(Body::Place(4), 0, Slot::Env(0), Some(Slot::Env(3))),
+    ]
 }
 
-fn expect_places(rt: &impl Abort, code: &Parts) {
-    let at_m = guard_body(code, 4);
-    expect_send(rt, code, at_m, 0, Slot::Env(0), Some(Slot::Env(1)));
-    expect_send(rt, code, place_body(code, 3), 0, Slot::Env(2), None);
-    let of_n = place_body(code, 4);
-    expect_send(rt, code, of_n, 0, Slot::Env(0), Some(Slot::Env(3)));
-}
-
-/// The bodies of the same text.
 #[test]
-fn bodies_of_nested_levels(rt: HostRuntime) -> Result<(), Fail> {
-    let code = code_of(rt.alloc(), nested()).ok_or("no code")?;
-    expect_rules(&rt, &code);
-    expect_places(&rt, &code);
-    Ok(())
+fn bodies_of_nested_levels(rt: HostRuntime) {
+    expect_code(&rt, rt.alloc(), nested(), nested_bodies());
+}
+
+fn write_deep(text: &mut Vec<u8>, definitions: usize) -> Result<(), AllocError> {
+    text.extend_from_slice(b"site s [ none : ")?;
+    for _definition in 0..definitions {
+        text.extend_from_slice(b"def a() => 0 in ")?;
+    }
+    text.extend_from_slice(b"a() ]")
 }
 
 /// `def a() => 0 in def a() => 0 in .. a()`, so many of them, as the process of a site.
 fn deep(alloc: Global, definitions: usize) -> Result<Vec<u8>, AllocError> {
     let mut text = Vec::new(alloc);
-    text.extend_from_slice(b"site s [ none : ")?;
-    for _definition in 0..definitions {
-        text.extend_from_slice(b"def a() => 0 in ")?;
-    }
-    text.extend_from_slice(b"a() ]")?;
+    write_deep(&mut text, definitions)?;
     Ok(text)
 }
 
 /// The site opens the first of the 200 levels that a text may have. Each has a block; each but the
 /// site's has a rule, and the bodies are those of the rules and of the site.
 #[test]
-fn two_hundred_levels_fit_the_stack(rt: HostRuntime) -> Result<(), Fail> {
-    let text = deep(rt.alloc(), 199)?;
-    let code = code_of(rt.alloc(), text.as_slice()).ok_or("no code")?;
-    expect_sizes(&rt, &code, [200, 199, 200, 200, 1]);
-    Ok(())
+fn two_hundred_levels_fit_the_stack(rt: HostRuntime) {
+    match deep(rt.alloc(), 199) {
+        Ok(text) => {
+            let facts = &[Fact::Sizes([200, 199, 200, 200, 1])];
+            expect_code(&rt, rt.alloc(), text.as_slice(), facts);
+        }
+        Err(_) => assert!(rt; false, "no memory"),
+    }
 }

@@ -1,23 +1,20 @@
 // Bytes that are read field by field.
 
-use chem_model::Memory;
-
-/// Why reading ended: at the first byte of a field that is wrong, or for want of memory.
-#[derive(Clone, Copy, PartialEq, Eq, Debug)]
-pub enum End {
-    Wrong { place: usize },
-    Memory,
-}
-
-/// Bytes, and where the next field begins.
+/// Bytes, where the next field begins, and where the first wrong field began, if one was wrong.
+/// Behind that one there is no byte to read, and what is answered for it means nothing.
 #[derive(Clone, Copy)]
 pub struct Fields<'a> {
     bytes: &'a [u8],
     at: usize,
+    wrong: Option<usize>,
 }
 
 pub fn fields_of(bytes: &[u8]) -> Fields<'_> {
-    Fields { bytes, at: 0 }
+    Fields {
+        bytes,
+        at: 0,
+        wrong: None,
+    }
 }
 
 impl Fields<'_> {
@@ -31,76 +28,87 @@ impl Fields<'_> {
         self.bytes.len().saturating_sub(self.at)
     }
 
+    /// Where the first wrong field began, if one was wrong.
+    pub fn wrong_at(&self) -> Option<usize> {
+        self.wrong
+    }
+
+    pub fn is_wrong(&self) -> bool {
+        self.wrong.is_some()
+    }
+
+    /// The field that began at this place is wrong. It counts where none before it was.
+    pub fn refuse(&mut self, place: usize) {
+        if self.wrong.is_none() {
+            self.wrong = Some(place);
+        }
+    }
+
     /// The next byte, which stays.
     pub fn next_byte(&self) -> Option<u8> {
-        self.bytes.get(self.at).copied()
+        match self.wrong {
+            Some(_) => None,
+            None => self.bytes.get(self.at).copied(),
+        }
     }
 
     /// The next byte, and none where there is no more.
     pub fn byte(&mut self) -> Option<u8> {
-        let byte = self.bytes.get(self.at).copied()?;
+        let byte = self.next_byte();
         self.at = self.at.wrapping_add(1);
-        Some(byte)
+        byte
     }
 
     /// A number of so many bytes, the highest first.
-    pub fn number(&mut self, bytes: u32) -> Result<u64, End> {
+    pub fn number(&mut self, bytes: u32) -> u64 {
         let place = self.at;
         let mut number: u64 = 0;
         for _ in 0..bytes {
             match self.byte() {
                 Some(byte) => number = number.wrapping_mul(256).wrapping_add(u64::from(byte)),
-                None => return Err(End::Wrong { place }),
+                None => self.refuse(place),
             }
         }
-        Ok(number)
+        number
     }
 
     /// A byte from the least to the most.
-    pub fn tag(&mut self, least: u8, most: u8) -> Result<u8, End> {
+    pub fn tag(&mut self, least: u8, most: u8) -> u8 {
         let place = self.at;
         match self.byte() {
-            Some(byte) if least <= byte && byte <= most => Ok(byte),
-            _ => Err(End::Wrong { place }),
+            Some(byte) if least <= byte && byte <= most => byte,
+            _ => {
+                self.refuse(place);
+                least
+            }
         }
     }
 
     /// These bytes.
-    pub fn literal(&mut self, wanted: &[u8]) -> Result<(), End> {
+    pub fn literal(&mut self, wanted: &[u8]) {
         let place = self.at;
         for byte in wanted {
             if self.byte() != Some(*byte) {
-                return Err(End::Wrong { place });
+                self.refuse(place);
             }
         }
-        Ok(())
     }
 
     /// So many bytes, whatever they are.
-    pub fn skip(&mut self, many: u64) -> Result<(), End> {
+    pub fn skip(&mut self, many: u64) {
         let place = self.at;
         for _ in 0..many {
             if self.byte().is_none() {
-                return Err(End::Wrong { place });
+                self.refuse(place);
+                return;
             }
         }
-        Ok(())
     }
 
     /// No more bytes.
-    pub fn end(&self) -> Result<(), End> {
-        match self.next_byte() {
-            Some(_) => Err(End::Wrong { place: self.at }),
-            None => Ok(()),
+    pub fn end(&mut self) {
+        if self.next_byte().is_some() {
+            self.refuse(self.at);
         }
-    }
-}
-
-/// Where bytes are wrong first, if they are.
-pub fn place_of(read: Result<(), End>) -> Result<Option<usize>, Memory> {
-    match read {
-        Ok(()) => Ok(None),
-        Err(End::Wrong { place }) => Ok(Some(place)),
-        Err(End::Memory) => Err(Memory),
     }
 }

@@ -1,7 +1,6 @@
 // Logs, field by field.
 
-use crate::fields::{End, Fields, fields_of, place_of};
-use chem_model::Memory;
+use crate::fields::{Fields, fields_of};
 
 fn is_digit(byte: Option<u8>) -> bool {
     matches!(byte, Some(b'0'..=b'9'))
@@ -27,82 +26,103 @@ fn digits(fields: &mut Fields) -> Option<u64> {
 }
 
 // The longest run of digits, as a number of at most this size.
-fn decimal(fields: &mut Fields, most: u64) -> Result<u64, End> {
+fn decimal(fields: &mut Fields, most: u64) -> u64 {
     let place = fields.place();
     let leads_with_zero = fields.next_byte() == Some(b'0');
     let number = digits(fields);
     let many = fields.place().wrapping_sub(place);
     match number {
-        Some(number) if many > 0 && number <= most && !(leads_with_zero && many > 1) => Ok(number),
-        _ => Err(End::Wrong { place }),
+        Some(number) if many > 0 && number <= most && !(leads_with_zero && many > 1) => number,
+        _ => {
+            fields.refuse(place);
+            0
+        }
     }
 }
 
-fn pair(fields: &mut Fields) -> Result<(), End> {
-    decimal(fields, 4_294_967_295)?;
-    fields.literal(b".")?;
-    decimal(fields, u64::MAX)?;
-    Ok(())
+fn pair(fields: &mut Fields) {
+    decimal(fields, 4_294_967_295);
+    fields.literal(b".");
+    decimal(fields, u64::MAX);
+}
+
+// Whether these bytes come next.
+fn is_next(fields: &Fields, wanted: &[u8]) -> bool {
+    let mut ahead = *fields;
+    ahead.literal(wanted);
+    !ahead.is_wrong()
 }
 
 // One of the words of an event, with the space behind it; and whether it is that of a reaction.
-fn word(fields: &mut Fields) -> Result<bool, End> {
-    let place = fields.place();
+fn word(fields: &mut Fields) -> bool {
     for wanted in [b"react ".as_slice(), b"move ", b"halt ", b"detect "] {
-        let mut ahead = *fields;
-        if ahead.literal(wanted).is_ok() {
-            *fields = ahead;
-            return Ok(wanted.len() == 6);
+        if is_next(fields, wanted) {
+            fields.literal(wanted);
+            return wanted.len() == 6;
         }
     }
-    Err(End::Wrong { place })
+    fields.refuse(fields.place());
+    false
+}
+
+fn atom(fields: &mut Fields) {
+    fields.literal(b" ");
+    pair(fields);
 }
 
 // The atoms that a reaction takes, one at least.
-fn atoms(fields: &mut Fields) -> Result<(), End> {
-    fields.literal(b" ")?;
-    pair(fields)?;
+fn atoms(fields: &mut Fields) {
+    atom(fields);
     for _ in 0..fields.left() {
         if fields.next_byte() != Some(b' ') {
-            return Ok(());
+            return;
         }
-        fields.literal(b" ")?;
-        pair(fields)?;
+        atom(fields);
     }
-    Ok(())
 }
 
-fn event(fields: &mut Fields) -> Result<(), End> {
-    let reacts = word(fields)?;
-    pair(fields)?;
+fn event(fields: &mut Fields) {
+    let reacts = word(fields);
+    pair(fields);
     if reacts {
-        atoms(fields)?;
+        atoms(fields);
     }
-    fields.literal(b"\n")
+    fields.literal(b"\n");
 }
 
-fn log(fields: &mut Fields) -> Result<(), End> {
-    fields.literal(b"joinlog 1\nsource ")?;
-    let source = decimal(fields, 1_048_576)?;
-    fields.literal(b"\n")?;
-    fields.skip(source)?;
-    fields.literal(b"\nbudget ")?;
-    let budget = decimal(fields, 1_000_000)?;
-    fields.literal(b"\nevents ")?;
-    let events = decimal(fields, budget)?;
-    fields.literal(b"\n")?;
-    for _ in 0..events {
-        event(fields)?;
+fn events(fields: &mut Fields, many: u64) {
+    for _ in 0..many {
+        if fields.is_wrong() {
+            return;
+        }
+        event(fields);
     }
-    fields.literal(b"trace ")?;
-    let trace = decimal(fields, u64::MAX)?;
-    fields.literal(b"\n")?;
-    fields.skip(trace)?;
-    fields.end()
+}
+
+// So many bytes behind the line that says how many they are.
+fn counted(fields: &mut Fields, most: u64) {
+    let many = decimal(fields, most);
+    fields.literal(b"\n");
+    fields.skip(many);
+}
+
+fn log(fields: &mut Fields) {
+    fields.literal(b"joinlog 1\nsource ");
+    counted(fields, 1_048_576);
+    fields.literal(b"\nbudget ");
+    let budget = decimal(fields, 1_000_000);
+    fields.literal(b"\nevents ");
+    let many = decimal(fields, budget);
+    fields.literal(b"\n");
+    events(fields, many);
+    fields.literal(b"trace ");
+    counted(fields, u64::MAX);
+    fields.end();
 }
 
 /// The place of the first field that is wrong, if these bytes are no log.
-pub fn log_wrong_at(bytes: &[u8]) -> Result<Option<usize>, Memory> {
+pub fn log_wrong_at(bytes: &[u8]) -> Option<usize> {
     let mut fields = fields_of(bytes);
-    place_of(log(&mut fields))
+    log(&mut fields);
+    fields.wrong_at()
 }

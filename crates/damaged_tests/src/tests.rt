@@ -6,7 +6,6 @@ use crate::rows::{logs, packets};
 use chem_model::{Items, Memory, Text};
 use std::alloc::Global;
 use std::process::Abort;
-use std::test::Fail;
 use trace_text::{LogEnd, read_log};
 use wire_packet::{DecodeEnd, decode};
 
@@ -74,69 +73,93 @@ fn read(alloc: Global, bytes: &[u8]) -> Found {
     }
 }
 
-/// That a packet is judged so.
-fn expect_packet(rt: &impl Abort, alloc: Global, bytes: &[u8]) {
-    assert_eq!(rt; decoded(alloc, bytes), packet_wrong_at(alloc, bytes));
+/// What bytes are to be.
+#[derive(Clone, Copy)]
+enum Kind {
+    Packet,
+    Log,
 }
 
-/// That a log is judged so.
-fn expect_log(rt: &impl Abort, alloc: Global, bytes: &[u8]) {
-    assert_eq!(rt; read(alloc, bytes), log_wrong_at(bytes));
-}
-
-fn damage_packet(rt: &impl Abort, alloc: Global, bytes: &[u8]) -> Result<(), Memory> {
-    let mut text: Text = Items::from_slice(alloc, bytes)?;
-    for (at, old) in bytes.iter().enumerate() {
-        for byte in 0..=255 {
-            text.set(at, byte);
-            expect_packet(rt, alloc, text.as_slice());
-        }
-        text.set(at, *old);
-        expect_packet(rt, alloc, &bytes[..at]);
+/// What the product finds.
+fn product(alloc: Global, kind: Kind, bytes: &[u8]) -> Found {
+    match kind {
+        Kind::Packet => decoded(alloc, bytes),
+        Kind::Log => read(alloc, bytes),
     }
-    Ok(())
+}
+
+/// What the small reader finds.
+fn small_reader(alloc: Global, kind: Kind, bytes: &[u8]) -> Found {
+    match kind {
+        Kind::Packet => packet_wrong_at(alloc, bytes),
+        Kind::Log => Ok(log_wrong_at(bytes)),
+    }
+}
+
+/// Whether both find the same.
+fn agree(alloc: Global, kind: Kind, bytes: &[u8]) -> bool {
+    product(alloc, kind, bytes) == small_reader(alloc, kind, bytes)
+}
+
+/// Whether both find this place.
+fn find(alloc: Global, kind: Kind, bytes: &[u8], place: usize) -> bool {
+    product(alloc, kind, bytes) == Ok(Some(place)) && agree(alloc, kind, bytes)
+}
+
+/// Whether both find a place, and the same one.
+fn refuse(alloc: Global, kind: Kind, bytes: &[u8]) -> bool {
+    product(alloc, kind, bytes) != Ok(None) && agree(alloc, kind, bytes)
+}
+
+/// That both find the same where the byte at a place is changed to each value.
+fn expect_each_value(rt: &impl Abort, alloc: Global, kind: Kind, text: &mut Text, at: usize) {
+    for byte in 0..=255 {
+        text.set(at, byte);
+        assert!(rt; agree(alloc, kind, text.as_slice()), "byte {at} as {byte}");
+    }
+}
+
+/// That both find the same where each byte is changed, and a place where the bytes end before it.
+fn expect_each_byte(rt: &impl Abort, alloc: Global, kind: Kind, text: &mut Text, bytes: &[u8]) {
+    for (at, old) in bytes.iter().enumerate() {
+        expect_each_value(rt, alloc, kind, text, at);
+        text.set(at, *old);
+        assert!(rt; refuse(alloc, kind, &bytes[..at]), "{at} bytes");
+    }
+}
+
+/// That the bytes are right, and both find the same where they are damaged.
+fn expect_damage(rt: &impl Abort, alloc: Global, kind: Kind, bytes: &[u8]) {
+    let many = bytes.len();
+    assert!(rt; product(alloc, kind, bytes) == Ok(None), "all {many} bytes");
+    match Items::from_slice(alloc, bytes) {
+        Ok(mut text) => expect_each_byte(rt, alloc, kind, &mut text, bytes),
+        Err(_) => assert!(rt; false, "no memory"),
+    }
 }
 
 #[test]
-fn each_byte_of_a_packet(rt: HostRuntime) -> Result<(), Fail> {
-    for bytes in [message(), parcel(), full_parcel()] {
-        assert_eq!(rt; decoded(rt.alloc(), bytes), Ok(None));
-        damage_packet(&rt, rt.alloc(), bytes)?;
-    }
-    Ok(())
-}
-
-fn damage_log(rt: &impl Abort, alloc: Global, bytes: &[u8]) -> Result<(), Memory> {
-    let mut text: Text = Items::from_slice(alloc, bytes)?;
-    for (at, old) in bytes.iter().enumerate() {
-        for byte in 0..=255 {
-            text.set(at, byte);
-            expect_log(rt, alloc, text.as_slice());
-        }
-        text.set(at, *old);
-        expect_log(rt, alloc, &bytes[..at]);
-        assert!(rt; read(alloc, &bytes[..at]) != Ok(None));
-    }
-    Ok(())
+fn each_byte_of_a_packet(rt: HostRuntime) {
+    expect_damage(&rt, rt.alloc(), Kind::Packet, message());
+    expect_damage(&rt, rt.alloc(), Kind::Packet, parcel());
+    expect_damage(&rt, rt.alloc(), Kind::Packet, full_parcel());
 }
 
 #[test]
-fn each_byte_of_a_log(rt: HostRuntime) -> Result<(), Fail> {
-    assert_eq!(rt; read(rt.alloc(), log()), Ok(None));
-    damage_log(&rt, rt.alloc(), log())?;
-    Ok(())
+fn each_byte_of_a_log(rt: HostRuntime) {
+    expect_damage(&rt, rt.alloc(), Kind::Log, log());
+}
+
+/// That the first wrong fields are at these places.
+fn expect_places(rt: &impl Abort, alloc: Global, kind: Kind, rows: &[(&[u8], usize)]) {
+    for (index, (bytes, place)) in rows.iter().enumerate() {
+        assert!(rt; find(alloc, kind, *bytes, *place), "row {index}");
+    }
 }
 
 /// The table, judged by the product and by the small reader.
 #[test]
 fn the_first_wrong_field(rt: HostRuntime) {
-    let alloc = rt.alloc();
-    for (bytes, place) in packets() {
-        assert_eq!(rt; decoded(alloc, *bytes), Ok(Some(*place)));
-        assert_eq!(rt; packet_wrong_at(alloc, *bytes), Ok(Some(*place)));
-    }
-    for (bytes, place) in logs() {
-        assert_eq!(rt; read(alloc, *bytes), Ok(Some(*place)));
-        assert_eq!(rt; log_wrong_at(*bytes), Ok(Some(*place)));
-    }
+    expect_places(&rt, rt.alloc(), Kind::Packet, packets());
+    expect_places(&rt, rt.alloc(), Kind::Log, logs());
 }

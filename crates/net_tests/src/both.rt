@@ -1,10 +1,9 @@
 // A network, and a book that makes the same events.
 ghost use Rattle.env_store.specs.Reading.{IsCodeOf};
 
-use chem_model::{Event, Memory, Out, Program};
+use chem_model::{Event, Out, Program};
 use env_store::Code;
 use guard_compile::compile;
-use join_base::Front;
 use net_core::{Choice, Net};
 use std::alloc::Global;
 use trace_history::{Book, Commit};
@@ -23,38 +22,36 @@ pub struct Both {
 }
 
 /// What became of a choice: it was made, and the book made its event too, where it is one; it isn't
-/// enabled, or there are too many events; or the book doesn't make its event.
-#[derive(Clone, Copy, PartialEq, Eq, Debug)]
+/// enabled, or there are too many events; the book doesn't make its event; or there was no memory.
+#[derive(Clone, Copy, PartialEq, Eq)]
 pub enum Step {
     Made,
     Not,
     Refused,
+    NoMemory,
 }
 
-/// The network of a text after its opening.
-pub fn net_of(alloc: Global, text: &[u8]) -> Result<Box<Net>, Front> {
-    let program = program_of(alloc, text)?;
-    let code = Box::new(alloc, compile(alloc, &program)?)?;
-    Ok(net_with(alloc, &program, &code)?)
-}
-
-fn net_with(alloc: Global, program: &Program, code: &Code) -> Result<Box<Net>, Memory>
+fn net_with(alloc: Global, program: &Program, code: &Code) -> Option<Box<Net>>
     requires { IsCodeOf program.now code.now }
 {
-    let net = Net::start(alloc, program, code)?;
-    Ok(Box::new(alloc, net)?)
+    match Net::start(alloc, program, code) {
+        Ok(net) => Box::new(alloc, net).ok(),
+        Err(_) => None,
+    }
 }
 
-fn book_with(alloc: Global, program: &Program) -> Result<Box<Book>, Memory> {
-    let book = Book::start(alloc, program)?;
-    Ok(Box::new(alloc, book)?)
+fn book_with(alloc: Global, program: &Program) -> Option<Box<Book>> {
+    match Book::start(alloc, program) {
+        Ok(book) => Box::new(alloc, book).ok(),
+        Err(_) => None,
+    }
 }
 
-fn both_with(alloc: Global, program: &Program, code: &Code) -> Result<Both, Memory>
+fn both_with(alloc: Global, program: &Program, code: &Code) -> Option<Both>
     requires { IsCodeOf program.now code.now }
 {
     let net = net_with(alloc, program, code)?;
-    Ok(Both {
+    Some(Both {
         net,
         book: book_with(alloc, program)?,
         sites: program.sites.len() as u32,
@@ -62,20 +59,28 @@ fn both_with(alloc: Global, program: &Program, code: &Code) -> Result<Both, Memo
     })
 }
 
-/// The network and the book of a text, each after its opening.
-pub fn both_of(alloc: Global, text: &[u8]) -> Result<Both, Front> {
-    let program = program_of(alloc, text)?;
-    let code = Box::new(alloc, compile(alloc, &program)?)?;
-    Ok(both_with(alloc, &program, &code)?)
+/// The network of a text after its opening.
+pub fn net_of(alloc: Global, text: &[u8]) -> Option<Box<Net>> {
+    let program = program_of(alloc, text).ok()?;
+    let code = Box::new(alloc, compile(alloc, &program).ok()?).ok()?;
+    net_with(alloc, &program, &code)
 }
 
-fn commit(alloc: Global, book: &mut Book, event: &Event) -> Result<Step, Memory> {
+/// The network and the book of a text, each after its opening.
+pub fn both_of(alloc: Global, text: &[u8]) -> Option<Both> {
+    let program = program_of(alloc, text).ok()?;
+    let code = Box::new(alloc, compile(alloc, &program).ok()?).ok()?;
+    both_with(alloc, &program, &code)
+}
+
+fn commit(alloc: Global, book: &mut Book, event: &Event) -> Step {
     if book.journal().len() >= MOST_EVENTS as usize {
-        return Ok(Step::Not);
+        return Step::Not;
     }
-    match book.commit(alloc, event)? {
-        Commit::Place(_) => Ok(Step::Made),
-        Commit::NotEnabled => Ok(Step::Refused),
+    match book.commit(alloc, event) {
+        Ok(Commit::Place(_)) => Step::Made,
+        Ok(Commit::NotEnabled) => Step::Refused,
+        Err(_) => Step::NoMemory,
     }
 }
 
@@ -97,35 +102,40 @@ fn same_outs(one: &[Out], other: &[Out]) -> bool {
 
 impl Both {
     /// Makes a choice, and its event in the book.
-    pub fn make(&mut self, alloc: Global, choice: &Choice) -> Result<Step, Memory> {
+    pub fn make(&mut self, alloc: Global, choice: &Choice) -> Step {
         if self.net.events() >= MOST_EVENTS || !self.net.enabled(choice) {
-            return Ok(Step::Not);
+            return Step::Not;
         }
-        match self.net.act(alloc, choice)? {
-            Some(event) => commit(alloc, &mut self.book, &event),
-            None => Ok(Step::Made),
+        match self.net.act(alloc, choice) {
+            Ok(Some(event)) => commit(alloc, &mut self.book, &event),
+            Ok(None) => Step::Made,
+            Err(_) => Step::NoMemory,
         }
     }
 
     /// Delivers what is under way, the first packet first. No event comes of it.
-    pub fn deliver_all(&mut self, alloc: Global) -> Result<Step, Memory> {
+    pub fn deliver_all(&mut self, alloc: Global) -> Step {
         for _ in 0..MOST_EVENTS {
             if self.net.flights() == 0 {
-                return Ok(Step::Made);
+                return Step::Made;
             }
-            let step = self.make(alloc, &Choice::Deliver { flight: 0 })?;
+            let step = self.make(alloc, &Choice::Deliver { flight: 0 });
             if step != Step::Made {
-                return Ok(step);
+                return step;
             }
         }
-        Ok(Step::Not)
+        Step::Not
     }
 
     /// Whether the network and the book have the same trace, and the book is quiet exactly where
     /// the network has no next choice.
-    pub fn agree(&self, alloc: Global) -> Result<bool, Memory> {
-        let trace = self.net.trace(alloc)?;
-        let same = same_outs(trace.as_slice(), self.book.trace().as_slice());
-        Ok(same && self.net.next().is_none() == self.book.quiet())
+    pub fn agree(&self, alloc: Global) -> bool {
+        match self.net.trace(alloc) {
+            Ok(trace) => {
+                same_outs(trace.as_slice(), self.book.trace().as_slice())
+                    && self.net.next().is_none() == self.book.quiet()
+            }
+            Err(_) => false,
+        }
     }
 }

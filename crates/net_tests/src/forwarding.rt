@@ -1,8 +1,7 @@
 // A packet that is forwarded after a move, and lists of choices that are played.
 
 use crate::both::{Both, Step, both_of, net_of};
-use chem_model::{AtomId, Event, Memory, RuleId};
-use join_base::Front;
+use chem_model::{AtomId, Event, RuleId};
 use net_core::{Choice, Net, PlayStop, Played};
 use std::alloc::Global;
 
@@ -23,29 +22,22 @@ fn move_of(k: u64) -> Choice {
     Choice::Move { atom: atom(0, k) }
 }
 
-/// How many of these choices are made, one after another.
-fn make_all(alloc: Global, both: &mut Both, choices: &[Choice]) -> Result<usize, Memory> {
-    for (at, choice) in choices.iter().enumerate() {
-        if both.make(alloc, choice)? != Step::Made {
-            return Ok(at);
+/// Whether these choices are made, one after another.
+fn make_all(alloc: Global, both: &mut Both, choices: &[Choice]) -> bool {
+    for choice in choices {
+        if both.make(alloc, choice) != Step::Made {
+            return false;
         }
     }
-    Ok(choices.len())
+    true
 }
 
-/// Whether what comes next is made so many times.
-fn make_next(alloc: Global, both: &mut Both, times: u32) -> Result<bool, Memory> {
-    for _ in 0..times {
-        match both.net.next() {
-            Some(choice) => {
-                if both.make(alloc, &choice)? != Step::Made {
-                    return Ok(false);
-                }
-            }
-            None => return Ok(false),
-        }
+/// Whether there is a next choice, and it is made.
+fn make_next(alloc: Global, both: &mut Both) -> bool {
+    match both.net.next() {
+        Some(choice) => both.make(alloc, &choice) == Step::Made,
+        None => false,
     }
-    Ok(true)
 }
 
 fn is_move(event: Option<&Event>, moved: AtomId) -> bool {
@@ -73,61 +65,65 @@ fn are_forwarded(events: &[Event]) -> bool {
         && is_react(events.get(2), 5, atom(1, 1))
 }
 
-/// How many packets are under way after the opening, how many of the three choices are made,
-/// whether the two that come next are, whether the events are the right ones, and whether the
-/// network and the book agree where nothing is left.
-fn forward(alloc: Global, both: &mut Both) -> Result<(u32, usize, bool, bool, bool), Memory> {
-    let packets = both.net.flights();
+/// Whether one packet is under way after the opening, the three choices are made and two more that
+/// come next, the events are the right ones, and the network and the book agree where nothing is
+/// left.
+fn forward(alloc: Global, both: &mut Both) -> bool {
     let deliver = Choice::Deliver { flight: 0 };
-    let made = make_all(alloc, both, &[move_of(6), deliver, deliver])?;
-    let next = make_next(alloc, both, 2)?;
-    let right = are_forwarded(both.book.journal().as_slice());
-    let agree = both.agree(alloc)? && both.net.next().is_none();
-    Ok((packets, made, next, right, agree))
+    both.net.flights() == 1
+        && make_all(alloc, both, &[move_of(6), deliver, deliver])
+        && make_next(alloc, both)
+        && make_next(alloc, both)
+        && is_forwarded(alloc, both)
 }
 
-fn forwarded(alloc: Global) -> Result<(u32, usize, bool, bool, bool), Front> {
-    let mut both = both_of(alloc, FORWARDED.as_bytes())?;
-    Ok(forward(alloc, &mut both)?)
+fn is_forwarded(alloc: Global, both: &Both) -> bool {
+    are_forwarded(both.book.journal().as_slice()) && both.agree(alloc) && both.net.next().is_none()
+}
+
+fn forwarded(alloc: Global) -> bool {
+    match both_of(alloc, FORWARDED.as_bytes()) {
+        Some(mut both) => forward(alloc, &mut both),
+        None => false,
+    }
 }
 
 /// The first delivery forwards the packet to the site to which the location went, and the second
 /// puts it there.
 #[test]
 fn a_packet_is_forwarded_after_a_move(rt: HostRuntime) {
-    assert_eq!(rt; forwarded(rt.alloc()), Ok((1, 3, true, true, true)));
+    assert!(rt; forwarded(rt.alloc()));
 }
 
 /// Plays a list of few choices, where there were few events.
-fn play(alloc: Global, net: &mut Net, choices: &[Choice]) -> Result<Played, Memory> {
+fn play(alloc: Global, net: &mut Net, choices: &[Choice]) -> Option<Played> {
     if net.events() > 1000 || choices.len() > 1000 {
-        return Err(Memory);
+        return None;
     }
-    Ok(net.play(alloc, choices))
+    Some(net.play(alloc, choices))
 }
 
 /// How many events come of a list of choices, how many of these are made, and how it stops.
-fn played(alloc: Global, choices: &[Choice]) -> Result<(usize, u64, PlayStop), Front> {
+fn played(alloc: Global, choices: &[Choice]) -> Option<(usize, u64, PlayStop)> {
     let mut net = net_of(alloc, MOVED.as_bytes())?;
     let played = play(alloc, &mut net, choices)?;
-    Ok((played.events.len(), played.done, played.stop))
+    Some((played.events.len(), played.done, played.stop))
 }
 
 #[test]
 fn a_request_is_met_once(rt: HostRuntime) {
     let go = move_of(4);
-    assert_eq!(rt; played(rt.alloc(), &[go]), Ok((1, 1, PlayStop::All)));
-    assert_eq!(rt;
-        played(rt.alloc(), &[go, go]),
-        Ok((1, 1, PlayStop::NotEnabled))
-    );
+    let once = played(rt.alloc(), &[go]);
+    assert!(rt; once == Some((1, 1, PlayStop::All)));
+    let twice = played(rt.alloc(), &[go, go]);
+    assert!(rt; twice == Some((1, 1, PlayStop::NotEnabled)));
 }
 
 /// What comes next once the location has moved.
-fn next_after_move(alloc: Global) -> Result<Option<Choice>, Front> {
+fn next_after_move(alloc: Global) -> Option<Choice> {
     let mut net = net_of(alloc, MOVED.as_bytes())?;
     let _played = play(alloc, &mut net, &[move_of(4)])?;
-    Ok(net.next())
+    net.next()
 }
 
 /// Whether these are the move and the reaction of what comes of it.
@@ -137,23 +133,33 @@ fn are_moved(events: &[Event]) -> bool {
         && is_react(events.get(1), 3, atom(1, 1))
 }
 
-/// Whether the two events of a move and this choice are the right ones, how they stop, and whether
-/// nothing comes next.
-fn moved_and(alloc: Global, then: Choice) -> Result<(bool, PlayStop, bool), Front> {
-    let mut net = net_of(alloc, MOVED.as_bytes())?;
-    let played = play(alloc, &mut net, &[move_of(4), then])?;
-    let right = are_moved(played.events.as_slice());
-    Ok((right, played.stop, net.next().is_none()))
+/// Whether a list of choices is made, and its events are a move and that reaction.
+fn is_moved(played: &Played) -> bool {
+    are_moved(played.events.as_slice()) && played.stop == PlayStop::All
+}
+
+/// Whether these two choices are made, and nothing comes next.
+fn move_and(alloc: Global, net: &mut Net, then: Choice) -> bool {
+    match play(alloc, net, &[move_of(4), then]) {
+        Some(played) => is_moved(&played) && net.next().is_none(),
+        None => false,
+    }
+}
+
+fn moved_and(alloc: Global, then: Choice) -> bool {
+    match net_of(alloc, MOVED.as_bytes()) {
+        Some(mut net) => move_and(alloc, &mut net, then),
+        None => false,
+    }
 }
 
 #[test]
 fn a_move_and_the_reaction_that_comes_next(rt: HostRuntime) {
-    let next = next_after_move(rt.alloc());
-    assert!(rt; matches!(next, Ok(Some(Choice::React { .. }))));
-    if let Ok(Some(then)) = next {
-        assert_eq!(rt;
-            moved_and(rt.alloc(), then),
-            Ok((true, PlayStop::All, true))
-        );
+    match next_after_move(rt.alloc()) {
+        Some(then) => {
+            assert!(rt; matches!(then, Choice::React { .. }));
+            assert!(rt; moved_and(rt.alloc(), then));
+        }
+        None => assert!(rt; false, "nothing comes next"),
     }
 }

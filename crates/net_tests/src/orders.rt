@@ -92,11 +92,17 @@ fn last_packet(both: &Both) -> Option<Choice> {
     })
 }
 
+/// The last event of a site.
+fn last_event(alloc: Global, both: &Both, site: u32) -> Result<Option<Choice>, Memory> {
+    let choices = events_of(alloc, both, site)?;
+    Ok(choices.as_slice().last().copied())
+}
+
 fn packets_last(alloc: Global, both: &Both) -> Result<Option<Choice>, Memory> {
     for site in 0..both.sites {
-        let choices = events_of(alloc, both, site)?;
-        if let Some(choice) = choices.as_slice().last() {
-            return Ok(Some(*choice));
+        let last = last_event(alloc, both, site)?;
+        if last.is_some() {
+            return Ok(last);
         }
     }
     Ok(both.net.next())
@@ -116,35 +122,38 @@ fn at_random(alloc: Global, both: &Both, number: u32) -> Result<Option<Choice>, 
 }
 
 impl Order {
-    /// The next choice, and the order from then on.
-    fn choose(self, alloc: Global, both: &Both) -> Result<(Option<Choice>, Order), Memory> {
+    /// The next choice.
+    fn choice(self, alloc: Global, both: &Both) -> Result<Option<Choice>, Memory> {
         match self {
-            Order::Next => Ok((both.net.next(), self)),
-            Order::LastPacket => Ok((last_packet(both), self)),
-            Order::PacketsLast => Ok((packets_last(alloc, both)?, self)),
-            Order::Seeded(seed) => {
-                let choice = at_random(alloc, both, seed)?;
-                Ok((choice, Order::Seeded(following(seed))))
-            }
+            Order::Next => Ok(both.net.next()),
+            Order::LastPacket => Ok(last_packet(both)),
+            Order::PacketsLast => packets_last(alloc, both),
+            Order::Seeded(seed) => at_random(alloc, both, seed),
+        }
+    }
+
+    /// The order from then on.
+    fn then(self) -> Order {
+        match self {
+            Order::Seeded(seed) => Order::Seeded(following(seed)),
+            _ => self,
         }
     }
 }
 
 /// Makes so many choices at most, or all that come.
-pub fn run(alloc: Global, both: &mut Both, order: Order, most: u32) -> Result<Step, Memory> {
+pub fn run(alloc: Global, both: &mut Both, order: Order, most: u32) -> Step {
     let mut order = order;
     for _ in 0..most {
-        let (choice, then) = order.choose(alloc, both)?;
-        order = then;
-        match choice {
-            Some(choice) => {
-                let step = both.make(alloc, &choice)?;
-                if step != Step::Made {
-                    return Ok(step);
-                }
-            }
-            None => return Ok(Step::Made),
+        let step = match order.choice(alloc, both) {
+            Ok(Some(choice)) => both.make(alloc, &choice),
+            Ok(None) => return Step::Made,
+            Err(_) => Step::NoMemory,
+        };
+        if step != Step::Made {
+            return step;
         }
+        order = order.then();
     }
-    Ok(Step::Made)
+    Step::Made
 }

@@ -1,8 +1,7 @@
 // Rounds: each site is lent to one of some workers. The expected events were worked out by hand.
 
 use crate::both::net_of;
-use chem_model::{AtomId, Event, Journal, Memory, RuleId};
-use join_base::Front;
+use chem_model::{AtomId, Event, Journal, RuleId};
 use net_core::{Choice, Net};
 use std::alloc::Global;
 use std::thread::Threads;
@@ -30,12 +29,12 @@ fn round<R: Threads + Sync>(
     alloc: Global,
     net: Box<Net>,
     workers: u32,
-) -> Result<(Box<Net>, Journal), Memory> {
+) -> Option<(Box<Net>, Journal)> {
     if net.events() > 1_000 || net.sites() > 1_000 || workers == 0 || workers > 16 {
-        return Err(Memory);
+        return None;
     }
-    let (net, journal) = Box::into_inner(net).round(rt, alloc, workers, QUOTA)?;
-    Ok((Box::new(alloc, net)?, journal))
+    let (net, journal) = Box::into_inner(net).round(rt, alloc, workers, QUOTA).ok()?;
+    Some((Box::new(alloc, net).ok()?, journal))
 }
 
 /// The rule of a reaction and the first message that it takes.
@@ -65,15 +64,18 @@ fn are_by_site(events: &[Event]) -> bool {
         && is_reaction(&events[3], 1, 4)
 }
 
-fn two_sites<R: Threads + Sync>(rt: &R, alloc: Global) -> Result<bool, Front> {
+fn events_of_two_sites<R: Threads + Sync>(rt: &R, alloc: Global) -> Option<Journal> {
     let net = net_of(alloc, TWO_SITES.as_bytes())?;
     let (_net, journal) = round(rt, alloc, net, 2)?;
-    Ok(are_by_site(journal.as_slice()))
+    Some(journal)
 }
 
 #[test]
 fn the_events_of_a_site_stand_together(rt: HostRuntime) {
-    assert_eq!(rt; two_sites(&rt, rt.alloc()), Ok(true));
+    match events_of_two_sites(&rt, rt.alloc()) {
+        Some(journal) => assert!(rt; are_by_site(journal.as_slice())),
+        None => assert!(rt; false, "no round"),
+    }
 }
 
 /// The reaction that opens a location at the first site.
@@ -84,56 +86,78 @@ fn opening_of(net: &Net) -> Option<Choice> {
     net.opening_at(0)
 }
 
-fn opening(alloc: Global, text: &str) -> Result<Option<Choice>, Front> {
-    let net = net_of(alloc, text.as_bytes())?;
-    Ok(opening_of(&net))
+/// Whether the reaction that opens a location is one of this site, or there is none.
+fn opens_at(alloc: Global, text: &str, wanted: Option<u32>) -> bool {
+    match net_of(alloc, text.as_bytes()) {
+        Some(net) => is_opening(opening_of(&net), wanted),
+        None => false,
+    }
+}
+
+fn is_opening(found: Option<Choice>, wanted: Option<u32>) -> bool {
+    match found {
+        Some(Choice::React { site, .. }) => wanted == Some(site),
+        Some(_) => false,
+        None => wanted.is_none(),
+    }
 }
 
 /// Whether a choice of a network without an event is the reaction of this one message.
-fn is_made(alloc: Global, net: &mut Net, choice: &Choice) -> Result<bool, Memory> {
+fn is_made(alloc: Global, net: &mut Net, choice: &Choice) -> bool {
     if net.events() > 0 || !net.enabled(choice) {
-        return Ok(false);
+        return false;
     }
-    match net.act(alloc, choice)? {
-        Some(event) => Ok(is_reaction(&event, 0, 3)),
-        None => Ok(false),
+    match net.act(alloc, choice) {
+        Ok(Some(event)) => is_reaction(&event, 0, 3),
+        _ => false,
     }
 }
 
-fn opened(alloc: Global) -> Result<bool, Front> {
-    let mut net = net_of(alloc, OPENS.as_bytes())?;
-    match opening_of(&net) {
-        Some(choice) => Ok(is_made(alloc, &mut net, &choice)?),
-        None => Ok(false),
+/// Whether the first site's opening reaction is made.
+fn make_opening(alloc: Global, net: &mut Net) -> bool {
+    match opening_of(net) {
+        Some(choice) => is_made(alloc, net, &choice),
+        None => false,
+    }
+}
+
+fn opened(alloc: Global) -> bool {
+    match net_of(alloc, OPENS.as_bytes()) {
+        Some(mut net) => make_opening(alloc, &mut net),
+        None => false,
     }
 }
 
 #[test]
 fn a_reaction_that_opens_a_location(rt: HostRuntime) {
-    let found = opening(rt.alloc(), OPENS);
-    assert!(rt; matches!(found, Ok(Some(Choice::React { site: 0, .. }))));
-    assert_eq!(rt; opening(rt.alloc(), TWO_SITES), Ok(None));
-    assert_eq!(rt; opened(rt.alloc()), Ok(true));
+    assert!(rt; opens_at(rt.alloc(), OPENS, Some(0)));
+    assert!(rt; opens_at(rt.alloc(), TWO_SITES, None));
+    assert!(rt; opened(rt.alloc()));
 }
 
-/// How many choices there are, and whether the first one is this move.
-fn are_move(choices: &[Choice], k: u64) -> (usize, bool) {
+/// Whether the only choice is this move.
+fn are_move(choices: &[Choice], k: u64) -> bool {
     let atom = AtomId { site: 0, k };
-    (
-        choices.len(),
-        choices.first() == Some(&Choice::Move { atom }),
-    )
+    choices.len() == 1 && choices.first() == Some(&Choice::Move { atom })
 }
 
-fn asked(alloc: Global) -> Result<(usize, bool), Front> {
-    let net = net_of(alloc, MOVES.as_bytes())?;
-    let choices = net.asks(alloc)?;
-    Ok(are_move(choices.as_slice(), 4))
+fn asks_to_move(alloc: Global, net: &Net) -> bool {
+    match net.asks(alloc) {
+        Ok(choices) => are_move(choices.as_slice(), 4),
+        Err(_) => false,
+    }
+}
+
+fn asked(alloc: Global) -> bool {
+    match net_of(alloc, MOVES.as_bytes()) {
+        Some(net) => asks_to_move(alloc, &net),
+        None => false,
+    }
 }
 
 #[test]
 fn the_request_of_a_location(rt: HostRuntime) {
-    assert_eq!(rt; asked(rt.alloc()), Ok((1, true)));
+    assert!(rt; asked(rt.alloc()));
 }
 
 fn with_number(all: u64, number: u64) -> u64 {
@@ -168,11 +192,11 @@ fn next_round<R: Threads + Sync>(
     alloc: Global,
     net: Box<Net>,
     workers: u32,
-) -> Result<(Box<Net>, Left), Memory> {
+) -> Option<(Box<Net>, Left)> {
     let (net, journal) = round(rt, alloc, net, workers)?;
     let events = journal.as_slice();
     let left = (number_of(events), events.len(), net.flights());
-    Ok((net, left))
+    Some((net, left))
 }
 
 /// What two rounds leave after the move, and how many observables there are then.
@@ -180,19 +204,19 @@ fn two_rounds<R: Threads + Sync>(
     rt: &R,
     alloc: Global,
     workers: u32,
-) -> Result<(Left, Left, usize), Front> {
+) -> Option<(Left, Left, usize)> {
     let mut net = net_of(alloc, MANY.as_bytes())?;
     make_move(alloc, &mut net);
     let (net, first) = next_round(rt, alloc, net, workers)?;
     let (net, second) = next_round(rt, alloc, net, workers)?;
-    let outs = net.trace(alloc)?;
-    Ok((first, second, outs.len()))
+    let outs = net.trace(alloc).ok()?;
+    Some((first, second, outs.len()))
 }
 
 #[test]
 fn the_workers_are_not_seen(rt: HostRuntime) {
     let one = two_rounds(&rt, rt.alloc(), 1);
-    assert_eq!(rt; two_rounds(&rt, rt.alloc(), 2), one);
-    assert_eq!(rt; two_rounds(&rt, rt.alloc(), 16), one);
-    assert!(rt; matches!(one, Ok(((_, 6, 2), (_, 4, 0), 9))));
+    assert!(rt; two_rounds(&rt, rt.alloc(), 2) == one);
+    assert!(rt; two_rounds(&rt, rt.alloc(), 16) == one);
+    assert!(rt; matches!(one, Some(((_, 6, 2), (_, 4, 0), 9))));
 }
