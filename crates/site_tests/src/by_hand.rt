@@ -1,12 +1,12 @@
 // Calls whose arguments are made by hand, each with a test of what it needs before it.
-ghost use Rattle.std.specs.Prelude.{◌≡◌, ◌<◌, ◌∷◌, [], length, slice_get, option_copied};
+ghost use Rattle.std.specs.Prelude.{◌≡◌, ◌<◌, ◌≤◌, ◌∷◌, [], length, slice_get, option_copied};
 ghost use Rattle.std.specs.Prelude.{IsTrue, IfOk, IfSome};
 ghost use Rattle.chem_model.specs.declared.name.Name.TheVariants as name;
 ghost use Rattle.env_store.specs.CodeFacts.{IsCode, IsBodyAt};
 ghost use Rattle.net_laws.specs.ByCode.{counts_at, guards_at};
 
 use crate::calls::{draws, fit};
-use crate::texts::bear;
+use crate::net::{Pair, loc};
 use chem_model::{AtomId, Items, Loc, Memory, Name, Names, Nums, RuleId};
 use env_store::{Code, Guard, Level};
 use loc_tree::LocTree;
@@ -14,12 +14,6 @@ use site_solution::{Effects, Site, message_is_there, site_is_kept};
 use std::alloc::Global;
 use std::process::Abort;
 use wire_packet::{Ask, GroupInst, Msg, Parcel, Request};
-
-/// A site that hosts its root alone.
-pub fn empty_site(alloc: Global) -> Result<Box<Site>, Memory> {
-    let site = Site::empty(alloc, 0)?;
-    Ok(Box::new(alloc, site)?)
-}
 
 /// Names that are one location.
 pub fn names_of(alloc: Global, place: Loc) -> Result<Names, Memory>
@@ -30,44 +24,28 @@ pub fn names_of(alloc: Global, place: Loc) -> Result<Names, Memory>
     Ok(names)
 }
 
-/// A message without arguments.
-pub fn bare(alloc: Global, id: AtomId, on: Name) -> Msg {
-    Msg {
-        id,
-        on,
-        args: Items::new(alloc),
+/// Names that are this location, or none.
+pub fn args_of(alloc: Global, place: Option<Pair>) -> Result<Names, Memory>
+    ensures { IfOk result (λ names. length names ≤ 255) }
+{
+    match place {
+        Some(place) => names_of(alloc, loc(place)),
+        None => Ok(Items::new(alloc)),
     }
 }
 
-/// A message with one location.
-pub fn message(alloc: Global, id: AtomId, on: Name, place: Loc) -> Result<Msg, Memory> {
-    let args = names_of(alloc, place)?;
-    Ok(Msg { id, on, args })
-}
-
-/// A tree of so many roots, with a location that is born under one of them.
-pub fn tree_with(
-    rt: &impl Abort,
-    alloc: Global,
-    roots: u32,
-    loc: Loc,
-    under: u32,
-) -> Result<LocTree, Memory> {
-    let mut tree = LocTree::start(alloc, roots)?;
-    bear(rt, alloc, &mut tree, loc, under)?;
-    Ok(tree)
-}
-
-/// Puts a message on a channel with this home.
+/// Puts a message on the channel with this number and home, with this location or without
+/// arguments.
 pub fn put_at(
     rt: &impl Abort,
+    alloc: Global,
     site: &mut Site,
     id: AtomId,
     k: u64,
     home: Loc,
-    args: Names,
+    arg: Option<Pair>,
 ) -> Result<(), Memory> {
-    assert!(rt; args.len() <= 255);
+    let args = args_of(alloc, arg)?;
     let msg = Msg {
         id,
         on: Name::Chan { site: 0, k, home },
@@ -75,7 +53,13 @@ pub fn put_at(
     };
     assert!(rt; site.has(&home));
     assert!(rt; !site.has_atom(&msg.id));
-    site.put(&home, msg).map_err(|back| back.1)
+    match site.put(&home, msg) {
+        Ok(()) => Ok(()),
+        Err((msg, memory)) => {
+            drop(msg);
+            Err(memory)
+        }
+    }
 }
 
 // The level is there, and has few channels and guards.
@@ -130,11 +114,6 @@ pub fn ask_at(
     site.ask(request)
 }
 
-/// Asks for a halt.
-pub fn ask_halt(rt: &impl Abort, site: &mut Site, id: AtomId, loc: Loc) -> Result<(), Memory> {
-    ask_at(rt, site, id, loc, Ask::Halt)
-}
-
 pub fn host_at(rt: &impl Abort, site: &mut Site, loc: Loc) -> Result<(), Memory> {
     assert!(rt; !site.has(&loc));
     site.host(&loc)
@@ -143,6 +122,20 @@ pub fn host_at(rt: &impl Abort, site: &mut Site, loc: Loc) -> Result<(), Memory>
 pub fn drop_at(rt: &impl Abort, site: &mut Site, atom: AtomId) {
     assert!(rt; site.request(&atom).is_some());
     site.drop_request(&atom);
+}
+
+/// Takes the message in front of the first channel of the first group.
+pub fn take_at(rt: &impl Abort, site: &mut Site) {
+    assert!(rt; 0 < site.groups());
+    assert!(rt; 0 < site.width(0));
+    assert!(rt; site.front(0, 0).is_some());
+    site.take_front(0, 0);
+}
+
+/// Draws so many numbers, and answers the first.
+pub fn draw_at(rt: &impl Abort, site: &mut Site, more: u32) -> u64 {
+    assert!(rt; site.made() < 1000);
+    site.draw(more)
 }
 
 /// Pours one message at a location.
@@ -167,6 +160,24 @@ pub fn emit_at(
     assert!(rt; message_is_there(tree, &told));
     let Msg { id: _, on, args } = told;
     site.emit(alloc, tree, counts, &loc, on, args)
+}
+
+/// Pours one message at the root of the site, whose argument is this location or none.
+pub fn emit_root(
+    rt: &impl Abort,
+    alloc: Global,
+    site: &mut Site,
+    code: &Code,
+    tree: &LocTree,
+    on: Name,
+    arg: Option<Pair>,
+) -> Result<Effects, Memory> {
+    let args = args_of(alloc, arg)?;
+    let root = Loc {
+        site: site.number(),
+        k: 0,
+    };
+    emit_at(rt, alloc, site, tree, &code.seen, root, on, args)
 }
 
 fn guard_at(code: &Code, number: usize) -> Option<&Guard>

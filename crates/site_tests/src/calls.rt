@@ -4,15 +4,14 @@ ghost use Rattle.site_solution.specs.InTree.{is_in_tree};
 ghost use Rattle.site_solution.specs.InCode.{is_in_code};
 ghost use Rattle.site_solution.specs.Draws.{CanDraw};
 
-use crate::texts::bear_all;
-use chem_model::{AtomId, Event, Memory, Nums, RuleId};
+use chem_model::{AtomId, Event, Memory, Nums};
 use env_store::Code;
 use failure::{dead_for, detect, halt, halt_ready};
 use loc_tree::LocTree;
 use migration::{can_join, leads_into, move_between, move_ready, move_within};
 use reducer::{event_of, react, ready};
 use router::{Delivery, can_deliver, deliver};
-use site_solution::{Effects, Search, Site};
+use site_solution::{Effects, Site};
 use std::alloc::Global;
 use std::process::Abort;
 use wire_packet::Msg;
@@ -48,73 +47,47 @@ pub fn event_at(
     }
 }
 
+/// Whether nothing is ready at a site.
+pub fn is_quiet(rt: &impl Abort, site: &Site, code: &Code, tree: &LocTree) -> bool {
+    fit(rt, site, code, tree);
+    ready(site, code, tree).is_none()
+}
+
 /// The site makes what is ready.
 pub fn react_at(
     rt: &impl Abort,
     alloc: Global,
     site: &mut Site,
     code: &Code,
-    tree: &mut LocTree,
-) -> Result<Option<Effects>, Memory> {
+    tree: &LocTree,
+) -> Result<Effects, Memory> {
     fit(rt, site, code, tree);
     draws(rt, site, tree);
     match ready(site, code, tree) {
-        Some(pick) => {
-            let effects = react(alloc, site, code, tree, &pick)?;
-            bear_all(rt, alloc, tree, &effects, site.number())?;
-            Ok(Some(effects))
-        }
-        None => Ok(None),
+        Some(pick) => react(alloc, site, code, tree, &pick),
+        None => Err(Memory),
     }
 }
 
-/// What is ready is the reaction of this rule with these atoms.
-pub fn expect_event(
-    rt: &impl Abort,
-    alloc: Global,
-    site: &Site,
-    code: &Code,
-    tree: &LocTree,
-    rule: RuleId,
-    took: &[AtomId],
-) -> Result<(), Memory> {
-    match event_at(rt, alloc, site, code, tree)? {
-        Some(
-            Event::React {
-                rule: found,
-                took: atoms,
-            },
-        ) => {
-            assert_eq!(rt; found, rule);
-            assert_eq!(rt; atoms.as_slice(), took);
-        }
-        _ => assert!(rt; false),
-    }
-    Ok(())
-}
-
-/// The site's index tells something.
-pub fn expect_known(rt: &impl Abort, site: &Site, code: &Code, tree: &LocTree) {
-    assert!(rt; !matches!(site.least_covered(code, tree), Search::Unknown));
-}
-
-pub fn expect_quiet(rt: &impl Abort, site: &Site, code: &Code, tree: &LocTree) {
-    fit(rt, site, code, tree);
-    assert!(rt; ready(site, code, tree).is_none());
-}
-
-/// Delivers a message, or answers it with the site to which it goes on.
+/// Delivers a message. One that goes on is mail again, and the site to which it goes is answered.
 pub fn deliver_at(
     rt: &impl Abort,
     site: &mut Site,
     tree: &LocTree,
     msg: Msg,
-) -> Result<Option<(u32, Msg)>, Memory> {
+    mail: &mut Vec<Msg>,
+) -> Result<Option<u32>, Memory> {
     assert!(rt; can_deliver(site, tree, &msg));
     match deliver(site, tree, msg) {
         Ok(Delivery::Delivered) => Ok(None),
-        Ok(Delivery::Forward(target, msg)) => Ok(Some((target, msg))),
-        Err(back) => Err(back.1),
+        Ok(Delivery::Forward(target, msg)) => {
+            mail.push(msg)?;
+            Ok(Some(target))
+        }
+        Err((msg, memory)) => {
+            drop(msg);
+            Err(memory)
+        }
     }
 }
 
@@ -154,12 +127,20 @@ pub fn move_over(
     move_between(alloc, from, into, tree, code, &atom)
 }
 
+// The halt that a request asks for.
+fn is_halt(event: &Event, atom: AtomId) -> bool {
+    match event {
+        Event::Halt { atom: met } => *met == atom,
+        _ => false,
+    }
+}
+
 /// Meets a request to halt.
 pub fn halt_at(rt: &impl Abort, tree: &mut LocTree, site: &mut Site, atom: AtomId) {
     assert!(rt; site.in_tree(tree));
     assert!(rt; halt_ready(site, tree, &atom));
     let event = halt(tree, site, &atom);
-    assert!(rt; matches!(event, Event::Halt { atom: met } if met == atom));
+    assert!(rt; is_halt(&event, atom));
 }
 
 /// Meets a request to detect a failure.

@@ -1,58 +1,47 @@
 // A site that asks to halt, and to detect that it has halted. The expected values were worked out
 // by hand.
 
-use crate::by_hand::{ask_at, ask_halt, empty_site, host_at, tree_with};
-use crate::calls::halt_at;
-use crate::net::atom;
-use chem_model::{Loc, Memory, Name};
-use failure::{dead_for, halt_ready};
-use loc_tree::LocTree;
-use site_solution::Site;
-use std::process::Abort;
+use crate::net::Pair;
+use crate::shown::Look;
+use crate::steps::{Change, Place, Step, run_by_hand};
+use chem_model::{Loc, Name};
 use std::test::Fail;
 use wire_packet::Ask;
 
-const ROOT: Loc = Loc { site: 0, k: 0 };
+const ROOT: Pair = (0, 0);
 
-const BORN: Loc = Loc { site: 0, k: 1 };
+const BORN: Pair = (0, 1);
 
-// It hosts a location, and asks at the location to halt by 0.2, and at the root to detect by 0.3
-// that the location has halted.
-fn asks(rt: &impl Abort, site: &mut Site) -> Result<(), Memory> {
-    host_at(rt, site, BORN)?;
-    let fail = Ask::Fail {
-        target: Name::Place(BORN),
-        cont: Name::Place(ROOT),
-    };
-    ask_halt(rt, site, atom((0, 2)), BORN)?;
-    ask_at(rt, site, atom((0, 3)), ROOT, fail)
+fn one_site() -> &'static [u8] {
+    b"site s [ none : 0 ]"
 }
 
-fn expect_ready(rt: &impl Abort, site: &Site, tree: &LocTree, k: u64, want: bool) {
-    assert!(rt; site.in_tree(tree));
-    assert_eq!(rt; halt_ready(site, tree, &atom((0, k))), want);
-}
+const DETECTS: Ask = Ask::Fail {
+    target: Name::Place(Loc { site: 0, k: 1 }),
+    cont: Name::Place(Loc { site: 0, k: 0 }),
+};
 
-fn expect_dead(rt: &impl Abort, site: &Site, tree: &LocTree, k: u64, want: bool) {
-    assert!(rt; site.in_tree(tree));
-    assert_eq!(rt; dead_for(site, tree, &atom((0, k))).is_some(), want);
-}
+/// It hosts a location, and asks at the location to halt by 0.2, and at the root to detect by 0.3
+/// that the location has halted.
+const HALTS: &[Step] = &[
+    Step::Change(0, Change::Hosts(BORN)),
+    Step::Change(0, Change::Asks((0, 2), BORN, Ask::Halt)),
+    Step::Change(0, Change::Asks((0, 3), ROOT, DETECTS)),
+    Step::Tree(Place::Born(BORN, 0)),
+    Step::See(0, Look::MayHalt((0, 2), true)),
+    Step::See(0, Look::MayHalt((0, 3), false)),
+    Step::See(0, Look::FindsDead((0, 3), false)),
+    Step::Change(0, Change::Halts((0, 2))),
+    Step::See(0, Look::MayHalt((0, 2), false)),
+    Step::See(0, Look::FindsDead((0, 3), true)),
+    Step::See(0, Look::FindsDead((0, 2), false)),
+];
 
-fn halts(rt: &impl Abort, site: &mut Site, tree: &mut LocTree) {
-    expect_ready(rt, site, tree, 2, true);
-    expect_ready(rt, site, tree, 3, false);
-    expect_dead(rt, site, tree, 3, false);
-    halt_at(rt, tree, site, atom((0, 2)));
-    expect_ready(rt, site, tree, 2, false);
-    expect_dead(rt, site, tree, 3, true);
-    expect_dead(rt, site, tree, 2, false);
+fn halts() -> &'static [Step] {
+    HALTS
 }
 
 #[test]
 fn a_location_halts_and_this_is_detected(rt: HostRuntime) -> Result<(), Fail> {
-    let mut site = empty_site(rt.alloc())?;
-    asks(&rt, &mut site)?;
-    let mut tree = tree_with(&rt, rt.alloc(), 1, BORN, 0)?;
-    halts(&rt, &mut site, &mut tree);
-    Ok(())
+    run_by_hand(&rt, rt.alloc(), one_site(), halts())
 }

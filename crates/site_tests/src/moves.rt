@@ -2,13 +2,14 @@
 // the numbering and the format of packets.
 
 use crate::by_hand::take_in_at;
-use crate::net::{Net, Pair, drops, has_at, hosts, loc, net_of};
-use crate::steps::{Leaves, Look, Mail, Meets, Step, go, run};
-use chem_model::{Memory, Text};
+use crate::net::{Net, Pair, loc, net_of};
+use crate::shown::{Fact, Leaves, Look, packed};
+use crate::steps::{Change, Deed, Place, Step, go, run};
+use chem_model::{Loc, Memory, Name, Text};
 use std::alloc::Global;
 use std::process::Abort;
 use std::test::Fail;
-use wire_packet::{Packet, encode};
+use wire_packet::Parcel;
 
 /// The location that moves.
 const M: Pair = (0, 1);
@@ -26,45 +27,74 @@ fn parcel() -> &'static [u8] {
     ]
 }
 
-// Its request is dropped, and it is copied at the first site and taken in at the second one. Its
-// bytes.
-fn carried(rt: &impl Abort, alloc: Global, net: &mut Net) -> Result<Text, Memory> {
-    drops(rt, net, 0, (0, 4));
-    let Some(from) = net.sites.get(0) else {
-        return Err(Memory);
-    };
-    let packed = from.pack(alloc, &loc(M))?;
-    let Some(into) = net.sites.get_mut(1) else {
-        return Err(Memory);
-    };
-    take_in_at(rt, alloc, into, &net.code, &packed)?;
-    encode(alloc, &Packet::Parcel(packed))
+/// Its request is dropped.
+const BEFORE_IT_IS_CARRIED: &[Step] = &[Step::Change(0, Change::Drops((0, 4)))];
+
+fn before_it_is_carried() -> &'static [Step] {
+    BEFORE_IT_IS_CARRIED
 }
 
+// It stands at the first site as these bytes.
+fn expect_bytes(rt: &impl Abort, alloc: Global, net: &Net) -> Result<(), Memory> {
+    let bytes = at_first(alloc, net)?;
+    assert!(rt; bytes.as_slice() == parcel());
+    Ok(())
+}
+
+// What stands there, as bytes.
+fn at_first(alloc: Global, net: &Net) -> Result<Text, Memory> {
+    match net.sites.get(0) {
+        Some(from) => packed(alloc, from, loc(M)),
+        None => Err(Memory),
+    }
+}
+
+// A copy of what stands there.
+fn parcel_of(alloc: Global, net: &Net) -> Result<Parcel, Memory> {
+    match net.sites.get(0) {
+        Some(from) => from.pack(alloc, &loc(M)),
+        None => Err(Memory),
+    }
+}
+
+// It is copied at the first site and taken in at the second one.
 fn carries(rt: &impl Abort, alloc: Global, net: &mut Net) -> Result<(), Memory> {
-    let bytes = carried(rt, alloc, net)?;
-    assert_eq!(rt; bytes.as_slice(), parcel());
-    hosts(rt, net, 1, M, true);
-    has_at(rt, alloc, net, 1, M, 1, &[])
+    let parcel = parcel_of(alloc, net)?;
+    match net.sites.get_mut(1) {
+        Some(into) => take_in_at(rt, alloc, into, &net.code, &parcel),
+        None => Err(Memory),
+    }
+}
+
+const AFTER_IT_IS_CARRIED: &[Step] = &[
+    Step::Has(1, Fact::Hosts(M, true)),
+    Step::See(1, Look::Has(M, 1, &[])),
+];
+
+fn after_it_is_carried() -> &'static [Step] {
+    AFTER_IT_IS_CARRIED
 }
 
 #[test]
 fn a_location_in_a_parcel(rt: HostRuntime) -> Result<(), Fail> {
     let mut net = net_of(&rt, rt.alloc(), mover())?;
+    go(&rt, rt.alloc(), &mut net, before_it_is_carried())?;
+    expect_bytes(&rt, rt.alloc(), &net)?;
     carries(&rt, rt.alloc(), &mut net)?;
+    go(&rt, rt.alloc(), &mut net, after_it_is_carried())?;
     Ok(())
 }
 
 /// After the move the continuation is 1.1. A message that comes to the first site then follows.
 const TO_THE_OTHER_SITE: &[Step] = &[
-    Step::Meet(Meets::Across(0, (0, 4))),
-    Step::See(Look::Stands(M, 1, true)),
-    Step::See(Look::Hosts(0, M, false)),
-    Step::See(Look::Has(1, M, 1, &[(1, 1)])),
-    Step::Post(Mail::Bare((7, 7), ((0, 2), M))),
-    Step::Post(Mail::GoesOn(0, 1)),
-    Step::Post(Mail::Arrives(1)),
-    Step::See(Look::Has(1, M, 1, &[(1, 1), (7, 7)])),
+    Step::Across(0, (0, 4)),
+    Step::Tree(Place::Stands(M, 1, true)),
+    Step::Has(0, Fact::Hosts(M, false)),
+    Step::See(1, Look::Has(M, 1, &[(1, 1)])),
+    Step::Mail((7, 7), ((0, 2), M), None),
+    Step::GoesOn(0, 1),
+    Step::Arrives(1),
+    Step::See(1, Look::Has(M, 1, &[(1, 1), (7, 7)])),
     Step::React(1, (0, 3), &[(1, 1)], Leaves::Observed(M)),
 ];
 
@@ -74,8 +104,7 @@ fn to_the_other_site() -> &'static [Step] {
 
 #[test]
 fn a_move_between_sites(rt: HostRuntime) -> Result<(), Fail> {
-    run(&rt, rt.alloc(), mover(), to_the_other_site())?;
-    Ok(())
+    run(&rt, rt.alloc(), mover(), to_the_other_site())
 }
 
 fn neighbours() -> &'static [u8] {
@@ -85,11 +114,11 @@ fn neighbours() -> &'static [u8] {
 /// The locations are 0.1 and 0.3, with the requests 0.6 and 0.8; the target of the second one is no
 /// site.
 const TO_THE_PRESENT_HOST: &[Step] = &[
-    Step::Meet(Meets::Within(0, (0, 6))),
-    Step::See(Look::Stands(M, 0, true)),
-    Step::See(Look::Has(0, M, 1, &[(0, 9)])),
-    Step::See(Look::Has(0, (0, 3), 1, &[(0, 8)])),
-    Step::See(Look::MayGo(0, (0, 8), false)),
+    Step::Make(0, Deed::Goes((0, 6)), Leaves::Nothing),
+    Step::Tree(Place::Stands(M, 0, true)),
+    Step::See(0, Look::Has(M, 1, &[(0, 9)])),
+    Step::See(0, Look::Has((0, 3), 1, &[(0, 8)])),
+    Step::See(0, Look::MayGo((0, 8), false)),
 ];
 
 fn to_the_present_host() -> &'static [Step] {
@@ -98,8 +127,7 @@ fn to_the_present_host() -> &'static [Step] {
 
 #[test]
 fn a_move_to_the_present_host(rt: HostRuntime) -> Result<(), Fail> {
-    run(&rt, rt.alloc(), neighbours(), to_the_present_host())?;
-    Ok(())
+    run(&rt, rt.alloc(), neighbours(), to_the_present_host())
 }
 
 fn watched() -> &'static [u8] {
@@ -109,9 +137,9 @@ fn watched() -> &'static [u8] {
 
 /// The channel `d` is 0.1, the location 0.2, and the request 0.7 asks whether it is dead.
 const DIES: &[Step] = &[
-    Step::Meet(Meets::Kills((0, 2))),
-    Step::Meet(Meets::Detects(0, (0, 7))),
-    Step::See(Look::Has(0, (0, 0), 1, &[(0, 8)])),
+    Step::Tree(Place::Killed((0, 2))),
+    Step::Make(0, Deed::Detects((0, 7)), Leaves::Nothing),
+    Step::See(0, Look::Has((0, 0), 1, &[(0, 8)])),
 ];
 
 fn dies() -> &'static [Step] {
@@ -120,8 +148,7 @@ fn dies() -> &'static [Step] {
 
 #[test]
 fn a_dead_location_is_detected(rt: HostRuntime) -> Result<(), Fail> {
-    run(&rt, rt.alloc(), watched(), dies())?;
-    Ok(())
+    run(&rt, rt.alloc(), watched(), dies())
 }
 
 /// The location is 0.1, with the channels 0.2 to 0.4 under the rule 0.5, and 0.6 and 0.7 under the
@@ -136,37 +163,48 @@ fn traveller() -> &'static [u8] {
       site c [ none : 0 ]"
 }
 
+/// The channel `f` of the location.
+const F: Name = Name::Chan {
+    site: 0,
+    k: 4,
+    home: Loc { site: 0, k: 1 },
+};
+
 /// The location moves twice, with the continuations 1.1 and 2.1. A message that the first site
 /// sends after the first move is 0.17; it comes to the second site after the second move, and
 /// follows.
 const TRAVELS: &[Step] = &[
-    Step::Meet(Meets::Across(0, (0, 12))),
-    Step::See(Look::Has(
+    Step::Across(0, (0, 12)),
+    Step::See(
         1,
-        M,
+        Look::Has(
+            M,
+            2,
+            &[(0, 10), (0, 11), (1, 1), (0, 9), (0, 13), (0, 14), (0, 15)],
+        ),
+    ),
+    Step::Make(0, Deed::Pours(F, None), Leaves::Sent(1)),
+    Step::Across(1, (0, 13)),
+    Step::GoesOn(1, 2),
+    Step::Arrives(2),
+    Step::Tree(Place::Stands(M, 2, true)),
+    Step::See(
         2,
-        &[(0, 10), (0, 11), (1, 1), (0, 9), (0, 13), (0, 14), (0, 15)],
-    )),
-    Step::Post(Mail::Poured(0, ((0, 4), M), 1)),
-    Step::Meet(Meets::Across(1, (0, 13))),
-    Step::Post(Mail::GoesOn(1, 2)),
-    Step::Post(Mail::Arrives(2)),
-    Step::See(Look::Stands(M, 2, true)),
-    Step::See(Look::Has(
-        2,
-        M,
-        2,
-        &[
-            (0, 10),
-            (0, 11),
-            (1, 1),
-            (2, 1),
-            (0, 17),
-            (0, 9),
-            (0, 14),
-            (0, 15),
-        ],
-    )),
+        Look::Has(
+            M,
+            2,
+            &[
+                (0, 10),
+                (0, 11),
+                (1, 1),
+                (2, 1),
+                (0, 17),
+                (0, 9),
+                (0, 14),
+                (0, 15),
+            ],
+        ),
+    ),
 ];
 
 fn travels() -> &'static [Step] {
@@ -195,20 +233,23 @@ fn a_location_moves_twice(rt: HostRuntime) -> Result<(), Fail> {
 /// The first site halts, and not the location that moved away, which detects it by 2.2 and then
 /// halts itself.
 const THE_FIRST_SITE_HALTS: &[Step] = &[
-    Step::Meet(Meets::Halts(0, (0, 16))),
-    Step::See(Look::Stands((0, 0), 0, false)),
-    Step::See(Look::Stands(M, 2, true)),
+    Step::Change(0, Change::Halts((0, 16))),
+    Step::Tree(Place::Stands((0, 0), 0, false)),
+    Step::Tree(Place::Stands(M, 2, true)),
     Step::React(
         2,
         (0, 5),
         &[(0, 10), (1, 1), (0, 17)],
         Leaves::Observed((1, 0)),
     ),
-    Step::Meet(Meets::Detects(2, (0, 14))),
-    Step::See(Look::Has(2, M, 2, &[(0, 11), (2, 1), (2, 2), (0, 9), (0, 15)])),
-    Step::Meet(Meets::Halts(2, (0, 15))),
-    Step::See(Look::Stands(M, 2, false)),
-    Step::See(Look::Quiet(2)),
+    Step::Make(2, Deed::Detects((0, 14)), Leaves::Nothing),
+    Step::See(
+        2,
+        Look::Has(M, 2, &[(0, 11), (2, 1), (2, 2), (0, 9), (0, 15)]),
+    ),
+    Step::Change(2, Change::Halts((0, 15))),
+    Step::Tree(Place::Stands(M, 2, false)),
+    Step::See(2, Look::Quiet),
 ];
 
 fn the_first_site_halts() -> &'static [Step] {

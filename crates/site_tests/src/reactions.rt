@@ -1,16 +1,13 @@
 // Openings, reactions and single calls. The expected values were worked out by hand from the
 // numbering.
 
-use crate::by_hand::{ask_halt, host_at, lay_at, names_of, pour_at, put_at};
-use crate::net::{Net, Pair, atom, fires, has_at, hosts, is_quiet, loc, net_of, waits};
-use crate::shown::{expect_out, expect_sizes};
-use crate::steps::{Leaves, Look, Mail, Step, go, run};
-use chem_model::{Items, Memory};
-use site_solution::Site;
+use crate::net::Pair;
+use crate::shown::{Fact, Leaves, Look};
+use crate::steps::{Change, Deed, Step, run, run_by_hand};
+use chem_model::Name;
 use std::alloc::{AllocError, Global};
-use std::process::Abort;
 use std::test::Fail;
-use wire_packet::{Ask, Request};
+use wire_packet::Ask;
 
 const ROOT: Pair = (0, 0);
 
@@ -20,9 +17,9 @@ fn first() -> &'static [u8] {
 }
 
 const REACTS_ONCE: &[Step] = &[
-    Step::See(Look::Made(0, 4)),
+    Step::Has(0, Fact::Made(4)),
     Step::React(0, (0, 2), &[(0, 3)], Leaves::Observed(ROOT)),
-    Step::See(Look::Quiet(0)),
+    Step::See(0, Look::Quiet),
 ];
 
 fn reacts_once() -> &'static [Step] {
@@ -31,136 +28,57 @@ fn reacts_once() -> &'static [Step] {
 
 #[test]
 fn the_first_example(rt: HostRuntime) -> Result<(), Fail> {
-    run(&rt, rt.alloc(), first(), reacts_once())?;
-    Ok(())
+    run(&rt, rt.alloc(), first(), reacts_once())
 }
 
-// The body of the first rule is poured at the root, under the root's own name.
-fn pours(rt: &impl Abort, alloc: Global, net: &mut Net) -> Result<(), Memory> {
-    let Some(site) = net.sites.get_mut(0) else {
-        return Err(Memory);
-    };
-    let poured = pour_at(rt, alloc, site, &net.code, &net.tree, loc(ROOT), 0)?;
-    expect_sizes(rt, &poured, [0, 1, 0]);
-    expect_out(rt, &poured, loc(ROOT));
-    Ok(())
-}
-
-const OBSERVES: &[Step] = &[Step::Post(Mail::Observed(ROOT))];
-
-fn observes() -> &'static [Step] {
-    OBSERVES
-}
-
-const DELIVERS: &[Step] = &[
-    Step::See(Look::Made(0, 4)),
-    Step::Post(Mail::With((7, 7), ((0, 1), ROOT), ROOT)),
-    Step::Post(Mail::Arrives(0)),
-    Step::See(Look::Waits(0, (0, 2), &[(0, 3)])),
+/// A message that is observed, the body of the rule at the root, under the root's own name, and a
+/// message that is delivered.
+const CALLS: &[Step] = &[
+    Step::Make(
+        0,
+        Deed::Pours(Name::Seen(0), Some(ROOT)),
+        Leaves::Observed(ROOT),
+    ),
+    Step::Make(0, Deed::PoursBody(ROOT, 0), Leaves::Observed(ROOT)),
+    Step::Has(0, Fact::Made(4)),
+    Step::Mail((7, 7), ((0, 1), ROOT), Some(ROOT)),
+    Step::Arrives(0),
+    Step::See(0, Look::Waits((0, 2), &[(0, 3)])),
 ];
 
-fn delivers() -> &'static [Step] {
-    DELIVERS
+fn calls() -> &'static [Step] {
+    CALLS
 }
 
-/// A message that is observed, the body of the rule, and a message that is delivered.
 #[test]
 fn calls_of_an_opened_site(rt: HostRuntime) -> Result<(), Fail> {
-    let mut net = net_of(&rt, rt.alloc(), first())?;
-    go(&rt, rt.alloc(), &mut net, observes())?;
-    pours(&rt, rt.alloc(), &mut net)?;
-    go(&rt, rt.alloc(), &mut net, delivers())?;
-    Ok(())
+    run(&rt, rt.alloc(), first(), calls())
 }
 
-// One site, which hosts its root alone.
-fn one_site(alloc: Global) -> Result<Vec<Site>, Memory> {
-    let mut sites = Vec::new(alloc);
-    sites.push(Site::empty(alloc, 0)?)?;
-    Ok(sites)
+/// A group and a message of its count come, and then a message of another count, a request and a
+/// location.
+const COMES_TO_HAVE_ALL: &[Step] = &[
+    Step::Change(0, Change::Lays),
+    Step::Change(0, Change::Puts((0, 3), Some(ROOT))),
+    Step::See(0, Look::Waits((0, 2), &[(0, 3)])),
+    Step::Change(0, Change::Puts((0, 4), None)),
+    Step::See(0, Look::Waits((0, 2), &[(0, 3)])),
+    Step::Change(0, Change::Asks((0, 5), ROOT, Ask::Halt)),
+    Step::Has(0, Fact::AsksToHalt((0, 5), ROOT)),
+    Step::Has(0, Fact::RequestAt(1, None)),
+    Step::See(0, Look::Has(ROOT, 1, &[(0, 3), (0, 4), (0, 5)])),
+    Step::Change(0, Change::Hosts((0, 1))),
+    Step::Has(0, Fact::Hosts((0, 1), true)),
+];
+
+fn comes_to_have_all() -> &'static [Step] {
+    COMES_TO_HAVE_ALL
 }
 
-// A site of the first example that hosts its root alone.
-fn empty(rt: &impl Abort, alloc: Global) -> Result<Box<Net>, Memory> {
-    let mut net = net_of(rt, alloc, first())?;
-    net.sites = one_site(alloc)?;
-    Ok(net)
-}
-
-// Its level is laid, with these first numbers.
-fn lays(rt: &impl Abort, alloc: Global, net: &mut Net) -> Result<(), Memory> {
-    match net.sites.get_mut(0) {
-        Some(site) => lay_at(rt, alloc, site, &net.code, loc(ROOT), 0, 1, 2),
-        None => Err(Memory),
-    }
-}
-
-// A message with the root's name comes to its channel.
-fn puts(rt: &impl Abort, alloc: Global, net: &mut Net, id: Pair) -> Result<(), Memory> {
-    let args = names_of(alloc, loc(ROOT))?;
-    match net.sites.get_mut(0) {
-        Some(site) => put_at(rt, site, atom(id), 1, loc(ROOT), args),
-        None => Err(Memory),
-    }
-}
-
-// A message without arguments does.
-fn puts_bare(rt: &impl Abort, alloc: Global, net: &mut Net, id: Pair) -> Result<(), Memory> {
-    match net.sites.get_mut(0) {
-        Some(site) => put_at(rt, site, atom(id), 1, loc(ROOT), Items::new(alloc)),
-        None => Err(Memory),
-    }
-}
-
-// The site is asked to halt.
-fn asks(rt: &impl Abort, net: &mut Net, id: Pair) -> Result<(), Memory> {
-    let Some(site) = net.sites.get_mut(0) else {
-        return Err(Memory);
-    };
-    ask_halt(rt, site, atom(id), loc(ROOT))?;
-    let want = Request {
-        id: atom(id),
-        loc: loc(ROOT),
-        ask: Ask::Halt,
-    };
-    assert_eq!(rt; site.request(&atom(id)).copied(), Some(want));
-    assert!(rt; site.request_at(1).is_none());
-    Ok(())
-}
-
-fn comes(rt: &impl Abort, net: &mut Net, place: Pair) -> Result<(), Memory> {
-    match net.sites.get_mut(0) {
-        Some(site) => host_at(rt, site, loc(place))?,
-        None => return Err(Memory),
-    }
-    hosts(rt, net, 0, place, true);
-    Ok(())
-}
-
-// A group and a message of its count come.
-fn gets_a_group(rt: &impl Abort, alloc: Global, net: &mut Net) -> Result<(), Memory> {
-    lays(rt, alloc, net)?;
-    puts(rt, alloc, net, (0, 3))?;
-    waits(rt, alloc, net, 0, (0, 2), &[(0, 3)])
-}
-
-// A message of another count and a request come.
-fn gets_more(rt: &impl Abort, alloc: Global, net: &mut Net) -> Result<(), Memory> {
-    puts_bare(rt, alloc, net, (0, 4))?;
-    waits(rt, alloc, net, 0, (0, 2), &[(0, 3)])?;
-    asks(rt, net, (0, 5))?;
-    has_at(rt, alloc, net, 0, ROOT, 1, &[(0, 3), (0, 4), (0, 5)])
-}
-
-/// A site to which a group, a message of its count and one of another, a request and a location
-/// come one by one.
+/// A site to which all this comes one by one.
 #[test]
 fn a_site_by_hand(rt: HostRuntime) -> Result<(), Fail> {
-    let mut net = empty(&rt, rt.alloc())?;
-    gets_a_group(&rt, rt.alloc(), &mut net)?;
-    gets_more(&rt, rt.alloc(), &mut net)?;
-    comes(&rt, &mut net, (0, 1))?;
-    Ok(())
+    run_by_hand(&rt, rt.alloc(), first(), comes_to_have_all())
 }
 
 // `c00() | c01() ..`, so many of them.
@@ -188,32 +106,92 @@ fn wide(alloc: Global, messages: u32) -> Result<Vec<u8>, AllocError> {
     Ok(text)
 }
 
-fn pairs(alloc: Global, first: u64, behind: u64) -> Result<Vec<Pair>, AllocError> {
-    let mut pairs = Vec::new(alloc);
-    for k in first..behind {
-        pairs.push((0, k))?;
-    }
-    Ok(pairs)
-}
-
-// The reaction that takes all 65 messages is made.
-fn takes_all(rt: &impl Abort, alloc: Global, net: &mut Net) -> Result<(), Memory> {
-    let took = pairs(alloc, 67, 132)?;
-    fires(rt, alloc, net, 0, (0, 66), &took, [0, 1, 0])?;
-    is_quiet(rt, net, 0);
-    Ok(())
-}
-
 /// The channels are 0.1 to 0.65, the rule 0.66, and the messages 0.67 to 0.131.
+const MESSAGES: &[Pair] = &[
+    (0, 67),
+    (0, 68),
+    (0, 69),
+    (0, 70),
+    (0, 71),
+    (0, 72),
+    (0, 73),
+    (0, 74),
+    (0, 75),
+    (0, 76),
+    (0, 77),
+    (0, 78),
+    (0, 79),
+    (0, 80),
+    (0, 81),
+    (0, 82),
+    (0, 83),
+    (0, 84),
+    (0, 85),
+    (0, 86),
+    (0, 87),
+    (0, 88),
+    (0, 89),
+    (0, 90),
+    (0, 91),
+    (0, 92),
+    (0, 93),
+    (0, 94),
+    (0, 95),
+    (0, 96),
+    (0, 97),
+    (0, 98),
+    (0, 99),
+    (0, 100),
+    (0, 101),
+    (0, 102),
+    (0, 103),
+    (0, 104),
+    (0, 105),
+    (0, 106),
+    (0, 107),
+    (0, 108),
+    (0, 109),
+    (0, 110),
+    (0, 111),
+    (0, 112),
+    (0, 113),
+    (0, 114),
+    (0, 115),
+    (0, 116),
+    (0, 117),
+    (0, 118),
+    (0, 119),
+    (0, 120),
+    (0, 121),
+    (0, 122),
+    (0, 123),
+    (0, 124),
+    (0, 125),
+    (0, 126),
+    (0, 127),
+    (0, 128),
+    (0, 129),
+    (0, 130),
+    (0, 131),
+];
+
+/// The reaction that takes all 65 messages is made.
+const TAKES_ALL: &[Step] = &[
+    Step::React(0, (0, 66), MESSAGES, Leaves::Sizes([0, 1, 0])),
+    Step::See(0, Look::Quiet),
+];
+
+fn takes_all() -> &'static [Step] {
+    TAKES_ALL
+}
+
 #[test]
 fn a_pattern_of_65_channels(rt: HostRuntime) -> Result<(), Fail> {
     let text = wide(rt.alloc(), 65)?;
-    let mut net = net_of(&rt, rt.alloc(), &text)?;
-    takes_all(&rt, rt.alloc(), &mut net)?;
-    Ok(())
+    run(&rt, rt.alloc(), &text, takes_all())
 }
 
-const IS_STILL: &[Step] = &[Step::See(Look::Quiet(0))];
+const IS_STILL: &[Step] = &[Step::See(0, Look::Quiet)];
 
 fn is_still() -> &'static [Step] {
     IS_STILL
@@ -222,8 +200,7 @@ fn is_still() -> &'static [Step] {
 #[test]
 fn a_pattern_whose_last_channel_is_empty(rt: HostRuntime) -> Result<(), Fail> {
     let text = wide(rt.alloc(), 64)?;
-    run(&rt, rt.alloc(), &text, is_still())?;
-    Ok(())
+    run(&rt, rt.alloc(), &text, is_still())
 }
 
 fn twice() -> &'static [u8] {
@@ -235,10 +212,10 @@ fn twice() -> &'static [u8] {
 const MAKES_TWO_GROUPS: &[Step] = &[
     Step::React(0, (0, 2), &[(0, 3)], Leaves::Sizes([0, 0, 0])),
     Step::React(0, (0, 2), &[(0, 4)], Leaves::Sizes([0, 0, 0])),
-    Step::See(Look::Has(0, ROOT, 3, &[(0, 7), (0, 10)])),
+    Step::See(0, Look::Has(ROOT, 3, &[(0, 7), (0, 10)])),
     Step::React(0, (0, 6), &[(0, 7)], Leaves::Observed(ROOT)),
     Step::React(0, (0, 9), &[(0, 10)], Leaves::Observed((1, 0))),
-    Step::See(Look::Quiet(0)),
+    Step::See(0, Look::Quiet),
 ];
 
 fn makes_two_groups() -> &'static [Step] {
@@ -247,8 +224,7 @@ fn makes_two_groups() -> &'static [Step] {
 
 #[test]
 fn two_groups_of_one_level(rt: HostRuntime) -> Result<(), Fail> {
-    run(&rt, rt.alloc(), twice(), makes_two_groups())?;
-    Ok(())
+    run(&rt, rt.alloc(), twice(), makes_two_groups())
 }
 
 fn nested() -> &'static [u8] {
@@ -261,10 +237,10 @@ fn nested() -> &'static [u8] {
 /// and pours 0.9 in the location and 0.10 beside it. That one's body sends 0.11 to the other site.
 const MAKES_A_PLACE: &[Step] = &[
     Step::React(0, (0, 2), &[(0, 3)], Leaves::Sizes([0, 0, 1])),
-    Step::See(Look::Has(0, (0, 5), 1, &[(0, 9)])),
+    Step::See(0, Look::Has((0, 5), 1, &[(0, 9)])),
     Step::React(0, (0, 7), &[(0, 10)], Leaves::Sent(1)),
-    Step::Post(Mail::Arrives(1)),
-    Step::See(Look::Made(0, 12)),
+    Step::Arrives(1),
+    Step::Has(0, Fact::Made(12)),
     Step::React(0, (0, 8), &[(0, 9)], Leaves::Observed((0, 5))),
     Step::React(1, (1, 2), &[(0, 11)], Leaves::Observed(ROOT)),
 ];
@@ -275,8 +251,7 @@ fn makes_a_place() -> &'static [Step] {
 
 #[test]
 fn a_body_with_a_place_and_a_message_that_leaves(rt: HostRuntime) -> Result<(), Fail> {
-    run(&rt, rt.alloc(), nested(), makes_a_place())?;
-    Ok(())
+    run(&rt, rt.alloc(), nested(), makes_a_place())
 }
 
 fn three() -> &'static [u8] {
@@ -286,14 +261,14 @@ fn three() -> &'static [u8] {
 /// The channels are 0.1 to 0.3, the rules 0.4 to 0.6, and the messages 0.7 on the last channel, 0.8
 /// and 0.9. The least rule goes first, whichever message came first.
 const LEAST_FIRST: &[Step] = &[
-    Step::See(Look::Knows(0)),
+    Step::See(0, Look::Knows),
     Step::React(0, (0, 4), &[(0, 9)], Leaves::Sizes([0, 1, 0])),
-    Step::See(Look::Knows(0)),
+    Step::See(0, Look::Knows),
     Step::React(0, (0, 5), &[(0, 8)], Leaves::Sizes([0, 1, 0])),
-    Step::See(Look::Knows(0)),
+    Step::See(0, Look::Knows),
     Step::React(0, (0, 6), &[(0, 7)], Leaves::Sizes([0, 1, 0])),
-    Step::See(Look::Knows(0)),
-    Step::See(Look::Quiet(0)),
+    Step::See(0, Look::Knows),
+    Step::See(0, Look::Quiet),
 ];
 
 fn least_first() -> &'static [Step] {
@@ -302,8 +277,7 @@ fn least_first() -> &'static [Step] {
 
 #[test]
 fn the_least_of_three_rules(rt: HostRuntime) -> Result<(), Fail> {
-    run(&rt, rt.alloc(), three(), least_first())?;
-    Ok(())
+    run(&rt, rt.alloc(), three(), least_first())
 }
 
 fn pattern() -> &'static [u8] {
@@ -314,11 +288,11 @@ fn pattern() -> &'static [u8] {
 /// and 0.6 on the second. Another one comes to the second when there is none.
 const READY_TWICE: &[Step] = &[
     Step::React(0, (0, 3), &[(0, 4), (0, 6)], Leaves::Sizes([0, 1, 0])),
-    Step::See(Look::Quiet(0)),
-    Step::Post(Mail::Bare((7, 7), ((0, 2), ROOT))),
-    Step::Post(Mail::Arrives(0)),
-    Step::See(Look::Knows(0)),
-    Step::See(Look::Waits(0, (0, 3), &[(0, 5), (7, 7)])),
+    Step::See(0, Look::Quiet),
+    Step::Mail((7, 7), ((0, 2), ROOT), None),
+    Step::Arrives(0),
+    Step::See(0, Look::Knows),
+    Step::See(0, Look::Waits((0, 3), &[(0, 5), (7, 7)])),
 ];
 
 fn ready_twice() -> &'static [Step] {
@@ -327,6 +301,5 @@ fn ready_twice() -> &'static [Step] {
 
 #[test]
 fn a_rule_of_two_channels_is_ready_twice(rt: HostRuntime) -> Result<(), Fail> {
-    run(&rt, rt.alloc(), pattern(), ready_twice())?;
-    Ok(())
+    run(&rt, rt.alloc(), pattern(), ready_twice())
 }

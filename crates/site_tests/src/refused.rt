@@ -1,14 +1,14 @@
 // A move whose memory may be refused. `bench/refused.sh` refuses each of its allocations in turn.
 
-use crate::calls::move_over;
-use crate::net::{Net, Pair, atom, has_at, hosts, loc, net_of, stands};
+use crate::net::{Net, Pair, loc, net_of};
+use crate::shown::{Fact, Look, packed};
+use crate::steps::{Place, Step, go, moved_on};
 use chem_model::{Items, Memory, Text};
 use loc_tree::LocTree;
 use site_solution::Site;
 use std::alloc::Global;
 use std::process::Abort;
 use std::test::Fail;
-use wire_packet::{Packet, encode};
 
 /// The location that moves.
 const M: Pair = (0, 1);
@@ -25,8 +25,7 @@ fn traveller() -> &'static [u8] {
 // What stands at a location of a site, as bytes.
 fn tell(alloc: Global, site: &Site, place: Pair, text: &mut Text) -> Result<(), Memory> {
     text.push(u8::from(site.has(&loc(place))))?;
-    let parcel = site.pack(alloc, &loc(place))?;
-    let bytes = encode(alloc, &Packet::Parcel(parcel))?;
+    let bytes = packed(alloc, site, loc(place))?;
     text.extend_from_slice(bytes.as_slice())
 }
 
@@ -49,47 +48,56 @@ fn tell_place(tree: &LocTree, place: Pair, text: &mut Text) -> Result<(), Memory
 }
 
 // All that the sites and the tree hold, as bytes.
+fn tell_net(alloc: Global, net: &Net, text: &mut Text) -> Result<(), Memory> {
+    for site in net.sites.iter() {
+        tell_all(alloc, site, text)?;
+    }
+    tell_place(&net.tree, (0, 0), text)?;
+    tell_place(&net.tree, M, text)?;
+    tell_place(&net.tree, (1, 0), text)
+}
+
+// The same in a text of its own.
 fn told(alloc: Global, net: &Net) -> Result<Text, Memory> {
     let mut text = Items::new(alloc);
-    for site in net.sites.iter() {
-        tell_all(alloc, site, &mut text)?;
-    }
-    tell_place(&net.tree, (0, 0), &mut text)?;
-    tell_place(&net.tree, M, &mut text)?;
-    tell_place(&net.tree, (1, 0), &mut text)?;
+    tell_net(alloc, net, &mut text)?;
     Ok(text)
 }
 
 // Whether the location is made to move.
-fn goes(rt: &impl Abort, alloc: Global, net: &mut Net) -> Result<bool, Memory> {
-    let Net { code, tree, sites } = net;
-    assert!(rt; sites.len() == 2);
-    let (front, back) = sites.split_at_mut(1);
-    match (front.first_mut(), back.first_mut()) {
-        (Some(from), Some(into)) => {
-            Ok(move_over(rt, alloc, from, into, tree, code, atom((0, 10))).is_ok())
-        }
-        _ => Ok(false),
-    }
+fn goes(rt: &impl Abort, alloc: Global, net: &mut Net) -> bool {
+    moved_on(rt, alloc, net, 0, (0, 10)).is_ok()
+}
+
+// Whether they hold the same as before.
+fn is_told(alloc: Global, net: &Net, before: &[u8]) -> Result<bool, Memory> {
+    let after = told(alloc, net)?;
+    Ok(after.as_slice() == before)
 }
 
 // Whether the location moved; where memory ran out on the way, the sites and the tree are as they
 // were.
 fn has_moved(rt: &impl Abort, alloc: Global, net: &mut Net) -> Result<bool, Memory> {
     let before = told(alloc, net)?;
-    let moved = goes(rt, alloc, net)?;
-    let after = told(alloc, net)?;
-    assert_eq!(rt; after.as_slice() == before.as_slice(), !moved);
+    let moved = goes(rt, alloc, net);
+    let same = is_told(alloc, net, before.as_slice())?;
+    assert!(rt; same == !moved);
     Ok(moved)
 }
 
-// It stands at the second site, with all that stood there.
-fn expect_moved(rt: &impl Abort, alloc: Global, net: &Net) -> Result<(), Memory> {
-    stands(rt, net, M, 1, true);
-    hosts(rt, net, 0, M, false);
-    has_at(rt, alloc, net, 0, M, 0, &[])?;
-    let there = [(0, 8), (0, 9), (1, 4), (0, 7), (0, 11), (0, 12)];
-    has_at(rt, alloc, net, 1, M, 2, &there)
+/// It stands at the second site, with all that stood there.
+const ALL_THERE: &[Step] = &[
+    Step::Tree(Place::Stands(M, 1, true)),
+    Step::Has(0, Fact::Hosts(M, false)),
+    Step::See(0, Look::Has(M, 0, &[])),
+    Step::See(
+        1,
+        Look::Has(M, 2, &[(0, 8), (0, 9), (1, 4), (0, 7), (0, 11), (0, 12)]),
+    ),
+];
+
+fn all_there() -> &'static [Step] {
+    ALL_THERE
 }
 
 // Whether the location moved, with all that stands there.
@@ -97,7 +105,7 @@ fn moves(rt: &impl Abort, alloc: Global) -> Result<bool, Memory> {
     let mut net = net_of(rt, alloc, traveller())?;
     let moved = has_moved(rt, alloc, &mut net)?;
     if moved {
-        expect_moved(rt, alloc, &net)?;
+        go(rt, alloc, &mut net, all_there())?;
     }
     Ok(moved)
 }

@@ -1,228 +1,437 @@
 // The steps of a test, as data: what is looked at, and what is made, one after another. A site is
-// named by its place in the list of sites. A message that a step hands out is carried on to the
-// next steps.
+// named by its place in the list of sites. A message that leaves a site is mail, which later steps
+// bring to sites.
 
-use crate::by_hand::{bare, message};
-use crate::net::{
-    Net, Pair, arrives, atom, channel, detects, drops, fires, fires_to, goes_on, halts, has_at,
-    has_made, hosts, is_quiet, kills, knows, loc, may_go, moves, moves_on, net_of, observes, sends,
-    shows, stands, waits,
+use crate::by_hand::{
+    args_of, ask_at, draw_at, drop_at, emit_root, host_at, lay_at, pour_at, put_at, take_at,
 };
-use chem_model::{Memory, Name};
+use crate::calls::{deliver_at, detect_at, halt_at, move_at, move_over, react_at};
+use crate::net::{Net, Pair, atom, loc, net_by_hand, net_of};
+use crate::shown::{Fact, Leaves, Look, has, has_left, is_addressed, is_hosted, shows};
+use crate::texts::{bear, bear_all};
+use chem_model::{AtomId, Loc, Memory, Name};
+use env_store::Code;
+use loc_tree::LocTree;
+use site_solution::{Effects, Site};
 use std::alloc::Global;
 use std::process::Abort;
-use wire_packet::Msg;
+use std::test::Fail;
+use wire_packet::{Ask, Msg, Packet, decode};
+
+const ROOT: Loc = Loc { site: 0, k: 0 };
 
 /// A channel: its number, and its home.
 pub type Channel = (Pair, Pair);
 
-/// What is looked at.
+/// What a site makes.
 #[derive(Clone, Copy)]
-pub enum Look {
-    /// How many numbers a site has made.
-    Made(usize, u64),
-    /// The reaction of this rule with these atoms is ready at a site.
-    Waits(usize, Pair, &'static [Pair]),
-    /// Nothing is ready at a site.
-    Quiet(usize),
-    /// The index of a site tells what it has ready, without a walk.
-    Knows(usize),
-    /// So many groups stand at a location of a site, and these messages and then these requests.
-    Has(usize, Pair, usize, &'static [Pair]),
-    /// Whether a site hosts a location.
-    Hosts(usize, Pair, bool),
-    /// Whether the rule Go allows a request of a site.
-    MayGo(usize, Pair, bool),
+pub enum Deed {
+    /// The reaction that is ready.
+    Reacts,
+    /// A location moves within the site, by its request.
+    Goes(Pair),
+    /// A failure is detected, by the request.
+    Detects(Pair),
+    /// A message is poured at the root, with a location or without arguments.
+    Pours(Name, Option<Pair>),
+    /// The body of a guard of one channel is poured at a location, under this location alone.
+    PoursBody(Pair, usize),
+}
+
+/// A change without effects.
+#[derive(Clone, Copy)]
+pub enum Change {
+    /// The first level is laid at the root, with the channel 0.1 and the rule 0.2, as the first
+    /// group.
+    Lays,
+    /// A message with this id comes on the channel 0.1, with a location or without arguments.
+    Puts(Pair, Option<Pair>),
+    /// A request with this id comes at a location.
+    Asks(Pair, Pair, Ask),
+    /// The request is dropped.
+    Drops(Pair),
+    /// A location is hosted.
+    Hosts(Pair),
+    /// The front message of the first channel is taken.
+    Takes,
+    /// So many numbers are drawn, of which this is the first.
+    Draws(u32, u64),
+    /// The location of a request halts.
+    Halts(Pair),
+}
+
+/// What is seen of the tree, or changed there.
+#[derive(Clone, Copy)]
+pub enum Place {
     /// The site with this number hosts the location, and whether it is alive.
     Stands(Pair, u32, bool),
+    /// Messages to the location go to the site with this number.
+    Addressed(Pair, u32),
+    /// The location is born under this site.
+    Born(Pair, u32),
+    /// The location is marked.
+    Killed(Pair),
 }
 
-/// What comes of a reaction.
+/// One step.
 #[derive(Clone, Copy)]
-pub enum Leaves {
-    /// One message with this location is observed, and nothing else comes of it.
-    Observed(Pair),
-    /// So many messages go to other sites, so many are observed, and so many locations are born.
-    Sizes([usize; 3]),
-    /// One message goes to the site with this number, and nothing else comes of it.
-    Sent(u32),
-}
-
-/// A request that a site meets, by its id, and what is done without one.
-#[derive(Clone, Copy)]
-pub enum Meets {
-    /// A location moves within its site.
-    Within(usize, Pair),
-    /// A location moves to the next site.
+pub enum Step {
+    Has(usize, Fact),
+    See(usize, Look),
+    Tree(Place),
+    /// What is ready at a site is the reaction of this rule with these atoms, and it is made.
+    React(usize, Pair, &'static [Pair], Leaves),
+    Make(usize, Deed, Leaves),
+    /// A location moves to the next site, by which nothing else leaves.
     Across(usize, Pair),
-    Halts(usize, Pair),
-    Detects(usize, Pair),
-    /// The request is dropped.
-    Drops(usize, Pair),
-    /// A location is marked.
-    Kills(Pair),
-}
-
-/// What becomes of a message.
-#[derive(Clone, Copy)]
-pub enum Mail {
-    /// It has the name of a root, is poured there on the first observed name, and is observed.
-    Observed(Pair),
-    /// It has no arguments, is poured at the root of a site, and goes to the site with this number.
-    Poured(usize, Channel, u32),
-    /// It has this id and no arguments, and comes from elsewhere.
-    Bare(Pair, Channel),
-    /// It has this id and this location, and comes from elsewhere.
-    With(Pair, Channel, Pair),
-    /// It comes to a site, and goes on to the site with this number as it is.
+    Change(usize, Change),
+    /// A message with this id, with a location or without arguments, comes from elsewhere.
+    Mail(Pair, Channel, Option<Pair>),
+    /// The newest mail comes to a site, and goes on to the site with this number as it is.
     GoesOn(usize, u32),
-    /// It comes to a site, and stays there.
+    /// The newest mail comes to a site, and stays there.
     Arrives(usize),
 }
 
-#[derive(Clone, Copy)]
-pub enum Step {
-    See(Look),
-    /// What is ready at a site is the reaction of this rule with these atoms, and it is made.
-    React(usize, Pair, &'static [Pair], Leaves),
-    Meet(Meets),
-    Post(Mail),
+// ---- what is seen
+
+// Whether this is so of a site.
+fn site_has(net: &Net, at: usize, fact: Fact) -> bool {
+    match net.sites.get(at) {
+        Some(site) => has(site, fact),
+        None => false,
+    }
 }
 
-fn named(on: Channel) -> Name {
-    channel(on.0, on.1)
+// Whether a site shows this.
+fn site_shows(
+    rt: &impl Abort,
+    alloc: Global,
+    net: &Net,
+    at: usize,
+    look: Look,
+) -> Result<bool, Memory> {
+    match net.sites.get(at) {
+        Some(site) => shows(rt, alloc, site, &net.code, &net.tree, look),
+        None => Ok(false),
+    }
 }
 
-fn see(rt: &impl Abort, alloc: Global, net: &Net, look: Look) -> Result<(), Memory> {
-    match look {
-        Look::Made(at, made) => has_made(rt, net, at, made),
-        Look::Waits(at, rule, took) => waits(rt, alloc, net, at, rule, took)?,
-        Look::Quiet(at) => is_quiet(rt, net, at),
-        Look::Knows(at) => knows(rt, net, at),
-        Look::Has(at, place, groups, atoms) => has_at(rt, alloc, net, at, place, groups, atoms)?,
-        Look::Hosts(at, place, want) => hosts(rt, net, at, place, want),
-        Look::MayGo(at, id, want) => may_go(rt, net, at, id, want),
-        Look::Stands(place, root, alive) => stands(rt, net, place, root, alive),
+// A location is marked.
+fn kill(rt: &impl Abort, tree: &mut LocTree, place: Loc) {
+    assert!(rt; tree.holds(&place));
+    tree.kill(&place);
+}
+
+// Whether the tree is so; a change there is made.
+fn is_placed(
+    rt: &impl Abort,
+    alloc: Global,
+    tree: &mut LocTree,
+    place: Place,
+) -> Result<bool, Memory> {
+    match place {
+        Place::Stands(place, root, alive) => Ok(is_hosted(tree, loc(place), root, alive)),
+        Place::Addressed(place, target) => Ok(is_addressed(tree, loc(place), target)),
+        Place::Born(place, under) => {
+            bear(rt, alloc, tree, loc(place), under)?;
+            Ok(true)
+        }
+        Place::Killed(place) => {
+            kill(rt, tree, loc(place));
+            Ok(true)
+        }
+    }
+}
+
+// ---- what is made
+
+// What comes of what a site makes.
+fn made(
+    rt: &impl Abort,
+    alloc: Global,
+    site: &mut Site,
+    code: &Code,
+    tree: &mut LocTree,
+    deed: Deed,
+) -> Result<Effects, Memory> {
+    match deed {
+        Deed::Reacts => react_at(rt, alloc, site, code, tree),
+        Deed::Goes(id) => move_at(rt, alloc, site, tree, &code.seen, atom(id)),
+        Deed::Detects(id) => detect_at(rt, alloc, site, tree, &code.seen, atom(id)),
+        Deed::Pours(on, arg) => emit_root(rt, alloc, site, code, tree, on, arg),
+        Deed::PoursBody(place, guard) => pour_at(rt, alloc, site, code, tree, loc(place), guard),
+    }
+}
+
+// The message of a packet.
+fn message_of(alloc: Global, bytes: &[u8]) -> Result<Msg, Memory> {
+    match decode(alloc, bytes) {
+        Ok(Packet::Message(msg)) => Ok(msg),
+        _ => Err(Memory),
+    }
+}
+
+// The messages that left a site are mail.
+fn send(alloc: Global, effects: &Effects, mail: &mut Vec<Msg>) -> Result<(), Memory> {
+    for flight in effects.sends.as_slice() {
+        let msg = message_of(alloc, flight.bytes.as_slice())?;
+        mail.push(msg)?;
     }
     Ok(())
 }
 
-// A message that goes to another site is handed out.
-fn react(
+// What a site made comes to the tree and to the mail. Whether it is this.
+fn settled(
+    rt: &impl Abort,
+    alloc: Global,
+    tree: &mut LocTree,
+    mail: &mut Vec<Msg>,
+    effects: &Effects,
+    under: u32,
+    want: Leaves,
+) -> Result<bool, Memory> {
+    bear_all(rt, alloc, tree, effects.births.as_slice(), under)?;
+    send(alloc, effects, mail)?;
+    Ok(has_left(effects, want))
+}
+
+// A site makes this. Whether what comes of it is as wanted.
+fn site_makes(
     rt: &impl Abort,
     alloc: Global,
     net: &mut Net,
     at: usize,
-    rule: Pair,
-    took: &[Pair],
-    leaves: Leaves,
-) -> Result<Option<Msg>, Memory> {
-    match leaves {
-        Leaves::Observed(place) => {
-            shows(rt, alloc, net, at, rule, took, place)?;
-            Ok(None)
-        }
-        Leaves::Sizes(sizes) => {
-            fires(rt, alloc, net, at, rule, took, sizes)?;
-            Ok(None)
-        }
-        Leaves::Sent(target) => Ok(Some(fires_to(rt, alloc, net, at, rule, took, target)?)),
-    }
-}
-
-fn meet(rt: &impl Abort, alloc: Global, net: &mut Net, meets: Meets) -> Result<(), Memory> {
-    match meets {
-        Meets::Within(at, id) => moves(rt, alloc, net, at, id),
-        Meets::Across(at, id) => moves_on(rt, alloc, net, at, id),
-        Meets::Halts(at, id) => {
-            halts(rt, net, at, id);
-            Ok(())
-        }
-        Meets::Detects(at, id) => detects(rt, alloc, net, at, id),
-        Meets::Drops(at, id) => {
-            drops(rt, net, at, id);
-            Ok(())
-        }
-        Meets::Kills(place) => {
-            kills(rt, net, place);
-            Ok(())
-        }
-    }
-}
-
-// Without a message nothing can come to a site.
-fn carry(
-    rt: &impl Abort,
-    net: &mut Net,
-    carried: Option<Msg>,
-    at: usize,
-    onward: Option<u32>,
-) -> Result<Option<Msg>, Memory> {
-    let Some(msg) = carried else {
+    deed: Deed,
+    want: Leaves,
+) -> Result<bool, Memory> {
+    let Net {
+        code,
+        tree,
+        sites,
+        mail,
+    } = net;
+    let Some(site) = sites.get_mut(at) else {
         return Err(Memory);
     };
-    match onward {
-        Some(target) => Ok(Some(goes_on(rt, net, at, msg, target)?)),
-        None => {
-            arrives(rt, net, at, msg)?;
-            Ok(None)
+    let effects = made(rt, alloc, site, code, tree, deed)?;
+    settled(rt, alloc, tree, mail, &effects, site.number(), want)
+}
+
+// The site makes the reaction that it shows. Whether it shows it, and all comes of it.
+fn site_reacts(
+    rt: &impl Abort,
+    alloc: Global,
+    net: &mut Net,
+    at: usize,
+    look: Look,
+    want: Leaves,
+) -> Result<bool, Memory> {
+    if !site_shows(rt, alloc, net, at, look)? {
+        return Ok(false);
+    }
+    site_makes(rt, alloc, net, at, Deed::Reacts, want)
+}
+
+/// What the move of a location from one site to the next leaves.
+pub fn moved_on(
+    rt: &impl Abort,
+    alloc: Global,
+    net: &mut Net,
+    at: usize,
+    id: Pair,
+) -> Result<Effects, Memory> {
+    let Net {
+        code,
+        tree,
+        sites,
+        ..
+    } = net;
+    assert!(rt; at < sites.len());
+    let (front, back) = sites.split_at_mut(at + 1);
+    match (front.last_mut(), back.first_mut()) {
+        (Some(from), Some(into)) => move_over(rt, alloc, from, into, tree, code, atom(id)),
+        _ => Err(Memory),
+    }
+}
+
+// A location moves to the next site. Whether nothing else leaves.
+fn moves_on(
+    rt: &impl Abort,
+    alloc: Global,
+    net: &mut Net,
+    at: usize,
+    id: Pair,
+) -> Result<bool, Memory> {
+    let effects = moved_on(rt, alloc, net, at, id)?;
+    Ok(has_left(&effects, Leaves::Nothing))
+}
+
+// A site is changed.
+fn make_change(
+    rt: &impl Abort,
+    alloc: Global,
+    site: &mut Site,
+    code: &Code,
+    tree: &mut LocTree,
+    wanted: Change,
+) -> Result<(), Memory> {
+    match wanted {
+        Change::Lays => lay_at(rt, alloc, site, code, ROOT, 0, 1, 2),
+        Change::Puts(id, arg) => put_at(rt, alloc, site, atom(id), 1, ROOT, arg),
+        Change::Asks(id, place, ask) => ask_at(rt, site, atom(id), loc(place), ask),
+        Change::Hosts(place) => host_at(rt, site, loc(place)),
+        Change::Drops(id) => {
+            drop_at(rt, site, atom(id));
+            Ok(())
+        }
+        Change::Takes => {
+            take_at(rt, site);
+            Ok(())
+        }
+        Change::Halts(id) => {
+            halt_at(rt, tree, site, atom(id));
+            Ok(())
+        }
+        Change::Draws(more, first) => {
+            assert!(rt; draw_at(rt, site, more) == first);
+            Ok(())
         }
     }
 }
 
-// The message that is carried is handed in, and the one that goes on is handed out.
+// The same of one of the sites, if it is there.
+fn site_changes(
+    rt: &impl Abort,
+    alloc: Global,
+    net: &mut Net,
+    at: usize,
+    wanted: Change,
+) -> Result<bool, Memory> {
+    let Net {
+        code,
+        tree,
+        sites,
+        ..
+    } = net;
+    match sites.get_mut(at) {
+        Some(site) => {
+            make_change(rt, alloc, site, code, tree, wanted)?;
+            Ok(true)
+        }
+        None => Ok(false),
+    }
+}
+
+// ---- mail
+
+// A message comes from elsewhere.
 fn post(
-    rt: &impl Abort,
     alloc: Global,
-    net: &mut Net,
-    carried: Option<Msg>,
-    mail: Mail,
-) -> Result<Option<Msg>, Memory> {
-    match mail {
-        Mail::Observed(root) => {
-            observes(rt, alloc, net, root)?;
-            Ok(carried)
-        }
-        Mail::Poured(at, on, target) => Ok(Some(sends(rt, alloc, net, at, named(on), target)?)),
-        Mail::Bare(id, on) => Ok(Some(bare(alloc, atom(id), named(on)))),
-        Mail::With(id, on, place) => Ok(Some(message(alloc, atom(id), named(on), loc(place))?)),
-        Mail::GoesOn(at, target) => carry(rt, net, carried, at, Some(target)),
-        Mail::Arrives(at) => carry(rt, net, carried, at, None),
+    mail: &mut Vec<Msg>,
+    id: Pair,
+    on: Channel,
+    arg: Option<Pair>,
+) -> Result<bool, Memory> {
+    let args = args_of(alloc, arg)?;
+    mail.push(Msg {
+        id: atom(id),
+        on: channel(on),
+        args,
+    })?;
+    Ok(true)
+}
+
+// A channel's name.
+fn channel((pair, home): Channel) -> Name {
+    Name::Chan {
+        site: pair.0,
+        k: pair.1,
+        home: loc(home),
     }
 }
 
-fn make(
-    rt: &impl Abort,
-    alloc: Global,
-    net: &mut Net,
-    carried: Option<Msg>,
-    step: Step,
-) -> Result<Option<Msg>, Memory> {
+// The id of the newest mail, its channel, and how many arguments it has.
+fn newest(mail: &[Msg]) -> Option<(AtomId, Name, usize)> {
+    match mail.last() {
+        Some(msg) => Some((msg.id, msg.on, msg.args.len())),
+        None => None,
+    }
+}
+
+// The newest mail comes to a site. The site to which it goes on, if it does.
+fn delivered(rt: &impl Abort, net: &mut Net, at: usize) -> Result<Option<u32>, Memory> {
+    let Net {
+        tree,
+        sites,
+        mail,
+        ..
+    } = net;
+    let Some(site) = sites.get_mut(at) else {
+        return Err(Memory);
+    };
+    match mail.pop() {
+        Some(msg) => deliver_at(rt, site, tree, msg, mail),
+        None => Err(Memory),
+    }
+}
+
+// Whether it goes on to this site as it is.
+fn goes_on(rt: &impl Abort, net: &mut Net, at: usize, target: u32) -> Result<bool, Memory> {
+    let before = newest(&net.mail);
+    let found = delivered(rt, net, at)?;
+    Ok(found == Some(target) && newest(&net.mail) == before)
+}
+
+// Whether it stays.
+fn arrives(rt: &impl Abort, net: &mut Net, at: usize) -> Result<bool, Memory> {
+    let found = delivered(rt, net, at)?;
+    Ok(found.is_none())
+}
+
+// ---- all steps
+
+// Whether a step goes as it says.
+fn goes(rt: &impl Abort, alloc: Global, net: &mut Net, step: Step) -> Result<bool, Memory> {
     match step {
-        Step::See(look) => {
-            see(rt, alloc, net, look)?;
-            Ok(carried)
+        Step::Has(at, fact) => Ok(site_has(net, at, fact)),
+        Step::See(at, look) => site_shows(rt, alloc, net, at, look),
+        Step::Tree(place) => is_placed(rt, alloc, &mut net.tree, place),
+        Step::React(at, rule, took, want) => {
+            site_reacts(rt, alloc, net, at, Look::Waits(rule, took), want)
         }
-        Step::React(at, rule, took, leaves) => react(rt, alloc, net, at, rule, took, leaves),
-        Step::Meet(meets) => {
-            meet(rt, alloc, net, meets)?;
-            Ok(carried)
-        }
-        Step::Post(mail) => post(rt, alloc, net, carried, mail),
+        Step::Make(at, deed, want) => site_makes(rt, alloc, net, at, deed, want),
+        Step::Across(at, id) => moves_on(rt, alloc, net, at, id),
+        Step::Change(at, wanted) => site_changes(rt, alloc, net, at, wanted),
+        Step::Mail(id, on, arg) => post(alloc, &mut net.mail, id, on, arg),
+        Step::GoesOn(at, target) => goes_on(rt, net, at, target),
+        Step::Arrives(at) => arrives(rt, net, at),
     }
 }
 
 /// Makes one step after another.
 pub fn go(rt: &impl Abort, alloc: Global, net: &mut Net, steps: &[Step]) -> Result<(), Memory> {
-    let mut carried = None;
-    for step in steps {
-        carried = make(rt, alloc, net, carried, *step)?;
+    for (index, step) in steps.iter().enumerate() {
+        assert!(rt; goes(rt, alloc, net, *step)?, "step {index}");
     }
     Ok(())
 }
 
-/// Makes one step after another with the sites of a text.
-pub fn run(rt: &impl Abort, alloc: Global, text: &[u8], steps: &[Step]) -> Result<(), Memory> {
+/// Makes one step after another with the opened sites of a text.
+pub fn run(rt: &impl Abort, alloc: Global, text: &[u8], steps: &[Step]) -> Result<(), Fail> {
     let mut net = net_of(rt, alloc, text)?;
-    go(rt, alloc, &mut net, steps)
+    go(rt, alloc, &mut net, steps)?;
+    Ok(())
+}
+
+/// Makes one step after another with a site of a text that hosts its root alone.
+pub fn run_by_hand(
+    rt: &impl Abort,
+    alloc: Global,
+    text: &[u8],
+    steps: &[Step],
+) -> Result<(), Fail> {
+    let mut net = net_by_hand(alloc, text)?;
+    go(rt, alloc, &mut net, steps)?;
+    Ok(())
 }

@@ -1,6 +1,6 @@
-// The code of a text, its tree, and its sites as they are opened.
+// The code of a text, and the locations and sites that it begins with.
 
-use chem_model::{Loc, Memory};
+use chem_model::{Loc, Memory, Program};
 use env_store::Code;
 use guard_compile::compile;
 use loc_tree::LocTree;
@@ -10,10 +10,18 @@ use std::alloc::Global;
 use std::process::Abort;
 use worked_programs::program_of;
 
+// The code of a program.
+fn compiled(alloc: Global, program: &Program) -> Result<Box<Code>, Memory> {
+    let code = compile(alloc, program)?;
+    Ok(Box::new(alloc, code)?)
+}
+
 /// The code of a text.
-pub fn code_of(alloc: Global, text: &[u8]) -> Option<Code> {
-    let program = program_of(alloc, text).ok()?;
-    compile(alloc, &program).ok()
+pub fn code_of(alloc: Global, text: &[u8]) -> Result<Box<Code>, Memory> {
+    match program_of(alloc, text).ok() {
+        Some(program) => compiled(alloc, &program),
+        None => Err(Memory),
+    }
 }
 
 pub fn sites_of(code: &Code) -> u32 {
@@ -42,36 +50,48 @@ pub fn bear_all(
     rt: &impl Abort,
     alloc: Global,
     tree: &mut LocTree,
-    effects: &Effects,
+    births: &[Loc],
     under: u32,
 ) -> Result<(), Memory> {
-    for loc in effects.births.as_slice() {
+    for loc in births {
         bear(rt, alloc, tree, *loc, under)?;
     }
     Ok(())
 }
 
-/// The tree of the locations that the sites define, each under its site.
-pub fn tree_of(rt: &impl Abort, alloc: Global, code: &Code) -> Result<LocTree, Memory> {
-    let mut tree = LocTree::start(alloc, sites_of(code))?;
-    for loc in code.tops.as_slice() {
+/// The locations that the sites define are born, each under its site.
+pub fn bear_tops(
+    rt: &impl Abort,
+    alloc: Global,
+    tree: &mut LocTree,
+    tops: &[Loc],
+) -> Result<(), Memory> {
+    for loc in tops {
         if !tree.holds(loc) {
-            bear(rt, alloc, &mut tree, *loc, loc.site)?;
+            bear(rt, alloc, tree, *loc, loc.site)?;
         }
     }
-    Ok(tree)
+    Ok(())
 }
 
-/// The opening of a site, whose births are then in the tree.
-pub fn open(
+// Nothing leaves the site, and no location is born.
+fn is_nothing(effects: &Effects) -> bool {
+    effects.sends.is_empty() && effects.outs.is_empty() && effects.births.is_empty()
+}
+
+/// The next site is opened, by which nothing leaves it and no other location is born.
+pub fn open_next(
     rt: &impl Abort,
     alloc: Global,
     code: &Code,
-    tree: &mut LocTree,
+    tree: &LocTree,
+    sites: &mut Vec<Site>,
     number: u32,
-) -> Result<(Site, Effects), Memory> {
+) -> Result<(), Memory> {
     assert!(rt; (number as usize) < code.sites.len());
     let (site, effects) = opening(alloc, code, tree, number)?;
-    bear_all(rt, alloc, tree, &effects, number)?;
-    Ok((site, effects))
+    assert!(rt; is_nothing(&effects));
+    drop(effects);
+    sites.push(site)?;
+    Ok(())
 }

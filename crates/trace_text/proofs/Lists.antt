@@ -1,5 +1,6 @@
 -- Names by the first of a list, and ranks by what is left of a trace.
-use Rattle.std.proofs.Common.{◌≡◌, ◌<◌, ◌≤◌, ℕ, ◌+◌, ◌-◌, suc, List, [], ◌∷◌, ◌++◌, length, get_or, take, drop, drop-cons, add-one, cond, ◌&&◌, not, refl, ap, sym, ◌∙◌, append-nil, append_assoc, codes, arith}
+use Rattle.std.proofs.Common.{◌≡◌, ◌<◌, ◌≤◌, ℕ, ◌+◌, ◌-◌, suc, List, [], ◌∷◌, ◌++◌, length, get_or, take, drop, drop-cons, add-one, cond, ◌&&◌, not, refl, ap, sym, ◌∙◌, append-nil, append_assoc, codes, Result, Ok, Err, arith}
+use Rattle.std.specs.Prelude.{IfOk}
 use Rattle.std.proofs.lemmas.List.{take_all}
 use Rattle.chem_model.specs.declared.name.Name.{Name}
 use Rattle.chem_model.specs.declared.event.Out.{Out}
@@ -36,3 +37,8 @@ ranked_step p named outs before now o i h is counted =
     let left = arguments (drop (suc i) outs) in
     let opened : arguments (drop i outs) ≡ o.args ++ left = ap arguments (drop-cons outs i o h) ∙ ap (λ (first : Out). first.args ++ left) (sym is) in
     rw add-one (ap (λ (names : List Name). ranked_after p named names left) counted ∙ (sym (ranked_more p named before o.args left) ∙ ap (ranked_after p named before) (sym opened)))
+
+-- what comes out where there is memory, said otherwise
+pub ok_then : {A E : Type 0} (r : Result A E) (x y : A) → IfOk r (λ a. a ≡ x) → x ≡ y → IfOk r (λ a. a ≡ y)
+ok_then (Ok a) x y is same = is ∙ same
+ok_then (Err f) x y is same = tt

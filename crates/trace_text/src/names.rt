@@ -1,7 +1,7 @@
 // The names of a trace: their spellings and their ranks.
 ghost use Rattle.std.specs.Prelude.{◌≡◌, IfOk, OnOk};
 ghost use Rattle.trace_text.specs.TraceText.{seen_spelling, binder_spelling, is_ranked};
-ghost use Rattle.trace_text.specs.TraceText.{ranked_after, ranked};
+ghost use Rattle.trace_text.specs.TraceText.{arguments, ranked_after, ranked};
 
 use crate::tables::{Binders, Ranks};
 use chem_model::{Memory, Name, Names, Outs, Program};
@@ -53,10 +53,29 @@ pub(crate) fn ranked(
     ensures { IfOk result (λ ranks. ranks ≡ ranked program.now binders.now outs.now) }
 {
     let mut ranks = Ranks::new(alloc);
-    for out in outs.as_slice() {
-        add_ranked(&mut ranks, program, binders, &out.args)?;
+    match add_all_ranked(&mut ranks, program, binders, outs) {
+        Ok(()) => Ok(ranks),
+        Err(memory) => {
+            drop(ranks);
+            Err(memory)
+        }
     }
-    Ok(ranks)
+}
+
+/// Appends those arguments of observables that have a rank and don't stand there yet.
+fn add_all_ranked(
+    ranks: &mut Ranks,
+    program: &Program,
+    binders: &Binders,
+    outs: &Outs,
+) -> Result<(), Memory>
+    ensures { OnOk result
+        (ranks.new ≡ ranked_after program.now binders.now ranks.old (arguments outs.now)) }
+{
+    for out in outs.as_slice() {
+        add_ranked(ranks, program, binders, &out.args)?;
+    }
+    Ok(())
 }
 
 /// Appends those arguments that have a rank and don't stand there yet.

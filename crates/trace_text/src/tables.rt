@@ -52,13 +52,13 @@ impl Binders {
         let mut binders = Binders {
             map: IndexMap::new(alloc),
         };
-        let entries = named.as_slice();
-        let mut left = entries.len();
-        while left > 0 {
-            left -= 1;
-            binders.put(entries[left])?;
+        match put_all(&mut binders, named.as_slice()) {
+            Ok(()) => Ok(binders),
+            Err(memory) => {
+                drop(binders);
+                Err(memory)
+            }
         }
-        Ok(binders)
     }
 
     /// Puts an entry before all others.
@@ -79,6 +79,19 @@ impl Binders {
             None => None,
         }
     }
+}
+
+/// Puts entries where none is yet, from the last to the first.
+fn put_all(binders: &mut Binders, entries: &[Named]) -> Result<(), Memory>
+    requires { binders.old ≡ [] }
+    ensures { OnOk result (TellTheSame binders.new entries.now) }
+{
+    let mut left = entries.len();
+    while left > 0 {
+        left -= 1;
+        binders.put(entries[left])?;
+    }
+    Ok(())
 }
 
 /// Names in order of first appearance.

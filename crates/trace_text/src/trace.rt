@@ -34,9 +34,41 @@ fn run_text(
     ensures { IfOk result (λ text. text ≡ trace_text program.now named.now outs.now ending) }
 {
     let binders = Binders::of(alloc, named)?;
-    let ranks = ranked(alloc, program, &binders, outs)?;
+    let text = text_by(alloc, program, &binders, outs, ending);
+    drop(binders);
+    text
+}
+
+/// The same, where it is known for which binder each name was made.
+fn text_by(
+    alloc: Global,
+    program: &Program,
+    binders: &Binders,
+    outs: &Outs,
+    ending: Ending,
+) -> Result<Text, Memory>
+    ensures { IfOk result (λ text. text ≡ trace_text program.now binders.now outs.now ending) }
+{
+    let ranks = ranked(alloc, program, binders, outs)?;
+    let text = ranked_text(alloc, program, binders, &ranks, outs, ending);
+    drop(ranks);
+    text
+}
+
+/// The same, where the names that have a rank are known too.
+fn ranked_text(
+    alloc: Global,
+    program: &Program,
+    binders: &Binders,
+    ranks: &Ranks,
+    outs: &Outs,
+    ending: Ending,
+) -> Result<Text, Memory>
+    ensures { IfOk result (λ text. text
+        ≡ outs_text program.now binders.now ranks.now outs.now ++ ending_text ending) }
+{
     let mut text = Items::new(alloc);
-    push_outs(&mut text, program, &binders, &ranks, outs)?;
+    push_outs(&mut text, program, binders, ranks, outs)?;
     push_ending(&mut text, ending)?;
     Ok(text)
 }

@@ -1,7 +1,7 @@
 -- The arguments of one observable more have their ranks.
 use Rattle.std.proofs.Common.{◌∙◌}
 use Rattle.trace_text.proofs.Lists.{ranked_step}
-use Rattle.trace_text.proofs.names.ranked.Goals as goal
+use Rattle.trace_text.proofs.names.add_all_ranked.Goals as goal
 
 pub loop-out-preserved : goal.loop-out-preserved
 loop-out-preserved c =

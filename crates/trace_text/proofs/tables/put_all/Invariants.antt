@@ -1,7 +1,7 @@
 use Rattle.std.proofs.Common.{◌≡◌, ◌≤◌, length, drop}
 use Rattle.chem_model.specs.declared.name.Name.{Name}
 use Rattle.chem_model.specs.Numbered.{binder_in}
-use Rattle.trace_text.proofs.tables.Binders.of.Given as goal
+use Rattle.trace_text.proofs.tables.put_all.Given as goal
 
 abbrev pub decreases-loop-left : goal.decreases-loop-left
 decreases-loop-left l = l.left
