@@ -228,27 +228,24 @@ some-told [] = refl
 some-told (r ∷ rs) = refl
 
 -- what the steps did
-pub record AreDone (a b : Inside) (ls : List Loc) (m : More) (j : ℕ) (cs : List ℕ) (taken laid once : Rows) (again kept first : List Waiting) : Type 0 where
+pub record AreDone (a b : Inside) (ls : List Loc) (m : More) (j : ℕ) (cs : List ℕ) (taken : Rows) (again kept : List Waiting) : Type 0 where
   pub number : b.number ≡ a.number
   pub made : b.made ≡ m.next
   pub locs : b.locs.locs ≡ a.locs.locs ++ ls
   pub requests : b.requests.items ≡ with_requests m.requests.items a.requests.items
   pub fronts : groups_of taken ≡ gone_at j cs (groups_of a.groups.groups)
-  pub groups : groups_of laid ≡ groups_of taken ++ new_groups (told_of_new m.groups.items)
   pub restacked : IsRestacked (lays m) a.stuck.items again kept
-  pub settled : (s : Site) → put_all again (holding s laid kept) ≡ holding s once first
-  pub put : (s : Site) → put_all m.waiting.items (holding s once first) ≡ holding s b.groups.groups b.stuck.items
+  pub settled : (s : Site) → put_all m.waiting.items (put_all again (record s { groups = groups_of taken ++ new_groups (told_of_new m.groups.items); stuck = kept })) ≡ holding s b.groups.groups b.stuck.items
 
-pub done-is : (a b : Inside) (ls : List Loc) (m : More) (j : ℕ) (cs : List ℕ) (taken laid once : Rows) (again kept first : List Waiting) → MayAdd ls m (record (seen a) { groups = gone_at j cs (groups_of a.groups.groups) }) → AreDone a b ls m j cs taken laid once again kept first → seen b ≡ added ls m (taken_at j cs (seen a))
-done-is a b ls m j cs taken laid once again kept first may d =
+pub done-is : (a b : Inside) (ls : List Loc) (m : More) (j : ℕ) (cs : List ℕ) (taken : Rows) (again kept : List Waiting) → MayAdd ls m (record (seen a) { groups = gone_at j cs (groups_of a.groups.groups) }) → AreDone a b ls m j cs taken again kept → seen b ≡ added ls m (taken_at j cs (seen a))
+done-is a b ls m j cs taken again kept may d =
     let gone : List Group = gone_at j cs (groups_of a.groups.groups) in
     let s : Site = record (seen a) { groups = gone } in
     let host : Site = hosting ls m.next s in
     let ds = told_of_new m.groups.items in
     let qs = m.requests.items in
-    let groups : groups_of laid ≡ gone ++ new_groups ds = d.groups ∙ ap (λ (gs : List Group). gs ++ new_groups ds) d.fronts in
-    let relay : put_all again (holding host laid kept) ≡ lay_all ds host = ap (λ (gs : List Group). put_all again (record host { groups = gs; stuck = kept })) groups ∙ relaid ds (lays m) host again kept (may-lay ls m s may) (some-told m.groups.items) d.restacked in
-    let whole : put_all m.waiting.items (lay_all ds host) ≡ holding host b.groups.groups b.stuck.items = ap (put_all m.waiting.items) (sym relay ∙ d.settled host) ∙ d.put host in
+    let relay : put_all again (record host { groups = groups_of taken ++ new_groups ds; stuck = kept }) ≡ lay_all ds host = ap (λ (gs : List Group). put_all again (record host { groups = gs ++ new_groups ds; stuck = kept })) d.fronts ∙ relaid ds (lays m) host again kept (may-lay ls m s may) (some-told m.groups.items) d.restacked in
+    let whole : put_all m.waiting.items (lay_all ds host) ≡ holding host b.groups.groups b.stuck.items = ap (put_all m.waiting.items) (sym relay) ∙ d.settled host in
     let all : added ls m s ≡ record (holding host b.groups.groups b.stuck.items) { requests = with_requests qs a.requests.items } = ap (ask_all qs) whole ∙ asked-with qs (holding host b.groups.groups b.stuck.items) in
     sym (ap (added ls m) (taken-is j cs (seen a)) ∙ all ∙ same-fields a.number b.number m.next b.made (a.locs.locs ++ ls) b.locs.locs (groups_of b.groups.groups) b.stuck.items (with_requests qs a.requests.items) b.requests.items (sym d.number) (sym d.made) (sym d.locs) (sym d.requests))
   where

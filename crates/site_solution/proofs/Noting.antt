@@ -1,6 +1,6 @@
 -- The index of covered guards: its keys, and which groups it is right for.
 use Rattle.std.proofs.Common.{◌≡◌, ℕ, zero, suc, ◌+◌, ◌<◌, ◌≤◌, Bool, true, false, cond, List, [], ◌∷◌, ◌++◌, length, Option, Some, None, refl, sym, ap, subst, ◌∙◌, arith, eqb-true, eq-eqb, inl, inr, ◌⊎◌}
-use Rattle.std.specs.Prelude.{slice_get, slice_set, ◌==◌, ◌↔◌, nat_lt}
+use Rattle.std.specs.Prelude.{slice_get, slice_set, ◌==◌, nat_lt}
 use Rattle.std.specs.declared.cmp.Ordering.{Ordering}
 use Rattle.std.specs.declared.cmp.Ordering.TheVariants.{Less, Equal, Greater}
 use Rattle.std.specs.Ordering.{is_eq, ordering_then, nat_cmp}
@@ -11,7 +11,7 @@ use Rattle.chem_model.specs.declared.event.RuleId.{RuleId}
 use Rattle.chem_model.specs.declared.name.Loc.{Loc}
 use Rattle.chem_model.specs.Solution.{same_loc}
 use Rattle.wire_packet.specs.MessageFacts.{MessageParts}
-use Rattle.queue_cells.specs.Grouped.{Queued, lists_at, with_queue}
+use Rattle.queue_cells.specs.Grouped.{lists_at, with_queue}
 use Rattle.net_laws.specs.Site.{Told, Group, told_in}
 use Rattle.net_laws.specs.Parcels.{groups_but}
 use Rattle.site_solution.specs.declared.covering.Covering.{Covering}
@@ -19,7 +19,7 @@ use Rattle.site_solution.specs.declared.told.Spots.{Spots}
 use Rattle.site_solution.specs.inside.Index.{Rows, groups_of, Rise, place_of, IsIndex}
 use Rattle.site_solution.specs.inside.Forgotten.{serials_but}
 use Rattle.site_solution.specs.inside.New.{gone_in, gone_at}
-use Rattle.site_solution.specs.inside.Covered.{Key, Keys, key_cmp, key_at, has, KeepsAllBut}
+use Rattle.site_solution.specs.inside.Covered.{Key, Keys, key_cmp, key_at, KeepsAllBut}
 use Rattle.site_solution.specs.inside.Covered.{KeepsOthers, Levels, KeepsLevels, SameLevels}
 use Rattle.site_solution.specs.inside.Covered.{IsNoted, AreNoted, IsIndexed, AreIndexed}
 use Rattle.site_solution.specs.inside.Covered.{AreIndexedBut, AreIndexedAway, HasSerials}
@@ -63,7 +63,7 @@ others-next s x y a b c before step q other = step q (not-at (x, y, s) q (λ e. 
 
 -- ---- the guards of one group, one after another
 
-below-or : (i n : ℕ) → i < n + 1 → (i < n) ⊎ (i ≡ n)
+pub below-or : (i n : ℕ) → i < n + 1 → (i < n) ⊎ (i ≡ n)
 below-or i n h = go (nat_lt i n) refl
   where
     go : (b : Bool) → nat_lt i n ≡ b → (i < n) ⊎ (i ≡ n)

@@ -1,5 +1,5 @@
 -- A location is received with the continuation of its request.
-use Rattle.std.proofs.Common.{◌≡◌, ℕ, ◌+◌, ◌≤◌, ◌⊎◌, Bool, true, false, cond, List, [], ◌∷◌, ◌++◌, Option, Some, None, inl, inr, refl, sym, ap, ◌∙◌, subst, arith, append-nil}
+use Rattle.std.proofs.Common.{◌≡◌, ℕ, ◌+◌, ◌≤◌, Bool, true, false, cond, List, [], ◌∷◌, ◌++◌, Option, Some, None, refl, sym, ap, ◌∙◌, subst, arith, append-nil}
 use Rattle.std.specs.Prelude.{slice_get}
 use Rattle.chem_model.specs.declared.name.Loc.{Loc}
 use Rattle.chem_model.specs.declared.name.Name.{Name}
@@ -13,7 +13,6 @@ use Rattle.chem_model.specs.Pour.{is_count, atom_made, out_made, pour}
 use Rattle.chem_model.specs.Opening.{root_of}
 use Rattle.chem_model.specs.Reduction.{all_known}
 use Rattle.env_store.specs.Running.{atom_ran}
-use Rattle.code_run.specs.declared.made.Post.{Post}
 use Rattle.code_run.specs.declared.made.Run.{Run}
 use Rattle.code_run.specs.Posts.{all_posted, run_of}
 use Rattle.code_run.proofs.Runs.{posted_back}
@@ -32,7 +31,7 @@ use Rattle.net_laws.specs.Net.{among, home_or}
 use Rattle.net_laws.specs.Kept.{AreApart}
 use Rattle.net_laws.specs.ByCode.{told_by}
 use Rattle.net_laws.specs.Holding.{in_groups, put_in, put, put_all, new_group, lay, lay_all, ask, ask_all, host_all}
-use Rattle.net_laws.specs.Posting.{Posted, a_message, posted_of, Outcome, post_all, pour_here}
+use Rattle.net_laws.specs.Posting.{Posted, posted_of, Outcome, pour_here}
 use Rattle.net_laws.specs.Parcels.{Load, load_of, all_told, take_in}
 use Rattle.net_laws.specs.Meeting.{continuation_made, sent_here}
 use Rattle.site_solution.specs.declared.more.More.{More}
@@ -40,14 +39,13 @@ use Rattle.site_solution.specs.declared.commit.Sorted.{Sorted}
 use Rattle.site_solution.specs.Answers.{AreFlights}
 use Rattle.site_solution.specs.inside.Leave.{IsSorted, IsLeft}
 use Rattle.site_solution.specs.CanLay.{HasNumbers}
-use Rattle.site_solution.specs.Commit.{MayStand, times_posted}
-use Rattle.site_solution.specs.Counted.{over_stuck, is_id, id_of, over_requests, times}
+use Rattle.site_solution.specs.Counted.{over_stuck, id_of, over_requests, times}
 use Rattle.site_solution.specs.Held.{taken_at}
 use Rattle.site_solution.specs.inside.New.{told_of_new, IsNewGroup}
 use Rattle.site_solution.specs.inside.Split.{waits_in, asked_in, away_from, with_more}
 use Rattle.site_solution.specs.inside.More.{CanAdd, IsAt, added}
-use Rattle.site_solution.specs.Parcels.{CanTakeIn, CanReceive}
-use Rattle.site_solution.specs.inside.Carried.{IsCarried, IsBeside}
+use Rattle.site_solution.specs.Parcels.{CanReceive}
+use Rattle.site_solution.specs.inside.Carried.{IsCarried, IsBeside, ArriveBeside, IsContinued, IsTakenBeside}
 use Rattle.site_solution.proofs.Fronts.{taken-nothing}
 use Rattle.site_solution.proofs.Packed.{over_stuck-append}
 use Rattle.site_solution.proofs.Splitting.{put_all-locs, lay_all-locs, put_all-ask, poured-split}
@@ -125,11 +123,6 @@ received t p n ps s =
 
 -- ---- the continuation
 
--- it is shown, or one message with the next number, at its home
-pub record IsContinued (number k : ℕ) (ps : List Posted) : Type 0 where
-  pub stands : (ls : List Loc) → Each (MayStand ls) ps
-  pub once : (i : AtomId) → times_posted i ps ≤ is_id i (record { site = number; k = k })
-
 continued-none : (number k : ℕ) → IsContinued number k []
 continued-none number k = record { stands = λ ls. tt; once = λ i. omega arith }
 
@@ -196,7 +189,7 @@ received-can c p next ps before m s parcel can cont is more =
         )
 
 -- what was sorted
-pub beside-sorted : (t : Tree) (ls : List Loc) (ps : List Posted) (r : Sorted) (before m : More) → IsSorted t ls ps r → IsBeside before r.waiting.items r.requests.items m → IsBeside before (waits_in ls ps) (asked_in ps) m
+beside-sorted : (t : Tree) (ls : List Loc) (ps : List Posted) (r : Sorted) (before m : More) → IsSorted t ls ps r → IsBeside before r.waiting.items r.requests.items m → IsBeside before (waits_in ls ps) (asked_in ps) m
 beside-sorted t ls ps r before m sorted is = record {
   next_same = is.next_same;
   groups_are = is.groups_are;
@@ -230,8 +223,13 @@ continued-run seen i j k h l cont args r none number made is =
     ∙ ap (λ (n : ℕ). run_of (atom_ran (pour seen n (root_of n) [] l h (Msg (Known cont) [])))) number
     ∙ ap (λ (n : ℕ). run_of (atom_ran (pour seen i (root_of i) [] l n (Msg (Known cont) [])))) made
 
-pub continued-sorted : (t : Tree) (here born xs : List Loc) (l : Loc) (posts : List Post) (a : Made) (r : Run) (o : Sorted) → here ≡ xs → born ≡ l ∷ [] → posts ≡ r.posts → r ≡ run_of (atom_ran a) → IsSorted t (here ++ born) (all_posted posts) o → IsSorted t (xs ++ l ∷ []) (posted_of a.atoms) o
-continued-sorted t here born xs l posts a r o here_is born_is posts_are run sorted =
-    let ps : all_posted posts ≡ posted_of a.atoms = ap all_posted posts_are ∙ ap (λ (x : Run). all_posted x.posts) run ∙ posted_back (posted_of a.atoms) in
-    let ls : here ++ born ≡ xs ++ l ∷ [] = ap (λ ys. ys ++ born) here_is ∙ ap (λ ys. xs ++ ys) born_is in
-    subst (λ (qs : List Posted). IsSorted t (xs ++ l ∷ []) qs o) ps (subst (λ ys. IsSorted t ys (all_posted posts) o) ls sorted)
+-- what a run of it posts
+pub run-posted : (a : Made) (r : Run) → r ≡ run_of (atom_ran a) → all_posted r.posts ≡ posted_of a.atoms
+run-posted a r run = ap (λ (x : Run). all_posted x.posts) run ∙ posted_back (posted_of a.atoms)
+
+pub arrive-sorted : (t : Tree) (c : CodeParts) (p : ParcelParts) (next : ℕ) (ls : List Loc) (ps : List Posted) (r : Sorted) (m : More) → IsSorted t ls ps r → ArriveBeside c p next r.waiting.items r.requests.items m → ArriveBeside c p next (waits_in ls ps) (asked_in ps) m
+arrive-sorted t c p next ls ps r m sorted h = record { before = h.before; carried = h.carried; beside = beside-sorted t ls ps r h.before m sorted h.beside }
+
+pub taken-run : (t : Tree) (c : CodeParts) (p : ParcelParts) (a : Made) (r : Run) (s new : Site) (fs : List Flight) → r ≡ run_of (atom_ran a) → IsTakenBeside t c p r.next (all_posted r.posts) s new fs → IsTakenBeside t c p a.next (posted_of a.atoms) s new fs
+taken-run t c p a r s new fs run taken =
+    subst (λ (n : ℕ). IsTakenBeside t c p n (posted_of a.atoms) s new fs) (ap (λ (x : Run). x.next) run) (subst (λ (ps : List Posted). IsTakenBeside t c p r.next ps s new fs) (run-posted a r run) taken)

@@ -1,10 +1,10 @@
 // What a run leaves at a site, and what it sends.
-ghost use Rattle.std.specs.Prelude.{◌≡◌, ◌++◌, [], IfOk, OnOk, OnErr};
+ghost use Rattle.std.specs.Prelude.{◌≡◌, ◌||◌, ◌++◌, ◌∷◌, [], IfOk, OnOk, OnErr};
 ghost use Rattle.chem_model.specs.Each.{Each};
-ghost use Rattle.net_laws.specs.Net.{address};
+ghost use Rattle.net_laws.specs.Net.{address, among};
 ghost use Rattle.net_laws.specs.ByCode.{told_by};
 ghost use Rattle.net_laws.specs.Parcels.{all_told};
-ghost use Rattle.net_laws.specs.Posting.{pour_here};
+ghost use Rattle.net_laws.specs.Posting.{a_message, pour_here};
 ghost use Rattle.code_run.specs.Posts.{posted, all_posted};
 ghost use Rattle.site_solution.specs.Answers.{IsFlightOf, Answers};
 ghost use Rattle.site_solution.specs.Commit.{AreNew, CanLeave};
@@ -22,7 +22,7 @@ use code_run::{Post, Posts, Run};
 use env_store::{Code, Locs};
 use loc_tree::LocTree;
 use std::alloc::Global;
-use wire_packet::{Flight, Flights, Msg, Packet, Request, Waiting, encode};
+use wire_packet::{Flight, Flights, Packet, Request, Waiting, encode};
 
 // What is posted: messages that wait here, requests, and messages that go away.
 #[derive(Drop)]
@@ -39,14 +39,54 @@ fn address(tree: &LocTree, loc: &Loc) -> u32
     if tree.holds(loc) { tree.root(loc) } else { 0 }
 }
 
-// A message under way to the site that hosts this location.
-fn flight(alloc: Global, tree: &LocTree, loc: &Loc, msg: Msg) -> Result<Flight, Memory>
-    ensures { IfOk result (λ f.
-        IsFlightOf (record { target = address tree.now loc.now; msg = msg }) f) }
+// A copy of a message, under way to the site that hosts its location.
+fn flight(alloc: Global, tree: &LocTree, waiting: &Waiting) -> Result<Flight, Memory>
+    ensures { IfOk result (λ f. IsFlightOf
+        (record { target = address tree.now waiting.now.loc; msg = waiting.now.msg }) f) }
 {
-    let target = address(tree, loc);
-    let bytes = encode(alloc, &Packet::Message(msg))?;
-    Ok(Flight { target, bytes })
+    let target = address(tree, &waiting.loc);
+    let packet = Packet::Message(waiting.msg.copy(alloc)?);
+    let encoded = encode(alloc, &packet);
+    drop(packet);
+    Ok(Flight {
+        target,
+        bytes: encoded?,
+    })
+}
+
+// Appends a copy of a message.
+fn push_copy(list: &mut Vec<Waiting>, alloc: Global, waiting: &Waiting) -> Result<(), Memory>
+    ensures { OnOk result (list.new.items ≡ list.old.items ++ waiting.now ∷ []) }
+{
+    let copy = waiting.copy(alloc)?;
+    list.push(copy)?;
+    Ok(())
+}
+
+// Whether the location is hosted here, or is born.
+fn is_hosted(here: &Places, born: &Places, loc: &Loc) -> bool
+    ensures { result ≡ (among here.now.locs loc.now || among born.now.locs loc.now) }
+{
+    here.has(loc) || born.has(loc)
+}
+
+// Sorts one message more.
+fn sort_message(
+    alloc: Global,
+    tree: &LocTree,
+    here: &Places,
+    born: &Places,
+    waiting: &Waiting,
+    sorted: &mut Sorted,
+) -> Result<(), Memory>
+    ensures { OnOk result (Sorts tree.now (here.now.locs ++ born.now.locs)
+        (a_message waiting.now.loc waiting.now.msg) sorted.old sorted.new) }
+{
+    if is_hosted(here, born, &waiting.loc) {
+        push_copy(&mut sorted.waiting, alloc, waiting)
+    } else {
+        sorted.flights.push(flight(alloc, tree, waiting)?)
+    }
 }
 
 // Sorts one post more.
@@ -62,18 +102,9 @@ fn sort_post(
         sorted.old sorted.new) }
 {
     match post {
-        Post::Message(one) => {
-            if here.has(&one.loc) || born.has(&one.loc) {
-                sorted.waiting.push(one.copy(alloc)?)?;
-                Ok(())
-            } else {
-                let flight = flight(alloc, tree, &one.loc, one.msg.copy(alloc)?)?;
-                sorted.flights.push(flight)?;
-                Ok(())
-            }
-        }
-        Post::Request(one) => {
-            sorted.requests.push(*one)?;
+        Post::Message(waiting) => sort_message(alloc, tree, here, born, waiting, sorted),
+        Post::Request(request) => {
+            sorted.requests.push(*request)?;
             Ok(())
         }
     }
@@ -112,6 +143,32 @@ pub(crate) fn places(alloc: Global, locs: &[Loc]) -> Result<Places, Memory>
     Ok(places)
 }
 
+// What a call hands out that left here what a run made.
+pub(crate) fn effects(run: Run, sends: Flights) -> Effects
+    ensures { result ≡ record { sends = sends; outs = run.outs; births = run.births } }
+{
+    Effects {
+        sends,
+        outs: run.outs,
+        births: run.births,
+    }
+}
+
+// Sorts what is posted, where the locations here and these births are hosted.
+pub(crate) fn sort_with_births(
+    alloc: Global,
+    tree: &LocTree,
+    here: &Places,
+    births: &[Loc],
+    posts: &[Post],
+) -> Result<Sorted, Memory>
+    requires { AreNew [] births.now }
+    ensures { IfOk result (IsSorted tree.now (here.now.locs ++ births.now) (all_posted posts.now)) }
+{
+    let born = places(alloc, births)?;
+    sort_posts(alloc, tree, here, &born, posts)
+}
+
 impl Site {
     // Drops the fronts of these queues of a group in turn, where there are any, and then leaves
     // here what a run made, with these groups, of which the code tells the masks. Where there is no
@@ -134,20 +191,42 @@ impl Site {
             (taken_at group chans.now self.old)) self.new) }
         ensures err { OnErr result (self.new ≡ self.old) }
     {
-        let born = places(alloc, run.births.as_slice())?;
+        let births = run.births.as_slice();
+        let posts = run.posts.as_slice();
         let Sorted {
             waiting,
             requests,
             flights,
-        } = sort_posts(alloc, tree, self.places(), &born, run.posts.as_slice())?;
+        } = sort_with_births(alloc, tree, self.places(), births, posts)?;
         let more = More {
             next: run.next,
             groups,
             waiting,
             requests,
         };
-        self.add_all(alloc, code, run.births.as_slice(), more, group, chans)?;
+        self.add_all(alloc, code, births, more, group, chans)?;
         Ok(flights)
+    }
+
+    // The same with the groups that the run laid, of which the code tells.
+    fn leave_run(
+        &mut self,
+        alloc: Global,
+        code: &Code,
+        tree: &LocTree,
+        run: &Run,
+        group: u32,
+        chans: &[u32],
+    ) -> Result<Flights, Memory>
+        requires { CanLeave run.now.births (all_told (told_by code.now) run.now.groups)
+            (all_posted run.now.posts) self.old }
+        ensures ok { IfOk result (IsLeft (pour_here tree.now run.now.next run.now.births
+            (all_told (told_by code.now) run.now.groups) (all_posted run.now.posts)
+            (taken_at group chans.now self.old)) self.new) }
+        ensures err { OnErr result (self.new ≡ self.old) }
+    {
+        let groups = new_groups(alloc, code, run.groups.as_slice())?;
+        self.leave(alloc, Some(code), tree, run, groups, group, chans)
     }
 
     /// Drops the fronts of these queues of a group in turn, where there are any, and then leaves
@@ -171,12 +250,12 @@ impl Site {
             run.outs run.births self.new e) }
         ensures err { OnErr result (self.new ≡ self.old) }
     {
-        let groups = new_groups(alloc, code, run.groups.as_slice())?;
-        let sends = self.leave(alloc, Some(code), tree, &run, groups, group, chans)?;
-        Ok(Effects {
-            sends,
-            outs: run.outs,
-            births: run.births,
-        })
+        match self.leave_run(alloc, code, tree, &run, group, chans) {
+            Ok(sends) => Ok(effects(run, sends)),
+            Err(memory) => {
+                drop(run);
+                Err(memory)
+            }
+        }
     }
 }

@@ -244,18 +244,24 @@ pub(crate) fn agrees(covering: &Covering, code: &Code) -> bool
     true
 }
 
-// Copies of the masks of a level of the code.
-fn masks_of(alloc: Global, code: &Code, number: usize) -> Result<Masks, Memory> {
-    let mut masks = Items::new(alloc);
-    if let Some(level) = code.levels.as_slice().get(number) {
-        let first = level.first as usize;
-        for place in 0..level.guards as usize {
-            if let Some(guard) = code.guards.as_slice().get(first + place) {
-                masks.push(guard.mask.words.copy(alloc)?)?;
-            }
-        }
+// Copies the mask of the guard of the code with this number, where it is there.
+fn copy_mask(masks: &mut Masks, alloc: Global, code: &Code, number: usize) -> Result<(), Memory> {
+    match code.guards.as_slice().get(number) {
+        Some(guard) => masks.push(guard.mask.words.copy(alloc)?),
+        None => Ok(()),
     }
-    Ok(masks)
+}
+
+// Copies the masks of a level of the code.
+fn copy_masks(masks: &mut Masks, alloc: Global, code: &Code, number: usize) -> Result<(), Memory> {
+    let Some(level) = code.levels.as_slice().get(number) else {
+        return Ok(());
+    };
+    let first = level.first as usize;
+    for place in 0..level.guards as usize {
+        copy_mask(masks, alloc, code, first + place)?;
+    }
+    Ok(())
 }
 
 // Makes room for a level with this number.
@@ -287,10 +293,18 @@ fn add_level(
     requires { (ms : List (List ℕ)) → slice_get levels.old.items number ≡ Some (Some ms) → ⊥ }
     ensures { KeepsLevels levels.old.items levels.new.items }
 {
-    let masks = masks_of(alloc, code, number)?;
     grow(levels, number)?;
-    set_level(levels, number, masks);
-    Ok(())
+    let mut masks = Items::new(alloc);
+    match copy_masks(&mut masks, alloc, code, number) {
+        Ok(()) => {
+            set_level(levels, number, masks);
+            Ok(())
+        }
+        Err(memory) => {
+            drop(masks);
+            Err(memory)
+        }
+    }
 }
 
 // Whether the masks of a level are known, and are those of the code: where they aren't known they

@@ -3,19 +3,22 @@
 ghost use Rattle.std.specs.Prelude.{◌≡◌, ◌≤◌, ◌<◌, ◌+◌, ◌^◌, ◌++◌, ◌∷◌, [], ℕ, List, length};
 ghost use Rattle.std.specs.Prelude.{vec_capacity, IfOk, OnOk, OnErr, IfSome};
 ghost use Rattle.chem_model.specs.Each.{Each};
-ghost use Rattle.net_laws.specs.Site.{Group};
+ghost use Rattle.net_laws.specs.Site.{Group, Site};
+ghost use Rattle.net_laws.specs.Holding.{put_all};
 ghost use Rattle.net_laws.specs.Kept.{AreApart};
 ghost use Rattle.net_laws.specs.ByCode.{told_by};
 ghost use Rattle.net_laws.specs.Parcels.{all_told};
 ghost use Rattle.site_solution.specs.CanLay.{HasNumbers};
-ghost use Rattle.site_solution.specs.inside.Index.{groups_of, told_of, new_groups};
+ghost use Rattle.site_solution.specs.inside.Index.{groups_of, told_of, new_groups, holding};
 ghost use Rattle.site_solution.specs.inside.Index.{IsIndex, HasRoom};
 ghost use Rattle.site_solution.specs.inside.Covered.{HasSerials, IsCovering};
 ghost use Rattle.site_solution.specs.inside.New.{told_of_new, widths, IsNewGroup, gone_at};
 ghost use Rattle.site_solution.specs.inside.More.{IsRestacked, lays, HasRoomFor};
 
+use crate::asked::Asked;
 use crate::covering::{Covering, refresh};
-use crate::finding::{add_group, reserve_spots};
+use crate::finding::{add_group, reserve_spots, settle};
+use crate::places::Places;
 use crate::told::{NewGroup, Spots, Told};
 use chem_model::{Items, Memory, Nums};
 use env_store::Code;
@@ -107,7 +110,7 @@ pub(crate) fn channels(groups: &[NewGroup]) -> Option<usize>
 
 // Adds groups to come, and their queues to the index. It takes no memory but for the index of
 // covered guards.
-pub(crate) fn add_groups(
+fn add_groups(
     groups: &mut Groups<Told, Msg>,
     spots: &mut Spots,
     covering: &mut Covering,
@@ -211,7 +214,7 @@ pub(crate) fn restack(
 
 // Takes all memory for groups and messages to come: what is there stays, but for stuck messages
 // that are handed out to be put once more, where groups are laid.
-pub(crate) fn make_room(
+fn make_room(
     alloc: Global,
     groups: &mut Groups<Told, Msg>,
     spots: &mut Spots,
@@ -235,4 +238,80 @@ pub(crate) fn make_room(
     groups.reserve(stuck.len() + more.waiting.len())?;
     reserve_spots(spots, count, width)?;
     restack(alloc, stuck, count != 0, more.waiting.len())
+}
+
+// Takes all memory for so many locations and for what is to come. What is there stays, but for
+// stuck messages that are handed out to be put once more, where groups are laid.
+pub(crate) fn make_all_room(
+    alloc: Global,
+    locs: &mut Places,
+    asked: &mut Asked,
+    groups: &mut Groups<Told, Msg>,
+    spots: &mut Spots,
+    stuck: &mut Vec<Waiting>,
+    hosted: usize,
+    more: &More,
+) -> Result<Vec<Waiting>, Memory>
+    requires { length stuck.old.items + length more.now.waiting.items < 2 ^ 33 }
+    ensures locs { locs.new.locs ≡ locs.old.locs }
+    ensures locs_room { OnOk result (hosted ≤ locs.new.spare) }
+    ensures asked { asked.new.items ≡ asked.old.items }
+    ensures asked_room { OnOk result (length more.now.requests.items ≤ asked.new.spare) }
+    ensures asked_few { OnOk result
+        (length asked.old.items + length more.now.requests.items < 2 ^ 32) }
+    ensures groups { groups.new.groups ≡ groups.old.groups }
+    ensures index { (gs : List Group) → IsIndex spots.old gs → IsIndex spots.new gs }
+    ensures serials { spots.new.serials.items ≡ spots.old.serials.items }
+    ensures again { IfOk result (λ again. IsRestacked (lays more.now) stuck.old.items again.items
+        stuck.new.items) }
+    ensures room { IfOk result (λ again.
+        HasRoomFor more.now again.items groups.new spots.new stuck.new) }
+    ensures err { OnErr result (stuck.new.items ≡ stuck.old.items) }
+{
+    locs.reserve(hosted)?;
+    asked.reserve(more.requests.len())?;
+    make_room(alloc, groups, spots, stuck, more)
+}
+
+// Lays the groups that come, and then puts messages: those that were stuck before, and those that
+// come. It takes no memory but for the index of covered guards.
+pub(crate) fn lay_and_settle(
+    groups: &mut Groups<Told, Msg>,
+    spots: &mut Spots,
+    covering: &mut Covering,
+    stuck: &mut Vec<Waiting>,
+    more: More,
+    again: Vec<Waiting>,
+)
+    requires index { IsIndex spots.old (groups_of groups.old.groups) }
+    requires covering { IsCovering covering.old spots.old.serials.items
+        (groups_of groups.old.groups) }
+    requires new { Each IsNewGroup more.groups.items }
+    requires numbers { Each HasNumbers (told_of_new more.groups.items) }
+    requires apart { AreApart (told_of groups.old.groups ++ told_of_new more.groups.items) }
+    requires room { length again.items + length more.waiting.items ≤ groups.old.spare }
+    requires groups_fit { length more.groups.items ≤ groups.old.spare_groups }
+    requires channels { HasRoom spots.old (length more.groups.items) (widths more.groups.items) }
+    requires left { length again.items + length stuck.old.items + length more.waiting.items
+        ≤ vec_capacity stuck.old }
+    ensures site { (s : Site) → put_all more.waiting.items (put_all again.items
+        (record s {
+          groups = groups_of groups.old.groups ++ new_groups (told_of_new more.groups.items);
+          stuck = stuck.old.items;
+        }))
+        ≡ holding s groups.new.groups stuck.new.items }
+    ensures index { IsIndex spots.new (groups_of groups.new.groups) }
+    ensures covering { IsCovering covering.new spots.new.serials.items
+        (groups_of groups.new.groups) }
+    ensures many { length groups.new.groups ≡ length groups.old.groups + length more.groups.items }
+{
+    let More {
+        next: _,
+        groups: laid,
+        waiting,
+        requests: _,
+    } = more;
+    add_groups(groups, spots, covering, laid);
+    settle(groups, spots, covering, stuck, again);
+    settle(groups, spots, covering, stuck, waiting);
 }

@@ -1,24 +1,23 @@
 // Locations that come from other sites.
-ghost use Rattle.std.specs.Prelude.{◌≡◌, ◌++◌, ◌∷◌, [], true, OnOk, OnErr, IfOk};
+ghost use Rattle.std.specs.Prelude.{◌≡◌, [], true, OnOk, OnErr, IfOk};
 ghost use Rattle.loc_tree.specs.Tree.{Tree};
 ghost use Rattle.wire_packet.specs.ParcelFacts.{IsParcel};
 ghost use Rattle.env_store.specs.Running.{atom_ran};
-ghost use Rattle.net_laws.specs.Posting.{posted_of};
-ghost use Rattle.code_run.specs.Posts.{run_of};
-ghost use Rattle.site_solution.specs.inside.Leave.{IsSorted};
+ghost use Rattle.code_run.specs.Posts.{run_of, all_posted};
 ghost use Rattle.net_laws.specs.ByCode.{told_by};
 ghost use Rattle.net_laws.specs.Parcels.{load_of, take_in};
 ghost use Rattle.net_laws.specs.Meeting.{continuation_made, sent_here};
 ghost use Rattle.site_solution.specs.Answers.{Answers};
 ghost use Rattle.site_solution.specs.Parcels.{CanTakeIn, CanReceive};
-ghost use Rattle.site_solution.specs.inside.Carried.{IsCarried, IsBeside};
+ghost use Rattle.site_solution.specs.inside.Carried.{IsCarried, IsBeside, ArriveBeside};
+ghost use Rattle.site_solution.specs.inside.Carried.{IsContinued, IsTakenBeside};
 ghost use Rattle.site_solution.specs.InTree.{name_stands, is_in_tree};
 ghost use Rattle.site_solution.specs.InCode.{is_in_code};
 ghost use Rattle.site_solution.specs.Draws.{CanDraw};
 ghost use Rattle.site_solution.specs.Staying.{AgreeBut, StillFits, HasReceived};
 ghost use Rattle.site_solution.specs.Arriving.{FitsInto};
 
-use crate::commit::{Sorted, places, sort_posts};
+use crate::commit::{Sorted, effects, sort_with_births};
 use crate::effects::Effects;
 use crate::more::{More, new_groups};
 use crate::site::{Site, site_is_kept};
@@ -27,7 +26,7 @@ use code_run::{Run, message};
 use env_store::Code;
 use loc_tree::LocTree;
 use std::alloc::Global;
-use wire_packet::{Flights, Parcel, Waiting};
+use wire_packet::{Flights, Parcel, Request, Waiting};
 
 // Copies of messages.
 fn copies(alloc: Global, messages: &[Waiting]) -> Result<Vec<Waiting>, Memory>
@@ -56,11 +55,9 @@ fn carried(alloc: Global, code: &Code, parcel: &Parcel, next: u64) -> Result<Mor
     })
 }
 
-// What was posted besides, behind what a parcel brings; and what goes away.
-fn beside(before: More, sorted: Sorted) -> Result<(More, Flights), Memory>
-    ensures more { IfOk result
-        (λ r. IsBeside before sorted.waiting.items sorted.requests.items r.0) }
-    ensures flights { IfOk result (λ r. r.1 ≡ sorted.flights) }
+// Messages and requests behind what a parcel brings.
+fn beside(before: More, mut later: Vec<Waiting>, mut asked: Vec<Request>) -> Result<More, Memory>
+    ensures { IfOk result (IsBeside before later.items asked.items) }
 {
     let More {
         next,
@@ -68,42 +65,53 @@ fn beside(before: More, sorted: Sorted) -> Result<(More, Flights), Memory>
         mut waiting,
         mut requests,
     } = before;
-    let Sorted {
-        waiting: mut later,
-        requests: mut asked,
-        flights,
-    } = sorted;
     waiting.append(&mut later)?;
     requests.append(&mut asked)?;
-    let more = More {
+    Ok(More {
         next,
         groups,
         waiting,
         requests,
-    };
-    Ok((more, flights))
+    })
 }
 
-// The continuation as it is poured at the location, and sorted where that is hosted here too.
+// What a parcel brings, with this count, and behind it messages and requests.
+fn carried_beside(
+    alloc: Global,
+    code: &Code,
+    parcel: &Parcel,
+    next: u64,
+    waiting: Vec<Waiting>,
+    requests: Vec<Request>,
+) -> Result<More, Memory>
+    ensures kept { IsParcel parcel.now }
+    ensures more { IfOk result
+        (ArriveBeside code.now parcel.now next waiting.items requests.items) }
+{
+    let before = carried(alloc, code, parcel, next)?;
+    beside(before, waiting, requests)
+}
+
+// The continuation as it is poured at the location.
 fn continued(
     alloc: Global,
-    tree: &LocTree,
     counts: &Nums,
     site: &Site,
     loc: &Loc,
     cont: Name,
-) -> Result<(Run, Sorted), Memory>
-    ensures run { IfOk result (λ r. r.0 ≡ run_of (atom_ran
+) -> Result<Run, Memory>
+    ensures { IfOk result (λ r. r ≡ run_of (atom_ran
         (continuation_made counts.now site.now.number loc.now site.now.made cont))) }
-    ensures sorted { IfOk result (λ r. IsSorted tree.now (site.now.locs ++ loc.now ∷ [])
-        (posted_of (continuation_made counts.now site.now.number loc.now site.now.made cont).atoms)
-        r.1) }
 {
-    let args = Items::new(alloc);
-    let made = message(alloc, counts, site.number(), loc, cont, args, site.made())?;
-    let born = places(alloc, &[*loc])?;
-    let sorted = sort_posts(alloc, tree, site.places(), &born, made.posts.as_slice())?;
-    Ok((made, sorted))
+    message(
+        alloc,
+        counts,
+        site.number(),
+        loc,
+        cont,
+        Items::new(alloc),
+        site.made(),
+    )
 }
 
 impl Site {
@@ -123,6 +131,33 @@ impl Site {
         site_is_kept(self);
         let more = carried(alloc, code, parcel, self.made())?;
         self.add_all(alloc, Some(code), &[parcel.loc], more, 0, &[])
+    }
+
+    // Takes in a location, and leaves what a run posted there. Where there is no memory for all of
+    // it, nothing changes.
+    fn take_in_beside(
+        &mut self,
+        alloc: Global,
+        code: &Code,
+        tree: &LocTree,
+        parcel: &Parcel,
+        run: &Run,
+    ) -> Result<Flights, Memory>
+        requires can { CanReceive (load_of (told_by code.now) parcel.now) self.old }
+        requires posts { IsContinued self.old.number self.old.made (all_posted run.now.posts) }
+        ensures ok { IfOk result (IsTakenBeside tree.now code.now parcel.now run.now.next
+            (all_posted run.now.posts) self.old self.new) }
+        ensures err { OnErr result (self.new ≡ self.old) }
+    {
+        let posts = run.posts.as_slice();
+        let Sorted {
+            waiting,
+            requests,
+            flights,
+        } = sort_with_births(alloc, tree, self.places(), &[parcel.loc], posts)?;
+        let more = carried_beside(alloc, code, parcel, run.next, waiting, requests)?;
+        self.add_all(alloc, Some(code), &[parcel.loc], more, 0, &[])?;
+        Ok(flights)
     }
 
     /// Takes in a location, and then pours there the continuation of the request that brought it.
@@ -153,14 +188,13 @@ impl Site {
             → HasReceived code.now u self.new) }
     {
         site_is_kept(self);
-        let (made, sorted) = continued(alloc, tree, counts, self, loc, cont)?;
-        let before = carried(alloc, code, parcel, made.next)?;
-        let (more, sends) = beside(before, sorted)?;
-        self.add_all(alloc, Some(code), &[*loc], more, 0, &[])?;
-        Ok(Effects {
-            sends,
-            outs: made.outs,
-            births: made.births,
-        })
+        let made = continued(alloc, counts, self, loc, cont)?;
+        match self.take_in_beside(alloc, code, tree, parcel, &made) {
+            Ok(sends) => Ok(effects(made, sends)),
+            Err(memory) => {
+                drop(made);
+                Err(memory)
+            }
+        }
     }
 }

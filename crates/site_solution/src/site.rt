@@ -42,9 +42,9 @@ use crate::apart::{
 use crate::asked::Asked;
 use crate::choosing::{Search, first_fired};
 use crate::covering::{Covering, agrees, learn, no_covering, refresh};
-use crate::finding::{find, no_spots, push_back, settle};
+use crate::finding::{find, no_spots, push_back};
 use crate::forgetting::drop_groups;
-use crate::more::{More, add_groups, make_room, new_group, take_fronts, told_by};
+use crate::more::{More, lay_and_settle, make_all_room, new_group, take_fronts, told_by};
 use crate::packing::{copy_groups_at, copy_requests_at, copy_waiting_at};
 use crate::places::Places;
 use crate::testing::{
@@ -215,6 +215,19 @@ impl Site {
         self.groups.messages() + self.stuck.len()
     }
 
+    // Whether there are fewer than 2^32 messages with those that come, and as few groups.
+    fn has_numbers_for(&self, more: &More) -> bool
+        ensures waiting { IsTrue result
+            → waiting_in self.now + length more.now.waiting.items < 2 ^ 32 }
+        ensures groups { IsTrue result
+            → length self.now.groups + length more.now.groups.items < 2 ^ 32 }
+    {
+        if more.waiting.len() > u32::MAX as usize - self.waiting() {
+            return false;
+        }
+        more.groups.len() <= (u32::MAX - self.groups()) as usize
+    }
+
     /// Puts a message at a location: behind the others in the queue of its channel, or beside the
     /// queues where no group takes it. Where there is no memory it comes back.
     pub fn put(&mut self, loc: &Loc, msg: Msg) -> Result<(), (Msg, Memory)>
@@ -287,37 +300,32 @@ impl Site {
             ≡ added locs.now more (taken_at group chans.now self.old)) }
         ensures err { OnErr result (self.new ≡ self.old) }
     {
-        let held = self.waiting();
-        if more.waiting.len() > u32::MAX as usize - held
-            || more.groups.len() > u32::MAX as usize - self.groups.len()
-        {
+        if !self.has_numbers_for(&more) {
+            drop(more);
             return Err(Memory);
         }
-        self.locs.reserve(locs.len())?;
-        self.requests.reserve(more.requests.len())?;
         learn(&mut self.covering, alloc, code, &more.groups);
-        let again = make_room(
+        let Ok(again) = make_all_room(
             alloc,
+            &mut self.locs,
+            &mut self.requests,
             &mut self.groups,
             &mut self.spots,
             &mut self.stuck,
+            locs.len(),
             &more,
-        )?;
-        let More {
-            next,
-            groups,
-            waiting,
-            requests,
-        } = more;
-        self.made = next;
+        ) else {
+            drop(more);
+            return Err(Memory);
+        };
+        self.made = more.next;
         self.locs.add_all(locs);
-        self.requests.add_all(&requests);
+        self.requests.add_all(&more.requests);
         let rows = &mut self.groups;
+        let spots = &mut self.spots;
         let covering = &mut self.covering;
-        take_fronts(rows, &self.spots, covering, group as usize, chans);
-        add_groups(rows, &mut self.spots, covering, groups);
-        settle(rows, &self.spots, covering, &mut self.stuck, again);
-        settle(rows, &self.spots, covering, &mut self.stuck, waiting);
+        take_fronts(rows, spots, covering, group as usize, chans);
+        lay_and_settle(rows, spots, covering, &mut self.stuck, more, again);
         Ok(())
     }
 

@@ -1,0 +1,37 @@
+use Rattle.std.proofs.Common.{◌∷◌, ◌++◌, [], refl, sym, subst, ap, ◌∙◌}
+use Rattle.chem_model.specs.declared.name.Loc.{Loc}
+use Rattle.code_run.specs.Posts.{all_posted}
+use Rattle.wire_packet.specs.ParcelFacts.{ParcelParts}
+use Rattle.site_solution.specs.Held.{taken_at}
+use Rattle.site_solution.specs.inside.Leave.{IsSorted}
+use Rattle.site_solution.specs.inside.More.{CanAdd, added}
+use Rattle.site_solution.proofs.Leaving.{resort}
+use Rattle.site_solution.proofs.Receiving.{received-can, arrive-sorted}
+use Rattle.site_solution.proofs.site.Site.take_in_beside.Goals as goal
+
+pub sort_with_births-requires : goal.sort_with_births-requires
+sort_with_births-requires c = (refl, tt)
+
+pub add_all-requires : goal.add_all-requires
+add_all-requires c =
+    let loc = ap (λ (p : ParcelParts). p.loc) c.parcel.view_is in
+    let ls = c.args.self.now.locs ++ c.args.parcel.now.loc ∷ [] in
+    let ps = all_posted c.args.run.now.posts in
+    let sorted : IsSorted c.args.tree.now ls ps c.in_ok-waiting.field-0 = resort c.args.tree.now _ _ _ _ _ _ c.in_ok-waiting.field-0 c.places.ensures (ap (λ (l : Loc). l ∷ []) loc) c.as_slice-posts.ensures.members c.in_ok-waiting.ensures in
+    let arrive = arrive-sorted c.args.tree.now c.args.code.now c.args.parcel.now c.args.run.now.next ls ps c.in_ok-waiting.field-0 c.in_ok-more.more sorted c.in_ok-more.ensures.more in
+    subst (λ l. CanAdd (l ∷ []) c.in_ok-more.more c.args.self.now) (sym loc) (received-can c.args.code.now c.args.parcel.now c.args.run.now.next ps arrive.before c.in_ok-more.more c.args.self.now c.carried_beside.ensures.kept c.requires.can c.requires.posts arrive.carried arrive.beside)
+
+pub returns-clause-ok : goal.returns-clause-ok
+returns-clause-ok c =
+    let loc = ap (λ (p : ParcelParts). p.loc) c.parcel.view_is in
+    let ls = c.args.self.now.locs ++ c.args.parcel.now.loc ∷ [] in
+    let ps = all_posted c.args.run.now.posts in
+    let sorted : IsSorted c.args.tree.now ls ps c.in_ok-waiting.field-0 = resort c.args.tree.now _ _ _ _ _ _ c.in_ok-waiting.field-0 c.places.ensures (ap (λ (l : Loc). l ∷ []) loc) c.as_slice-posts.ensures.members c.in_ok-waiting.ensures in
+    let arrive = arrive-sorted c.args.tree.now c.args.code.now c.args.parcel.now c.args.run.now.next ls ps c.in_ok-waiting.field-0 c.in_ok-more.more sorted c.in_ok-more.ensures.more in
+    record {
+      more = c.in_ok-more.more;
+      arrive = arrive;
+      can = received-can c.args.code.now c.args.parcel.now c.args.run.now.next ps arrive.before c.in_ok-more.more c.args.self.now c.carried_beside.ensures.kept c.requires.can c.requires.posts arrive.carried arrive.beside;
+      is = c.in_ok-add_all.ensures.ok ∙ ap (λ l. added (l ∷ []) c.in_ok-more.more (taken_at 0 [] c.args.self.now)) loc;
+      sends = sorted.flights_are;
+    }
