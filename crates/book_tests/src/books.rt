@@ -3,9 +3,10 @@
 use crate::both::book_with;
 use chem_model::{AtomId, Event, Memory};
 use join_base::Front;
-use std::alloc::Global;
+use std::alloc::{AllocError, Global};
+use std::process::Abort;
 use std::test::Fail;
-use trace_history::{Book, Commit};
+use trace_history::{Book, Commit, Found};
 use worked_programs::program_of;
 
 /// More events than any book of these tests has.
@@ -16,60 +17,62 @@ fn book_of(alloc: Global, text: &str) -> Result<Box<Book>, Front> {
     Ok(book_with(alloc, &program)?)
 }
 
-/// What became of an event. None where the book is too long for these tests.
-fn commit(alloc: Global, book: &mut Book, event: &Event) -> Result<Option<Commit>, Memory> {
+/// What becomes of the move that has the request 0.k. None where the book is too long for these
+/// tests.
+fn commit_move(alloc: Global, book: &mut Book, k: u64) -> Result<Option<Commit>, Memory> {
     if book.journal().len() > MOST_EVENTS {
         return Ok(None);
     }
-    Ok(Some(book.commit(alloc, event)?))
+    let event = Event::Move {
+        atom: AtomId { site: 0, k },
+    };
+    Ok(Some(book.commit(alloc, &event)?))
 }
 
-/// The event that comes first from the first site on, and its site, by a copy of what was found.
-fn first(alloc: Global, book: &Book) -> Result<Option<(u32, Event)>, Memory> {
+/// The site of an event and its request, by a copy of what was found. None if it isn't a move.
+fn copied_move(alloc: Global, found: &Found) -> Result<Option<(u32, u64)>, Memory> {
+    let copy = found.copy(alloc)?;
+    match &copy.event {
+        Event::Move { atom } => Ok(Some((copy.site, atom.k))),
+        _ => Ok(None),
+    }
+}
+
+/// The site and the request of the event that comes first from the first site on.
+fn first_move(alloc: Global, book: &Book) -> Result<Option<(u32, u64)>, Memory> {
     if book.program().sites.is_empty() {
         return Ok(None);
     }
     match book.first_enabled(alloc, 0)? {
-        Some(found) => {
-            let copy = found.copy(alloc)?;
-            Ok(Some((copy.site, copy.event)))
-        }
+        Some(found) => copied_move(alloc, &found),
         None => Ok(None),
-    }
-}
-
-fn move_of(k: u64) -> Event {
-    Event::Move {
-        atom: AtomId { site: 0, k },
     }
 }
 
 /// The site and the request of the event that comes first in the opening of a text.
 fn first_request(alloc: Global, text: &str) -> Result<Option<(u32, u64)>, Front> {
     let book = book_of(alloc, text)?;
-    match first(alloc, &book)? {
-        Some((site, Event::Move { atom })) => Ok(Some((site, atom.k))),
-        _ => Ok(None),
-    }
+    Ok(first_move(alloc, &book)?)
 }
 
-/// What becomes of two moves, one after the other, from the opening of a text, and how many events
-/// there are then.
-fn moved(
-    alloc: Global,
-    text: &str,
-    one: u64,
-    other: u64,
-) -> Result<(Option<Commit>, Option<Commit>, usize), Front> {
-    let mut book = book_of(alloc, text)?;
-    let first = commit(alloc, &mut book, &move_of(one))?;
-    let second = commit(alloc, &mut book, &move_of(other))?;
+/// What becomes of two moves, and how many events there are then.
+type Moved = (Option<Commit>, Option<Commit>, usize);
+
+/// Two moves, one after the other.
+fn make_moves(alloc: Global, book: &mut Book, one: u64, other: u64) -> Result<Moved, Memory> {
+    let first = commit_move(alloc, book, one)?;
+    let second = commit_move(alloc, book, other)?;
     Ok((first, second, book.journal().len()))
 }
 
-/// The binders of the names in the observables of an opening.
-fn shown(alloc: Global, text: &str) -> Result<Vec<Option<u32>>, Front> {
-    let book = book_of(alloc, text)?;
+/// Two moves, one after the other, from the opening of a text.
+fn moved(alloc: Global, text: &str, one: u64, other: u64) -> Result<Moved, Front> {
+    let mut book = book_of(alloc, text)?;
+    Ok(make_moves(alloc, &mut book, one, other)?)
+}
+
+/// The binders of the names in the observables of a book.
+fn binders_of(alloc: Global, book: &Book) -> Result<Vec<Option<u32>>, AllocError> {
     let mut binders = Vec::new(alloc);
     for out in book.trace().as_slice() {
         if let Some(name) = out.args.as_slice().first() {
@@ -77,6 +80,12 @@ fn shown(alloc: Global, text: &str) -> Result<Vec<Option<u32>>, Front> {
         }
     }
     Ok(binders)
+}
+
+/// The binders of the names in the observables of an opening.
+fn shown(alloc: Global, text: &str) -> Result<Vec<Option<u32>>, Front> {
+    let book = book_of(alloc, text)?;
+    Ok(binders_of(alloc, &book)?)
 }
 
 fn is_quiet(alloc: Global, text: &str) -> Result<bool, Front> {
@@ -91,17 +100,27 @@ const TWO_MOVES: &str = "site a [ m[ k() => 0 : go(a, k) ] and n[ j() => 0 : go(
 const FOUR_LOCATIONS: &str = "observe out/1; site a [ m[ none : out(m) ] : out(a) ] \
     site b [ n[ none : out(n) ] : out(b) ]";
 
+/// That this is the site and the request of the event that comes first in the opening of a text.
+fn expect_first(rt: &impl Abort, alloc: Global, text: &str, want: Option<(u32, u64)>) {
+    assert_eq!(rt; first_request(alloc, text), Ok(want));
+}
+
 #[test]
 fn the_first_event(rt: HostRuntime) {
-    assert_eq!(rt; first_request(rt.alloc(), TWO_MOVES), Ok(Some((0, 6))));
-    assert_eq!(rt; first_request(rt.alloc(), FOUR_LOCATIONS), Ok(None));
+    expect_first(&rt, rt.alloc(), TWO_MOVES, Some((0, 6)));
+    expect_first(&rt, rt.alloc(), FOUR_LOCATIONS, None);
+}
+
+/// That this becomes of two moves, one after the other.
+fn expect_moved(rt: &impl Abort, alloc: Global, one: u64, other: u64, want: Moved) {
+    assert_eq!(rt; moved(alloc, TWO_MOVES, one, other), Ok(want));
 }
 
 #[test]
 fn a_move_is_made_and_another_is_not(rt: HostRuntime) {
     let made = Some(Commit::Place(0));
     let refused = Some(Commit::NotEnabled);
-    assert_eq!(rt; moved(rt.alloc(), TWO_MOVES, 6, 8), Ok((made, refused, 1)));
+    expect_moved(&rt, rt.alloc(), 6, 8, (made, refused, 1));
 }
 
 /// A request that was met is gone.
@@ -109,8 +128,8 @@ fn a_move_is_made_and_another_is_not(rt: HostRuntime) {
 fn a_move_is_made_once(rt: HostRuntime) {
     let made = Some(Commit::Place(0));
     let refused = Some(Commit::NotEnabled);
-    assert_eq!(rt; moved(rt.alloc(), TWO_MOVES, 6, 6), Ok((made, refused, 1)));
-    assert_eq!(rt; moved(rt.alloc(), TWO_MOVES, 8, 6), Ok((refused, made, 1)));
+    expect_moved(&rt, rt.alloc(), 6, 6, (made, refused, 1));
+    expect_moved(&rt, rt.alloc(), 8, 6, (refused, made, 1));
 }
 
 /// The places' processes are poured before the sites' own, and nothing is left to happen.
@@ -122,8 +141,13 @@ fn an_opening_in_order(rt: HostRuntime) -> Result<(), Fail> {
     Ok(())
 }
 
+/// That the opening of a text is quiet, or that it isn't.
+fn expect_quiet(rt: &impl Abort, alloc: Global, text: &str, want: bool) {
+    assert_eq!(rt; is_quiet(alloc, text), Ok(want));
+}
+
 #[test]
 fn quiet_books(rt: HostRuntime) {
-    assert_eq!(rt; is_quiet(rt.alloc(), FOUR_LOCATIONS), Ok(true));
-    assert_eq!(rt; is_quiet(rt.alloc(), TWO_MOVES), Ok(false));
+    expect_quiet(&rt, rt.alloc(), FOUR_LOCATIONS, true);
+    expect_quiet(&rt, rt.alloc(), TWO_MOVES, false);
 }

@@ -121,13 +121,23 @@ fn after(sites: usize, site: u32) -> u32 {
 }
 
 impl Both {
-    /// The event that comes first by the plain search, and whether the book finds the same one and
-    /// is quiet exactly where there is none.
-    fn found(&self, alloc: Global) -> Result<(bool, Option<Found>), Memory> {
+    /// Whether the book finds the same event as the plain search did, and is quiet exactly where
+    /// there is none.
+    fn finds(&self, alloc: Global, by_lists: &Option<Found>) -> Result<bool, Memory> {
         let by_book = first_of_book(alloc, &self.book, self.from)?;
+        Ok(is_same_found(&by_book, by_lists) && self.book.quiet() == by_lists.is_none())
+    }
+
+    /// The event that comes first by the plain search, and whether the book finds the same one.
+    fn found(&self, alloc: Global) -> Result<(bool, Option<Found>), Memory> {
         let by_lists = first_by_lists(alloc, &self.plain, self.from)?;
-        let is_same = is_same_found(&by_book, &by_lists);
-        Ok((is_same && self.book.quiet() == by_lists.is_none(), by_lists))
+        match self.finds(alloc, &by_lists) {
+            Ok(is_same) => Ok((is_same, by_lists)),
+            Err(memory) => {
+                drop(by_lists);
+                Err(memory)
+            }
+        }
     }
 
     /// Whether both say of an event that it is possible.

@@ -3,7 +3,7 @@
 
 use chem_model::{AtomId, Atoms, Event, Items, Loc, Memory, Numbered, NumberedRule, Pat, RuleId};
 use chem_plain::{atom_at, is_enabled, meets, rule_at};
-use std::alloc::Global;
+use std::alloc::{AllocError, Global};
 use trace_history::Found;
 
 /// Whether a site and a number come before others.
@@ -132,7 +132,14 @@ fn or_event(solution: &Numbered, from: u32, found: Option<Found>, event: Event) 
     }
 }
 
-/// These lists, each with one more message.
+/// The list with one more message.
+fn with_one_more(alloc: Global, list: &Atoms, id: AtomId) -> Result<Atoms, Memory> {
+    let mut copy = list.copy(alloc)?;
+    copy.push(id)?;
+    Ok(copy)
+}
+
+/// Adds these lists, each with one more message.
 fn add_longer(
     alloc: Global,
     longer: &mut Vec<Atoms>,
@@ -140,9 +147,7 @@ fn add_longer(
     id: AtomId,
 ) -> Result<(), Memory> {
     for list in lists {
-        let mut copy = list.copy(alloc)?;
-        copy.push(id)?;
-        longer.push(copy)?;
+        longer.push(with_one_more(alloc, list, id)?)?;
     }
     Ok(())
 }
@@ -164,10 +169,16 @@ fn lengthened(
     Ok(longer)
 }
 
-/// All lists of messages that a rule receives, one for each pattern.
-fn received(alloc: Global, solution: &Numbered, rule: &NumberedRule) -> Result<Vec<Atoms>, Memory> {
+/// One list, which is empty.
+fn one_empty(alloc: Global) -> Result<Vec<Atoms>, AllocError> {
     let mut lists = Vec::new(alloc);
     lists.push(Items::new(alloc))?;
+    Ok(lists)
+}
+
+/// All lists of messages that a rule receives, one for each pattern.
+fn received(alloc: Global, solution: &Numbered, rule: &NumberedRule) -> Result<Vec<Atoms>, Memory> {
+    let mut lists = one_empty(alloc)?;
     for pat in rule.pats.as_slice() {
         lists = lengthened(alloc, solution, rule.loc, pat, lists.as_slice())?;
     }
@@ -200,16 +211,22 @@ fn or_request(solution: &Numbered, from: u32, found: Option<Found>, atom: AtomId
     or_event(solution, from, first, Event::Detect { atom })
 }
 
+/// The reaction that comes first, where the site `from` is looked at first, and its site.
+fn first_reaction(alloc: Global, solution: &Numbered, from: u32) -> Result<Option<Found>, Memory> {
+    let mut first = None;
+    for rule in solution.rules.as_slice() {
+        first = or_rule(alloc, solution, from, first, rule)?;
+    }
+    Ok(first)
+}
+
 /// The event that comes first, where the site `from` is looked at first, and its site.
 pub fn first_by_lists(
     alloc: Global,
     solution: &Numbered,
     from: u32,
 ) -> Result<Option<Found>, Memory> {
-    let mut first = None;
-    for rule in solution.rules.as_slice() {
-        first = or_rule(alloc, solution, from, first, rule)?;
-    }
+    let mut first = first_reaction(alloc, solution, from)?;
     for atom in solution.atoms.as_slice() {
         first = or_request(solution, from, first, atom.id);
     }

@@ -1,5 +1,6 @@
 // The crates as a library, by the lines of docs/CALLING.md.
 
+use crate::texts::expect_bytes;
 use chem_model::{Memory, Program, Text};
 use join_base::Front;
 use join_lex::lex;
@@ -42,6 +43,6 @@ fn shown_of(alloc: Global, text: &str) -> Result<Text, Front> {
 fn the_lines_of_the_document(rt: HostRuntime) -> Result<(), Fail> {
     let text = "observe out/1; site s [ x(u) => out(u) : x(s) ]";
     let shown = shown_of(rt.alloc(), text).or(Err("nothing is shown"))?;
-    assert_eq!(rt; shown.as_slice(), b"out(s)\nquiescent\n".as_slice());
+    expect_bytes(&rt, shown.as_slice(), b"out(s)\nquiescent\n");
     Ok(())
 }

@@ -1,7 +1,7 @@
 // Logs read back, and bytes that are no log. The places were counted by hand.
-use chem_model::{AtomId, Event, Memory};
+use chem_model::{AtomId, Event, Journal, Memory, Text};
 use std::alloc::Global;
-use std::test::Fail;
+use std::process::Abort;
 use trace_text::{Log, LogEnd, log_of_parts, read_log};
 
 /// The log of a run of one event.
@@ -95,12 +95,17 @@ fn wrong() -> &'static [(&'static [u8], u64)] {
 }
 
 /// Where bytes are wrong first, if they are no log.
-fn wrong_at(alloc: Global, bytes: &[u8]) -> Result<Option<u64>, Fail> {
+fn wrong_at(alloc: Global, bytes: &[u8]) -> Result<Option<u64>, Memory> {
     match read_log(alloc, bytes) {
         Ok(_) => Ok(None),
         Err(LogEnd::Bad { place }) => Ok(Some(place)),
-        Err(LogEnd::Memory) => Err("out of memory".into()),
+        Err(LogEnd::Memory) => Err(Memory),
     }
+}
+
+/// That bytes are no log, and wrong first at this place.
+fn expect_wrong(rt: &impl Abort, alloc: Global, bytes: &[u8], place: u64) {
+    assert_eq!(rt; wrong_at(alloc, bytes), Ok(Some(place)));
 }
 
 /// The last field of `LOG` that begins at this place or before.
@@ -114,29 +119,42 @@ fn field_before(place: usize) -> u64 {
     last
 }
 
-#[test]
-fn the_first_field_that_is_wrong(rt: HostRuntime) -> Result<(), Fail> {
-    let log = log_of_one_event();
+/// That a log that ends at any place before its end is wrong in its last field.
+fn expect_cut(rt: &impl Abort, alloc: Global, log: &[u8]) {
     for (place, _) in log.iter().enumerate() {
         let (front, _) = log.split_at(place);
-        assert_eq!(rt; wrong_at(rt.alloc(), front)?, Some(field_before(place)));
+        expect_wrong(rt, alloc, front, field_before(place));
     }
-    for (bytes, place) in wrong() {
-        assert_eq!(rt; wrong_at(rt.alloc(), bytes)?, Some(*place));
-    }
-    Ok(())
 }
 
-/// Whether a copy of a log has the text that the log was read from.
-fn copy_is_spelled(alloc: Global, log: &Log, bytes: &[u8]) -> Result<bool, Memory> {
-    let log = Box::new(alloc, log.copy(alloc)?)?;
-    let text = log_of_parts(
+#[test]
+fn the_first_field_that_is_wrong(rt: HostRuntime) {
+    expect_cut(&rt, rt.alloc(), log_of_one_event());
+    for (bytes, place) in wrong() {
+        expect_wrong(&rt, rt.alloc(), bytes, *place);
+    }
+}
+
+fn copied_log(alloc: Global, log: &Log) -> Result<Box<Log>, Memory> {
+    let copy = log.copy(alloc)?;
+    Ok(Box::new(alloc, copy)?)
+}
+
+/// The text of a log.
+fn text_of(alloc: Global, log: &Log) -> Result<Text, Memory> {
+    log_of_parts(
         alloc,
         log.source.as_slice(),
         log.budget,
         &log.events,
         log.trace.as_slice(),
-    )?;
+    )
+}
+
+/// Whether a copy of a log has the text that the log was read from.
+fn copy_is_spelled(alloc: Global, log: &Log, bytes: &[u8]) -> Result<bool, Memory> {
+    let copy = copied_log(alloc, log)?;
+    let text = text_of(alloc, &copy)?;
     Ok(text.as_slice() == bytes)
 }
 
@@ -147,13 +165,25 @@ fn spelled_again(alloc: Global, bytes: &[u8]) -> Result<bool, LogEnd> {
     is_same.map_err(|_memory| LogEnd::Memory)
 }
 
+/// The last atom that the first event of a journal takes.
+fn last_of_first(journal: &Journal) -> Option<AtomId> {
+    match journal.as_slice().first() {
+        Some(Event::React { took, .. }) => took.as_slice().last().copied(),
+        _ => None,
+    }
+}
+
 /// The last atom that the first event of a log takes.
 fn last_taken(alloc: Global, bytes: &[u8]) -> Result<Option<AtomId>, LogEnd> {
     let log = read_log(alloc, bytes)?;
-    match log.events.as_slice().first() {
-        Some(Event::React { took, .. }) => Ok(took.as_slice().last().copied()),
-        _ => Ok(None),
-    }
+    let last = last_of_first(&log.events);
+    drop(log);
+    Ok(last)
+}
+
+/// That these bytes are a log, which a copy of what is read spells again.
+fn expect_spelled(rt: &impl Abort, alloc: Global, bytes: &[u8]) {
+    assert_eq!(rt; spelled_again(alloc, bytes), Ok(true));
 }
 
 #[test]
@@ -162,7 +192,7 @@ fn logs_there_and_back(rt: HostRuntime) {
         site: 4_294_967_295,
         k: 18_446_744_073_709_551_615,
     };
-    assert_eq!(rt; spelled_again(rt.alloc(), log_of_one_event()), Ok(true));
-    assert_eq!(rt; spelled_again(rt.alloc(), EACH_KIND), Ok(true));
+    expect_spelled(&rt, rt.alloc(), log_of_one_event());
+    expect_spelled(&rt, rt.alloc(), EACH_KIND);
     assert_eq!(rt; last_taken(rt.alloc(), EACH_KIND), Ok(Some(last)));
 }

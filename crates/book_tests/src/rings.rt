@@ -2,6 +2,8 @@
 
 ghost use Rattle.std.specs.Prelude.{◌≤◌};
 
+use crate::texts::expect_bytes;
+use chem_model::Memory;
 use ring_source::ring_text;
 use std::alloc::Global;
 use std::process::Abort;
@@ -17,7 +19,7 @@ fn expect_text(rt: &impl Abort, alloc: Global, n: u32, want: &[u8]) -> Result<()
     requires { (1 ≤ n) × (n ≤ 64) }
 {
     let text = ring_text(alloc, n)?;
-    assert_eq!(rt; text.as_slice(), want);
+    expect_bytes(rt, text.as_slice(), want);
     Ok(())
 }
 
@@ -31,12 +33,18 @@ fn the_ring_of_3(rt: HostRuntime) -> Result<(), Fail> {
     expect_text(&rt, rt.alloc(), 3, RING_OF_3)
 }
 
+/// How many bytes the text of a ring has.
+fn length_of(alloc: Global, n: u32) -> Result<usize, Memory>
+    requires { (1 ≤ n) × (n ≤ 64) }
+{
+    let text = ring_text(alloc, n)?;
+    Ok(text.len())
+}
+
 /// 15 bytes for the declaration, 10 times 78 and 54 times 88 for the lines of sites of one digit
 /// and of two, 38 for the agent without its 63 rules, 29 for each of these without its numbers, and
 /// 4 times 117 for their digits.
 #[test]
-fn the_length_of_the_ring_of_64(rt: HostRuntime) -> Result<(), Fail> {
-    let text = ring_text(rt.alloc(), 64)?;
-    assert_eq!(rt; text.len(), 7880);
-    Ok(())
+fn the_length_of_the_ring_of_64(rt: HostRuntime) {
+    assert_eq!(rt; length_of(rt.alloc(), 64), Ok(7880));
 }

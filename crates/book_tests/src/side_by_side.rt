@@ -4,7 +4,6 @@ use crate::both::{End, both_of};
 use join_base::Front;
 use std::alloc::{AllocError, Global};
 use std::process::Abort;
-use std::test::Fail;
 use worked_texts::{Case, examples, runs};
 
 /// So many events of a worked text are made at most.
@@ -57,58 +56,70 @@ fn is_fine(outcome: &Result<Outcome, Front>) -> bool {
     }
 }
 
+/// How the run of a case ends.
+fn outcome_of(alloc: Global, case: &Case) -> Result<Outcome, Front> {
+    let source = case.source(alloc)?;
+    outcome(alloc, source.as_slice(), EVENTS)
+}
+
+/// That a text is made in both alike, and how many events it has then.
+fn expect_made(rt: &impl Abort, alloc: Global, case: &Case) -> usize {
+    let made = outcome_of(alloc, case);
+    assert!(rt; is_fine(&made), "{made:?}");
+    made.map_or(0, |all| all.1)
+}
+
 /// That each of these texts is made in both alike.
-fn expect_fine(rt: &impl Abort, alloc: Global, cases: &[Case]) -> Result<(), Fail> {
+fn expect_fine(rt: &impl Abort, alloc: Global, cases: &[Case]) {
     for case in cases {
-        let source = case.source(alloc)?;
-        let made = outcome(alloc, source.as_slice(), EVENTS);
-        assert!(rt; is_fine(&made), "{made:?}");
+        expect_made(rt, alloc, case);
     }
-    Ok(())
 }
 
 #[test]
-fn worked_texts_in_both(rt: HostRuntime) -> Result<(), Fail> {
+fn worked_texts_in_both(rt: HostRuntime) {
     for cases in runs() {
-        expect_fine(&rt, rt.alloc(), cases)?;
+        expect_fine(&rt, rt.alloc(), cases);
     }
-    Ok(())
 }
 
 /// That each of these texts ends in both, after as many events as it has.
-fn expect_events(rt: &impl Abort, alloc: Global, cases: &[Case]) -> Result<(), Fail> {
+fn expect_events(rt: &impl Abort, alloc: Global, cases: &[Case]) {
     for case in cases {
-        let source = case.source(alloc)?;
-        let made = outcome(alloc, source.as_slice(), EVENTS);
-        assert!(rt; is_fine(&made), "{made:?}");
-        assert_eq!(rt; made.map(|all| all.1), Ok(case.events.unwrap_or(0)));
+        let events = expect_made(rt, alloc, case);
+        assert_eq!(rt; events, case.events.unwrap_or(0));
     }
-    Ok(())
 }
 
 #[test]
-fn examples_in_both(rt: HostRuntime) -> Result<(), Fail> {
+fn examples_in_both(rt: HostRuntime) {
     for cases in examples() {
-        expect_events(&rt, rt.alloc(), cases)?;
+        expect_events(&rt, rt.alloc(), cases);
     }
-    Ok(())
+}
+
+/// How the run of agents beside so many messages that wait ends, with so many events at most.
+fn outcome_of_agents(alloc: Global, idle: u32, budget: u32) -> Result<Outcome, Front> {
+    let source = agents(alloc, idle)?;
+    outcome(alloc, source.as_slice(), budget)
+}
+
+/// That it ends so.
+fn expect_agents(rt: &impl Abort, alloc: Global, idle: u32, budget: u32, want: Outcome) {
+    assert_eq!(rt; outcome_of_agents(alloc, idle, budget), Ok(want));
 }
 
 /// The two sites and 2,010 agents: twenty are born in ten of the first twenty events, and two in
 /// each of 995 rounds of four events (a move, what it asks for, the birth, and what stays).
 #[test]
-fn two_thousand_agents_in_both(rt: HostRuntime) -> Result<(), Fail> {
-    let source = agents(rt.alloc(), 0)?;
-    let made = outcome(rt.alloc(), source.as_slice(), 4_000);
-    assert_eq!(rt; made, Ok((End::Spent, 4_000, true, 2_012)));
-    Ok(())
+fn two_thousand_agents_in_both(rt: HostRuntime) {
+    let want = (End::Spent, 4_000, true, 2_012);
+    expect_agents(&rt, rt.alloc(), 0, 4_000, want);
 }
 
 /// The two sites and 310 agents, beside more messages than the book's lesser table is for.
 #[test]
-fn agents_beside_messages_in_both(rt: HostRuntime) -> Result<(), Fail> {
-    let source = agents(rt.alloc(), 120)?;
-    let made = outcome(rt.alloc(), source.as_slice(), 600);
-    assert_eq!(rt; made, Ok((End::Spent, 600, true, 312)));
-    Ok(())
+fn agents_beside_messages_in_both(rt: HostRuntime) {
+    let want = (End::Spent, 600, true, 312);
+    expect_agents(&rt, rt.alloc(), 120, 600, want);
 }

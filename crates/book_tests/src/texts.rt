@@ -2,9 +2,10 @@
 ghost use Rattle.std.specs.Prelude.{◌≤◌, length};
 
 use crate::both::book_with;
-use chem_model::{AtomId, Event, Items, RuleId, Text};
+use chem_model::{AtomId, Event, Items, Journal, Memory, RuleId, Text};
 use join_base::Front;
 use std::alloc::Global;
+use std::process::Abort;
 use std::test::Fail;
 use trace_text::{Ending, log_bytes, log_of_parts, trace_bytes};
 use worked_programs::program_of;
@@ -20,50 +21,75 @@ fn before_any_event(alloc: Global, source: &[u8]) -> Result<(Text, Text), Front>
     Ok((trace, log))
 }
 
+/// That these bytes are the ones that are wanted.
+pub fn expect_bytes(rt: &impl Abort, bytes: &[u8], want: &[u8]) {
+    assert_eq!(rt; bytes, want);
+}
+
 #[test]
 fn the_texts_of_a_book(rt: HostRuntime) -> Result<(), Fail> {
     let source = b"observe out/0; site s [ none : out() ]";
     let (trace, log) = before_any_event(rt.alloc(), source).or(Err("there is no book"))?;
-    assert_eq!(rt; trace.as_slice(), b"out()\nquiescent\n".as_slice());
+    expect_bytes(&rt, trace.as_slice(), b"out()\nquiescent\n");
     let want: &[u8] =
         b"joinlog 1\nsource 38\nobserve out/0; site s [ none : out() ]\nbudget 10\nevents 0\ntrace 14\nout()\nstopped\n";
-    assert_eq!(rt; log.as_slice(), want);
+    expect_bytes(&rt, log.as_slice(), want);
     Ok(())
+}
+
+/// The log of a text without an event.
+fn log_without_an_event(alloc: Global) -> Result<Text, Memory> {
+    let source = b"observe out/0; site s [ none : out() ]";
+    let journal = Items::new(alloc);
+    log_of_parts(alloc, source, 10, &journal, b"out()\nquiescent\n")
 }
 
 #[test]
 fn a_run_without_an_event(rt: HostRuntime) -> Result<(), Fail> {
-    let source = b"observe out/0; site s [ none : out() ]";
-    let journal = Items::new(rt.alloc());
-    let log = log_of_parts(rt.alloc(), source, 10, &journal, b"out()\nquiescent\n")?;
+    let log = log_without_an_event(rt.alloc())?;
     let want: &[u8] =
         b"joinlog 1\nsource 38\nobserve out/0; site s [ none : out() ]\nbudget 10\nevents 0\ntrace 16\nout()\nquiescent\n";
-    assert_eq!(rt; log.as_slice(), want);
+    expect_bytes(&rt, log.as_slice(), want);
     Ok(())
 }
 
-#[test]
-fn an_event_of_each_kind(rt: HostRuntime) -> Result<(), Fail> {
-    let atom = AtomId {
-        site: 4_294_967_295,
-        k: 18_446_744_073_709_551_615,
-    };
-    let took = Items::from_slice(rt.alloc(), &[AtomId { site: 0, k: 3 }, atom])?;
-    let mut journal = Items::new(rt.alloc());
-    journal.push(Event::React {
+/// The greatest numbers of a site and of an atom.
+const LAST: AtomId = AtomId {
+    site: 4_294_967_295,
+    k: 18_446_744_073_709_551_615,
+};
+
+fn a_reaction(alloc: Global) -> Result<Event, Memory> {
+    let took = Items::from_slice(alloc, &[AtomId { site: 0, k: 3 }, LAST])?;
+    Ok(Event::React {
         rule: RuleId { site: 0, k: 2 },
         took,
-    })?;
-    journal.push(Event::Move { atom })?;
+    })
+}
+
+/// Adds a reaction and each kind of request.
+fn push_each_kind(alloc: Global, journal: &mut Journal) -> Result<(), Memory> {
+    journal.push(a_reaction(alloc)?)?;
+    journal.push(Event::Move { atom: LAST })?;
     journal.push(Event::Halt {
         atom: AtomId { site: 10, k: 100 },
     })?;
     journal.push(Event::Detect {
         atom: AtomId { site: 7, k: 0 },
-    })?;
-    let log = log_of_parts(rt.alloc(), b"", 1_000_000, &journal, b"stopped\n")?;
+    })
+}
+
+fn log_of_each_kind(alloc: Global) -> Result<Text, Memory> {
+    let mut journal = Items::new(alloc);
+    push_each_kind(alloc, &mut journal)?;
+    log_of_parts(alloc, b"", 1_000_000, &journal, b"stopped\n")
+}
+
+#[test]
+fn an_event_of_each_kind(rt: HostRuntime) -> Result<(), Fail> {
+    let log = log_of_each_kind(rt.alloc())?;
     let want: &[u8] =
         b"joinlog 1\nsource 0\n\nbudget 1000000\nevents 4\nreact 0.2 0.3 4294967295.18446744073709551615\nmove 4294967295.18446744073709551615\nhalt 10.100\ndetect 7.0\ntrace 8\nstopped\n";
-    assert_eq!(rt; log.as_slice(), want);
+    expect_bytes(&rt, log.as_slice(), want);
     Ok(())
 }

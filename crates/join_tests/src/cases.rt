@@ -1,9 +1,10 @@
 // Worked cases as data, and the one test that runs them all.
 ghost use denote.Param.Send.{IsSync};
 
-use crate::lines::lines;
-use crate::outcome::call;
+use crate::lines::{lines, no_lines};
+use crate::outcome::{Outcome, call};
 use crate::refusals::refusals;
+use chem_model::Memory;
 use std::marker::Sync;
 use std::process::Abort;
 use std::sync::Wait;
@@ -19,12 +20,29 @@ pub const REFUSED: Case = Case {
     ..QUIET
 };
 
-/// Words that ask for nothing.
-pub const USAGE: Case = Case {
+/// Words that ask for nothing, beside a text that could be run.
+const USAGE: &Case = &Case {
+    text: &[(1, "site s [ none : 0 ]")],
     status: 2,
     err: "usage: join MODE [N] [OPTIONS]\n",
     ..REFUSED
 };
+
+fn usage() -> &'static Case {
+    USAGE
+}
+
+/// How a case ends, run with these words.
+fn outcome_of<R: AllocGlobal + Abort + Threads + Wait + Sync>(
+    rt: &R,
+    words: &[&str],
+    case: &Case,
+) -> Result<Outcome, Memory>
+    requires { IsSync R.row }
+{
+    let source = case.source(rt.alloc())?;
+    call(rt, words, source.as_slice())
+}
 
 /// That a case ends as it says, run with these words.
 pub fn expect<R: AllocGlobal + Abort + Threads + Wait + Sync>(
@@ -34,10 +52,8 @@ pub fn expect<R: AllocGlobal + Abort + Threads + Wait + Sync>(
 ) -> Result<(), Fail>
     requires { IsSync R.row }
 {
-    let source = case.source(rt.alloc())?;
-    let outcome = call(rt, words, source.as_slice())?;
-    outcome.expect(rt, case.status, case.out, case.err);
-    assert_eq!(rt; outcome.events, case.events);
+    let outcome = outcome_of(rt, words, case)?;
+    outcome.expect_case(rt, case);
     Ok(())
 }
 
@@ -78,12 +94,25 @@ fn refused_texts(rt: HostRuntime) -> Result<(), Fail> {
     Ok(())
 }
 
+/// That each of these lines of words asks for nothing.
+fn expect_usage<R: AllocGlobal + Abort + Threads + Wait + Sync>(
+    rt: &R,
+    lines: &[&[&str]],
+) -> Result<(), Fail>
+    requires { IsSync R.row }
+{
+    for words in lines {
+        expect(rt, *words, usage())?;
+    }
+    Ok(())
+}
+
 #[test]
 fn lines_of_words(rt: HostRuntime) -> Result<(), Fail> {
     for cases in lines() {
         expect_all(&rt, cases)?;
     }
-    Ok(())
+    expect_usage(&rt, no_lines())
 }
 
 #[test]

@@ -1,6 +1,6 @@
 // Sources and sinks at their ends.
 
-use crate::outcome::{call, call_into, roomy_sink, sink_with, source_of};
+use crate::outcome::{call, call_into, ends_of, sink_with};
 use std::test::Fail;
 
 const FIRST: &[u8] = b"observe out/1; site s [ x(u) => out(u) : x(s) ]";
@@ -10,11 +10,9 @@ const ALONE: [&str; 3] = ["alone", "--budget", "10"];
 /// The first write is offered the whole text: a sink that takes it isn't asked again.
 #[test]
 fn one_write_is_enough(rt: HostRuntime) -> Result<(), Fail> {
-    let alloc = rt.alloc();
-    let mut source = source_of(alloc, FIRST)?;
-    let mut out = sink_with(alloc, 64, 64, &[2])?;
-    let mut err = roomy_sink(alloc)?;
-    let run = call_into(&rt, &ALONE, &mut source, &mut out, &mut err)?;
+    let mut ends = ends_of(rt.alloc(), FIRST)?;
+    ends.out = sink_with(rt.alloc(), 64, 64, &[2])?;
+    let run = call_into(&rt, &ALONE, &mut ends)?;
     run.expect(&rt, 0, "out(s)\nquiescent\n", "");
     Ok(())
 }
@@ -25,18 +23,16 @@ fn a_text_past_the_limit(rt: HostRuntime) -> Result<(), Fail> {
     let blanks = vec![in rt.alloc(); b' '; 1_048_580]?;
     let run = call(&rt, &ALONE, blanks.as_slice())?;
     run.expect(&rt, 1, "", "lex 1 at 1048576\n");
-    assert_eq!(rt; run.unread, 3);
+    run.expect_unread(&rt, 3);
     Ok(())
 }
 
 /// A line that has no room leaves the status of its cause.
 #[test]
 fn the_line_of_a_fault_is_cut(rt: HostRuntime) -> Result<(), Fail> {
-    let alloc = rt.alloc();
-    let mut source = source_of(alloc, b"")?;
-    let mut out = roomy_sink(alloc)?;
-    let mut err = sink_with(alloc, 3, 8, &[])?;
-    let run = call_into(&rt, &ALONE, &mut source, &mut out, &mut err)?;
+    let mut ends = ends_of(rt.alloc(), b"")?;
+    ends.err = sink_with(rt.alloc(), 3, 8, &[])?;
+    let run = call_into(&rt, &ALONE, &mut ends)?;
     run.expect(&rt, 1, "", "gra");
     Ok(())
 }

@@ -1,7 +1,7 @@
 // Runs on free threads.
 ghost use denote.Param.Send.{IsSync};
 
-use crate::outcome::{Made, Outcome, call, call_through, roomy_sink, source_of};
+use crate::outcome::{Ends, Made, Outcome, call, call_through, ends_of};
 use crate::rounds::words_by;
 use chem_model::Memory;
 use join_top::{HoldGate, Threaded};
@@ -85,7 +85,16 @@ fn run_freely<R: AllocGlobal + Abort + Threads + Wait + Sync>(
     call(rt, words.as_slice(), source.as_slice())
 }
 
-/// That a case ends on free threads as it may, and that the workers made each event.
+/// That a run on free threads ended as the case says, and that the workers made each event.
+fn expect_made(rt: &impl Abort, run: &Outcome, case: &Case) {
+    run.expect_status(rt, case.status);
+    assert!(rt; may_print(run.out.as_slice(), case));
+    run.expect_events(rt, case.events);
+    let made = case.events.map(|events| Made::Shared(events as u64));
+    run.expect_made(rt, made);
+}
+
+/// That a case ends on free threads as it may, with so many workers.
 fn expect_shared<R: AllocGlobal + Abort + Threads + Wait + Sync>(
     rt: &R,
     case: &Case,
@@ -94,15 +103,23 @@ fn expect_shared<R: AllocGlobal + Abort + Threads + Wait + Sync>(
     requires { IsSync R.row }
 {
     let run = run_freely(rt, case, workers)?;
-    assert_eq!(rt; run.status, case.status);
-    assert!(rt; may_print(run.out.as_slice(), case));
-    assert_eq!(rt; run.events, case.events);
-    let made = case.events.map(|events| Made::Shared(events as u64));
-    assert_eq!(rt; run.made, made);
+    expect_made(rt, &run, case);
     Ok(())
 }
 
-/// That each of these cases ends on free threads as it may, with each number of workers.
+/// That a case ends on free threads as it may, with each number of workers.
+fn expect_shared_by_each<R: AllocGlobal + Abort + Threads + Wait + Sync>(
+    rt: &R,
+    case: &Case,
+) -> Result<(), Fail>
+    requires { IsSync R.row }
+{
+    expect_shared(rt, case, "1")?;
+    expect_shared(rt, case, "2")?;
+    expect_shared(rt, case, "16")
+}
+
+/// That each of these cases ends on free threads as it may.
 fn expect_all_shared<R: AllocGlobal + Abort + Threads + Wait + Sync>(
     rt: &R,
     cases: &[Case],
@@ -110,9 +127,7 @@ fn expect_all_shared<R: AllocGlobal + Abort + Threads + Wait + Sync>(
     requires { IsSync R.row }
 {
     for case in cases {
-        for workers in ["1", "2", "16"] {
-            expect_shared(rt, case, workers)?;
-        }
+        expect_shared_by_each(rt, case)?;
     }
     Ok(())
 }
@@ -126,7 +141,7 @@ fn worked_texts_on_free_threads(rt: HostRuntime) -> Result<(), Fail> {
 }
 
 /// A ring of 64 sites.
-const RING: Case = Case {
+const RING: &Case = &Case {
     words: &["gen", "64", "--budget", "1000", "--by", "run"],
     text: &[(1, "this is not read")],
     out: "events 640\nobservables 64\nquiescent\n",
@@ -134,15 +149,48 @@ const RING: Case = Case {
     ..QUIET
 };
 
+fn ring() -> &'static Case {
+    RING
+}
+
 #[test]
 fn a_ring_on_free_threads(rt: HostRuntime) -> Result<(), Fail> {
-    expect_shared(&rt, &RING, "1")?;
-    expect_shared(&rt, &RING, "4")
+    expect_shared(&rt, ring(), "1")?;
+    expect_shared(&rt, ring(), "4")
 }
 
 /// Ten messages at each of two sites.
 const TWO_SITES: &str = "site s [ x() => 0 : x() | x() | x() | x() | x() | x() | x() | x() | x() | \
     x() ] site t [ y() => 0 : y() | y() | y() | y() | y() | y() | y() | y() | y() | y() ]";
+
+fn two_sites() -> &'static str {
+    TWO_SITES
+}
+
+/// A run of the two sites by two workers, through a gate.
+fn run_through<R: AllocGlobal + Abort + Threads + Wait + Sync>(
+    rt: &R,
+    gate: &HoldGate,
+    ends: &mut Ends,
+) -> Result<Outcome, Memory>
+    requires { IsSync R.row }
+{
+    let words = ["run", "--budget", "20", "--workers", "2"];
+    let team = Threaded::new(rt);
+    call_through(rt.alloc(), &words, ends, gate, &team)
+}
+
+/// How such a run was made.
+fn made_through<R: AllocGlobal + Abort + Threads + Wait + Sync>(
+    rt: &R,
+    gate: &HoldGate,
+) -> Result<Option<Made>, Memory>
+    requires { IsSync R.row }
+{
+    let mut ends = ends_of(rt.alloc(), two_sites().as_bytes())?;
+    let run = run_through(rt, gate, &mut ends)?;
+    Ok(run.made)
+}
 
 /// How a run of the two sites by two workers was made, through a gate that holds each of them until
 /// the other has come, and whether one of them gave up.
@@ -151,15 +199,9 @@ fn through_the_gate<R: AllocGlobal + Abort + Threads + Wait + Sync>(
 ) -> Result<(Option<Made>, bool), Memory>
     requires { IsSync R.row }
 {
-    let alloc = rt.alloc();
     let gate = HoldGate::new();
-    let words = ["run", "--budget", "20", "--workers", "2"];
-    let mut source = source_of(alloc, TWO_SITES.as_bytes())?;
-    let mut out = roomy_sink(alloc)?;
-    let mut err = roomy_sink(alloc)?;
-    let team = Threaded::new(rt);
-    let run = call_through(alloc, &words, &mut source, &mut out, &mut err, &gate, &team)?;
-    Ok((run.made, gate.gave_up()))
+    let made = made_through(rt, &gate)?;
+    Ok((made, gate.gave_up()))
 }
 
 /// Two workers are inside their turns at once: one thread can't pass the gate, nor one lock round

@@ -2,9 +2,10 @@
 ghost use denote.Param.Send.{IsSync};
 
 use crate::cases::{REFUSED, expect};
-use crate::outcome::{Outcome, call_into, sink_with, source_with};
+use crate::outcome::{Ends, Outcome, call_into, sink_with, source_with};
 use crate::refusals::refusals;
 use chem_model::Memory;
+use std::alloc::Global;
 use std::marker::Sync;
 use std::process::Abort;
 use std::sync::Wait;
@@ -65,7 +66,7 @@ const NO_FAULT: Fault = Fault {
     case: UNKNOWN,
 };
 
-const FAULTS: &[Fault] = &[
+const FAULTS_OF_READS: &[Fault] = &[
     // Whichever read fails, also the one that would find the end, nothing but the line of the fault
     // is written.
     Fault {
@@ -97,6 +98,9 @@ const FAULTS: &[Fault] = &[
         },
         ..NO_FAULT
     },
+];
+
+const FAULTS_OF_WRITES: &[Fault] = &[
     // Whichever write fails, what was written before it stands there.
     Fault {
         writes: &[1],
@@ -135,6 +139,9 @@ const FAULTS: &[Fault] = &[
         },
         ..NO_FAULT
     },
+];
+
+const FAULTS_OF_LINES: &[Fault] = &[
     // A line that is lost, or cut, leaves the status of its cause.
     Fault {
         lines: &[1],
@@ -182,6 +189,15 @@ const FAULTS: &[Fault] = &[
     },
 ];
 
+/// The source and the sinks of which the reads and writes of the fault fail.
+fn ends_with(alloc: Global, fault: &Fault) -> Result<Box<Ends>, Memory> {
+    let text = fault.case.source(alloc)?;
+    let source = source_with(alloc, text.as_slice(), 16, fault.reads)?;
+    let out = sink_with(alloc, ROOM, 4, fault.writes)?;
+    let err = sink_with(alloc, ROOM, 8, fault.lines)?;
+    Ok(Box::new(alloc, Ends { source, out, err })?)
+}
+
 /// A run with these words, in which the reads and writes of the fault fail.
 fn run_with<R: AllocGlobal + Abort + Threads + Wait + Sync>(
     rt: &R,
@@ -190,12 +206,8 @@ fn run_with<R: AllocGlobal + Abort + Threads + Wait + Sync>(
 ) -> Result<Outcome, Memory>
     requires { IsSync R.row }
 {
-    let alloc = rt.alloc();
-    let text = fault.case.source(alloc)?;
-    let mut source = source_with(alloc, text.as_slice(), 16, fault.reads)?;
-    let mut out = sink_with(alloc, ROOM, 4, fault.writes)?;
-    let mut err = sink_with(alloc, ROOM, 8, fault.lines)?;
-    call_into(rt, words, &mut source, &mut out, &mut err)
+    let mut ends = ends_with(rt.alloc(), fault)?;
+    call_into(rt, words, &mut ends)
 }
 
 /// That a run with these words ends as the fault says.
@@ -207,38 +219,85 @@ fn expect_fault<R: AllocGlobal + Abort + Threads + Wait + Sync>(
     requires { IsSync R.row }
 {
     let run = run_with(rt, words, fault)?;
-    run.expect(rt, fault.case.status, fault.case.out, fault.case.err);
-    assert_eq!(rt; run.events, fault.case.events);
+    run.expect_case(rt, &fault.case);
     Ok(())
 }
 
-// The table is handed out by a function that does nothing else, since the proof of one that names
+// Each table is handed out by a function that does nothing else, since the proof of one that names
 // it goes over the table at each step.
-fn faults() -> &'static [Fault] {
-    FAULTS
+fn commands() -> &'static [&'static [&'static str]] {
+    COMMANDS
+}
+
+fn faults_of_reads() -> &'static [Fault] {
+    FAULTS_OF_READS
+}
+
+fn faults_of_writes() -> &'static [Fault] {
+    FAULTS_OF_WRITES
+}
+
+fn faults_of_lines() -> &'static [Fault] {
+    FAULTS_OF_LINES
+}
+
+/// That a run with these words ends as each of these faults says.
+fn expect_faults<R: AllocGlobal + Abort + Threads + Wait + Sync>(
+    rt: &R,
+    words: &[&str],
+    faults: &[Fault],
+) -> Result<(), Fail>
+    requires { IsSync R.row }
+{
+    for fault in faults {
+        expect_fault(rt, words, fault)?;
+    }
+    Ok(())
+}
+
+/// That a run with these words ends as each fault says.
+fn expect_each_fault<R: AllocGlobal + Abort + Threads + Wait + Sync>(
+    rt: &R,
+    words: &[&str],
+) -> Result<(), Fail>
+    requires { IsSync R.row }
+{
+    expect_faults(rt, words, faults_of_reads())?;
+    expect_faults(rt, words, faults_of_writes())?;
+    expect_faults(rt, words, faults_of_lines())
 }
 
 #[test]
 fn faults_by_each_command(rt: HostRuntime) -> Result<(), Fail> {
-    for words in COMMANDS {
-        for fault in faults() {
-            expect_fault(&rt, *words, fault)?;
-        }
+    for words in commands() {
+        expect_each_fault(&rt, *words)?;
+    }
+    Ok(())
+}
+
+/// That each of these texts is refused with these words.
+fn expect_refused<R: AllocGlobal + Abort + Threads + Wait + Sync>(
+    rt: &R,
+    words: &[&str],
+    cases: &[Case],
+) -> Result<(), Fail>
+    requires { IsSync R.row }
+{
+    for case in cases {
+        expect(rt, words, case)?;
     }
     Ok(())
 }
 
 /// That each of these texts is refused alike by each command.
-fn expect_refused<R: AllocGlobal + Abort + Threads + Wait + Sync>(
+fn expect_refused_by_each<R: AllocGlobal + Abort + Threads + Wait + Sync>(
     rt: &R,
     cases: &[Case],
 ) -> Result<(), Fail>
     requires { IsSync R.row }
 {
-    for words in COMMANDS {
-        for case in cases {
-            expect(rt, *words, case)?;
-        }
+    for words in commands() {
+        expect_refused(rt, *words, cases)?;
     }
     Ok(())
 }
@@ -246,7 +305,7 @@ fn expect_refused<R: AllocGlobal + Abort + Threads + Wait + Sync>(
 #[test]
 fn refusals_by_each_command(rt: HostRuntime) -> Result<(), Fail> {
     for cases in refusals() {
-        expect_refused(&rt, cases)?;
+        expect_refused_by_each(&rt, cases)?;
     }
     Ok(())
 }

@@ -1,9 +1,8 @@
 // Words of the command line.
 
-use crate::cases::USAGE;
 use worked_texts::{Case, QUIET};
 
-const RUNS_BY_LINES: &[Case] = &[
+const BUDGETS: &[Case] = &[
     // The default budget.
     Case {
         words: &["--", "alone"],
@@ -27,6 +26,13 @@ const RUNS_BY_LINES: &[Case] = &[
         events: Some(1),
         ..QUIET
     },
+];
+
+fn budgets() -> &'static [Case] {
+    BUDGETS
+}
+
+const LOGS: &[Case] = &[
     // The log in place of the trace.
     Case {
         words: &["alone", "--budget", "10", "--log"],
@@ -44,6 +50,22 @@ const RUNS_BY_LINES: &[Case] = &[
         events: Some(1),
         ..QUIET
     },
+    // The same on free threads.
+    Case {
+        words: &["run", "--workers=2", "--budget", "10", "--log"],
+        text: &[(1, "observe out/1; site s [ x(u) => out(u) : x(s) ]")],
+        out: "joinlog 1\nsource 47\nobserve out/1; site s [ x(u) => out(u) : x(s) ]\nbudget \
+            10\nevents 1\nreact 0.2 0.3\ntrace 17\nout(s)\nquiescent\n",
+        events: Some(1),
+        ..QUIET
+    },
+];
+
+fn logs() -> &'static [Case] {
+    LOGS
+}
+
+const LONGER_LOGS: &[Case] = &[
     // A move, and a run that is stopped.
     Case {
         words: &["alone", "--budget", "1", "--log"],
@@ -69,6 +91,13 @@ const RUNS_BY_LINES: &[Case] = &[
         events: Some(4),
         ..QUIET
     },
+];
+
+fn longer_logs() -> &'static [Case] {
+    LONGER_LOGS
+}
+
+const RINGS: &[Case] = &[
     // A ring of 64 sites: the source is not read.
     Case {
         words: &["gen", "64", "--budget", "1000", "--by", "alone"],
@@ -92,176 +121,6 @@ const RUNS_BY_LINES: &[Case] = &[
         events: Some(0),
         ..QUIET
     },
-];
-
-fn runs_by_lines() -> &'static [Case] {
-    RUNS_BY_LINES
-}
-
-const NO_COMMANDS: &[Case] = &[
-    Case {
-        words: &["fly"],
-        text: &[(1, "site s [ none : 0 ]")],
-        ..USAGE
-    },
-    Case {
-        words: &[],
-        text: &[(1, "site s [ none : 0 ]")],
-        ..USAGE
-    },
-    Case {
-        words: &["gen"],
-        text: &[(1, "site s [ none : 0 ]")],
-        ..USAGE
-    },
-    Case {
-        words: &["alone", "--budget", "1000001"],
-        text: &[(1, "site s [ none : 0 ]")],
-        ..USAGE
-    },
-    Case {
-        words: &["alone", "--budget", "00000001"],
-        text: &[(1, "site s [ none : 0 ]")],
-        ..USAGE
-    },
-    Case {
-        words: &["alone", "--budget="],
-        text: &[(1, "site s [ none : 0 ]")],
-        ..USAGE
-    },
-    Case {
-        words: &["alone", "--budget", "-1"],
-        text: &[(1, "site s [ none : 0 ]")],
-        ..USAGE
-    },
-    Case {
-        words: &["alone", "--budget", "+1"],
-        text: &[(1, "site s [ none : 0 ]")],
-        ..USAGE
-    },
-    Case {
-        words: &["alone", "--budget", "1x"],
-        text: &[(1, "site s [ none : 0 ]")],
-        ..USAGE
-    },
-    Case {
-        words: &["alone", "--budget"],
-        text: &[(1, "site s [ none : 0 ]")],
-        ..USAGE
-    },
-    Case {
-        words: &["alone", "--budget", "5", "--budget=5"],
-        text: &[(1, "site s [ none : 0 ]")],
-        ..USAGE
-    },
-    Case {
-        words: &["alone", "--log", "--log"],
-        text: &[(1, "site s [ none : 0 ]")],
-        ..USAGE
-    },
-    Case {
-        words: &["alone", "--log="],
-        text: &[(1, "site s [ none : 0 ]")],
-        ..USAGE
-    },
-];
-
-fn no_commands() -> &'static [Case] {
-    NO_COMMANDS
-}
-
-const NO_OPTIONS: &[Case] = &[
-    Case {
-        words: &["-"],
-        text: &[(1, "site s [ none : 0 ]")],
-        ..USAGE
-    },
-    Case {
-        words: &["alone", "more"],
-        text: &[(1, "site s [ none : 0 ]")],
-        ..USAGE
-    },
-    Case {
-        words: &["alone", "5"],
-        text: &[(1, "site s [ none : 0 ]")],
-        ..USAGE
-    },
-    Case {
-        words: &["alone", "--", "--log"],
-        text: &[(1, "site s [ none : 0 ]")],
-        ..USAGE
-    },
-    Case {
-        words: &["alone", "--workers", "17"],
-        text: &[(1, "site s [ none : 0 ]")],
-        ..USAGE
-    },
-    Case {
-        words: &["alone", "--workers", "0"],
-        text: &[(1, "site s [ none : 0 ]")],
-        ..USAGE
-    },
-    Case {
-        words: &["alone", "--by", "alone"],
-        text: &[(1, "site s [ none : 0 ]")],
-        ..USAGE
-    },
-    Case {
-        words: &["gen", "0"],
-        text: &[(1, "site s [ none : 0 ]")],
-        ..USAGE
-    },
-    Case {
-        words: &["gen", "65"],
-        text: &[(1, "site s [ none : 0 ]")],
-        ..USAGE
-    },
-    Case {
-        words: &["gen", "5", "6"],
-        text: &[(1, "site s [ none : 0 ]")],
-        ..USAGE
-    },
-    Case {
-        words: &["gen", "5", "--log"],
-        text: &[(1, "site s [ none : 0 ]")],
-        ..USAGE
-    },
-    Case {
-        words: &["gen", "5", "--by", "gen"],
-        text: &[(1, "site s [ none : 0 ]")],
-        ..USAGE
-    },
-    Case {
-        words: &["--help"],
-        text: &[(1, "site s [ none : 0 ]")],
-        ..USAGE
-    },
-    Case {
-        words: &["-h"],
-        text: &[(1, "site s [ none : 0 ]")],
-        ..USAGE
-    },
-    Case {
-        words: &["alone", "--budge", "5"],
-        text: &[(1, "site s [ none : 0 ]")],
-        ..USAGE
-    },
-];
-
-fn no_options() -> &'static [Case] {
-    NO_OPTIONS
-}
-
-const FREE_THREADS: &[Case] = &[
-    // Free threads.
-    Case {
-        words: &["run", "--workers=2", "--budget", "10", "--log"],
-        text: &[(1, "observe out/1; site s [ x(u) => out(u) : x(s) ]")],
-        out: "joinlog 1\nsource 47\nobserve out/1; site s [ x(u) => out(u) : x(s) ]\nbudget \
-            10\nevents 1\nreact 0.2 0.3\ntrace 17\nout(s)\nquiescent\n",
-        events: Some(1),
-        ..QUIET
-    },
     Case {
         words: &["gen", "5", "--by=run"],
         text: &[(1, "this is not read")],
@@ -271,11 +130,47 @@ const FREE_THREADS: &[Case] = &[
     },
 ];
 
-fn free_threads() -> &'static [Case] {
-    FREE_THREADS
+fn rings() -> &'static [Case] {
+    RINGS
 }
 
-/// Lines of words: what they ask for, or that they ask for nothing.
+/// Lines of words that ask for a run.
 pub fn lines() -> [&'static [Case]; 4] {
-    [runs_by_lines(), no_commands(), no_options(), free_threads()]
+    [budgets(), logs(), longer_logs(), rings()]
+}
+
+const NO_LINES: &[&[&str]] = &[
+    &["fly"],
+    &[],
+    &["gen"],
+    &["alone", "--budget", "1000001"],
+    &["alone", "--budget", "00000001"],
+    &["alone", "--budget="],
+    &["alone", "--budget", "-1"],
+    &["alone", "--budget", "+1"],
+    &["alone", "--budget", "1x"],
+    &["alone", "--budget"],
+    &["alone", "--budget", "5", "--budget=5"],
+    &["alone", "--log", "--log"],
+    &["alone", "--log="],
+    &["-"],
+    &["alone", "more"],
+    &["alone", "5"],
+    &["alone", "--", "--log"],
+    &["alone", "--workers", "17"],
+    &["alone", "--workers", "0"],
+    &["alone", "--by", "alone"],
+    &["gen", "0"],
+    &["gen", "65"],
+    &["gen", "5", "6"],
+    &["gen", "5", "--log"],
+    &["gen", "5", "--by", "gen"],
+    &["--help"],
+    &["-h"],
+    &["alone", "--budge", "5"],
+];
+
+/// Lines of words that ask for nothing.
+pub fn no_lines() -> &'static [&'static [&'static str]] {
+    NO_LINES
 }

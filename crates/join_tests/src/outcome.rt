@@ -2,14 +2,16 @@
 ghost use Rattle.std.specs.Prelude.{◌<◌};
 ghost use denote.Param.Send.{IsSync};
 
-use chem_model::{Items, Journal, Memory, Program};
+use chem_model::{Items, Memory};
 use join_base::{MemSink, MemSource, Source};
 use join_top::{Ended, FreeTeam, Gate, How, Kept, OpenGate, Team, Threaded, run_join};
 use std::alloc::Global;
 use std::marker::Sync;
 use std::process::Abort;
 use std::sync::Wait;
+use std::test::Fail;
 use std::thread::Threads;
+use worked_texts::Case;
 
 /// More bytes than any line or text of these tests has.
 const ROOM: u32 = 4096;
@@ -84,23 +86,34 @@ pub fn roomy_sink(alloc: Global) -> Result<Box<MemSink>, Memory> {
     sink_with(alloc, ROOM, ROOM, &[])
 }
 
+/// What a call reads from, and what it writes to.
+#[derive(Drop)]
+pub struct Ends {
+    pub source: Box<MemSource>,
+    pub out: Box<MemSink>,
+    pub err: Box<MemSink>,
+}
+
+/// A source of these bytes and two sinks, none of which fails.
+pub fn ends_of(alloc: Global, bytes: &[u8]) -> Result<Box<Ends>, Memory> {
+    let source = source_of(alloc, bytes)?;
+    let out = roomy_sink(alloc)?;
+    let err = roomy_sink(alloc)?;
+    Ok(Box::new(alloc, Ends { source, out, err })?)
+}
+
 /// How many bytes one more read gives: none where it fails.
 fn read_on(source: &mut MemSource) -> usize {
     let mut buffer = [0u8; 16];
     source.read(&mut buffer).unwrap_or(0)
 }
 
-fn outcome_of(
-    alloc: Global,
-    ended: &Ended,
-    unread: usize,
-    out: &MemSink,
-    err: &MemSink,
-) -> Result<Outcome, Memory> {
+/// How a call ended, of which one more read gives so many bytes.
+fn outcome_of(alloc: Global, ended: &Ended, unread: usize, ends: &Ends) -> Result<Outcome, Memory> {
     Ok(Outcome {
         status: ended.status,
-        out: Vec::from_slice(alloc, out.taken())?,
-        err: Vec::from_slice(alloc, err.taken())?,
+        out: Vec::from_slice(alloc, ends.out.taken())?,
+        err: Vec::from_slice(alloc, ends.err.taken())?,
         unread,
         made: ended.kept.as_ref().map(|kept| Made::of(&kept.how)),
         events: ended.kept.as_ref().map(|kept| kept.journal.len()),
@@ -119,9 +132,7 @@ fn owned(alloc: Global, words: &[&str]) -> Result<Vec<String>, Memory> {
 fn ended_by<G: Gate, T: Team + FreeTeam<G>>(
     alloc: Global,
     words: &[&str],
-    source: &mut MemSource,
-    out: &mut MemSink,
-    err: &mut MemSink,
+    ends: &mut Ends,
     gate: &G,
     team: &T,
 ) -> Result<Box<Ended>, Memory>
@@ -129,43 +140,47 @@ fn ended_by<G: Gate, T: Team + FreeTeam<G>>(
     requires free_ready { T.free_ready }
 {
     let words = owned(alloc, words)?;
-    let ended = run_join(alloc, words.as_slice(), source, out, err, gate, team);
+    let ended = run_join(
+        alloc,
+        words.as_slice(),
+        &mut *ends.source,
+        &mut *ends.out,
+        &mut *ends.err,
+        gate,
+        team,
+    );
     Ok(Box::new(alloc, ended)?)
 }
 
-/// Runs the words over a source and two sinks, by a team whose free workers pass a gate.
+/// Runs the words over these ends, by a team whose free workers pass a gate.
 pub fn call_through<G: Gate, T: Team + FreeTeam<G>>(
     alloc: Global,
     words: &[&str],
-    source: &mut MemSource,
-    out: &mut MemSink,
-    err: &mut MemSink,
+    ends: &mut Ends,
     gate: &G,
     team: &T,
 ) -> Result<Outcome, Memory>
     requires ready { T.ready }
     requires free_ready { T.free_ready }
 {
-    let ended = ended_by(alloc, words, source, out, err, gate, team)?;
-    let unread = read_on(source);
-    outcome_of(alloc, &ended, unread, out, err)
+    let ended = ended_by(alloc, words, ends, gate, team)?;
+    let unread = read_on(&mut ends.source);
+    outcome_of(alloc, &ended, unread, ends)
 }
 
-/// Runs the words over a source and two sinks.
+/// Runs the words over these ends.
 pub fn call_into<R: AllocGlobal + Abort + Threads + Wait + Sync>(
     rt: &R,
     words: &[&str],
-    source: &mut MemSource,
-    out: &mut MemSink,
-    err: &mut MemSink,
+    ends: &mut Ends,
 ) -> Result<Outcome, Memory>
     requires { IsSync R.row }
 {
     let team = Threaded::new(rt);
-    call_through(rt.alloc(), words, source, out, err, &OpenGate, &team)
+    call_through(rt.alloc(), words, ends, &OpenGate, &team)
 }
 
-/// Runs the words over a source of these bytes, and two sinks that never fail.
+/// Runs the words over a source of these bytes and two sinks, none of which fails.
 pub fn call<R: AllocGlobal + Abort + Threads + Wait + Sync>(
     rt: &R,
     words: &[&str],
@@ -173,56 +188,60 @@ pub fn call<R: AllocGlobal + Abort + Threads + Wait + Sync>(
 ) -> Result<Outcome, Memory>
     requires { IsSync R.row }
 {
-    let alloc = rt.alloc();
-    let mut source = source_of(alloc, bytes)?;
-    let mut out = roomy_sink(alloc)?;
-    let mut err = roomy_sink(alloc)?;
-    call_into(rt, words, &mut source, &mut out, &mut err)
+    let mut ends = ends_of(rt.alloc(), bytes)?;
+    call_into(rt, words, &mut ends)
 }
 
-fn parts_of(kept: Kept) -> (Program, Journal) {
-    let Kept {
-        program,
-        journal,
-        how,
-    } = kept;
-    drop(how);
-    (program, journal)
-}
-
-/// The program and the journal of a run of a text on one thread, where one was kept.
-pub fn kept_by<R: AllocGlobal + Abort + Threads + Wait + Sync>(
+/// What a run of a text on one thread left.
+pub fn ended_alone<R: AllocGlobal + Abort + Threads + Wait + Sync>(
     rt: &R,
     text: &str,
-) -> Result<Option<(Program, Journal)>, Memory>
+) -> Result<Box<Ended>, Memory>
     requires { IsSync R.row }
 {
-    let alloc = rt.alloc();
     let words = ["alone", "--budget", "10"];
-    let mut source = source_of(alloc, text.as_bytes())?;
-    let mut out = roomy_sink(alloc)?;
-    let mut err = roomy_sink(alloc)?;
+    let mut ends = ends_of(rt.alloc(), text.as_bytes())?;
     let team = Threaded::new(rt);
-    let ended = ended_by(
-        alloc,
-        &words,
-        &mut source,
-        &mut out,
-        &mut err,
-        &OpenGate,
-        &team,
-    )?;
-    match Box::into_inner(ended).kept {
-        Some(kept) => Ok(Some(parts_of(kept))),
-        None => Ok(None),
-    }
+    ended_by(rt.alloc(), &words, &mut ends, &OpenGate, &team)
+}
+
+/// The run that a call kept.
+pub fn kept_of(ended: &Ended) -> Result<&Kept, Fail> {
+    Ok(ended.kept.as_ref().ok_or("nothing is kept")?)
 }
 
 impl Outcome {
     /// That the call ended with this status and these bytes.
     pub fn expect(&self, rt: &impl Abort, status: u8, out: &str, err: &str) {
-        assert_eq!(rt; self.status, status);
-        assert_eq!(rt; self.out.as_slice(), out.as_bytes());
-        assert_eq!(rt; self.err.as_slice(), err.as_bytes());
+        self.expect_status(rt, status);
+        expect_bytes(rt, self.out.as_slice(), out.as_bytes());
+        expect_bytes(rt, self.err.as_slice(), err.as_bytes());
     }
+
+    /// That the call ended as the case says.
+    pub fn expect_case(&self, rt: &impl Abort, case: &Case) {
+        self.expect(rt, case.status, case.out, case.err);
+        self.expect_events(rt, case.events);
+    }
+
+    pub fn expect_status(&self, rt: &impl Abort, status: u8) {
+        assert_eq!(rt; self.status, status);
+    }
+
+    pub fn expect_events(&self, rt: &impl Abort, events: Option<usize>) {
+        assert_eq!(rt; self.events, events);
+    }
+
+    pub fn expect_made(&self, rt: &impl Abort, made: Option<Made>) {
+        assert_eq!(rt; self.made, made);
+    }
+
+    pub fn expect_unread(&self, rt: &impl Abort, unread: usize) {
+        assert_eq!(rt; self.unread, unread);
+    }
+}
+
+/// That these bytes are the ones that are wanted.
+pub fn expect_bytes(rt: &impl Abort, bytes: &[u8], want: &[u8]) {
+    assert_eq!(rt; bytes, want);
 }

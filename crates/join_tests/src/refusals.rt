@@ -99,6 +99,13 @@ const NAMES_OUT_OF_SCOPE: &[Case] = &[
         err: "scope 5 at 15\n",
         ..REFUSED
     },
+];
+
+fn names_out_of_scope() -> &'static [Case] {
+    NAMES_OUT_OF_SCOPE
+}
+
+const TOO_MANY_SITES: &[Case] = &[
     // The 65th site.
     Case {
         text: &[(
@@ -127,8 +134,8 @@ const NAMES_OUT_OF_SCOPE: &[Case] = &[
     },
 ];
 
-fn names_out_of_scope() -> &'static [Case] {
-    NAMES_OUT_OF_SCOPE
+fn too_many_sites() -> &'static [Case] {
+    TOO_MANY_SITES
 }
 
 const COUNTS_AND_KINDS: &[Case] = &[
@@ -174,10 +181,11 @@ fn counts_and_kinds() -> &'static [Case] {
 }
 
 /// Texts that are refused, with the kind and the place of their refusal.
-pub fn refusals() -> [&'static [Case]; 3] {
+pub fn refusals() -> [&'static [Case]; 4] {
     [
         texts_of_no_program(),
         names_out_of_scope(),
+        too_many_sites(),
         counts_and_kinds(),
     ]
 }

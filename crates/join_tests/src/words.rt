@@ -1,7 +1,8 @@
 // Words that leave the source unread, and rings.
 ghost use denote.Param.Send.{IsSync};
 
-use crate::outcome::call;
+use crate::outcome::{Outcome, call};
+use chem_model::Memory;
 use std::marker::Sync;
 use std::process::Abort;
 use std::sync::Wait;
@@ -17,31 +18,62 @@ fn expect_unread<R: AllocGlobal + Abort + Threads + Wait + Sync>(
     requires { IsSync R.row }
 {
     let run = call(rt, words, b"abc")?;
-    assert_eq!(rt; run.status, status);
-    assert_eq!(rt; run.unread, 3);
+    run.expect_status(rt, status);
+    run.expect_unread(rt, 3);
     Ok(())
+}
+
+/// Words, and the status that they end with.
+const UNREAD: &[(&[&str], u8)] = &[
+    (&[], 2),
+    (&["fly"], 2),
+    (&["gen"], 2),
+    (&["alone", "--budget", "1000001"], 2),
+    (&["gen", "2"], 0),
+    (&["gen", "2", "--by", "rounds"], 0),
+    (&["gen", "2", "--by", "run"], 0),
+];
+
+fn unread() -> &'static [(&'static [&'static str], u8)] {
+    UNREAD
 }
 
 #[test]
 fn the_source_is_unread(rt: HostRuntime) -> Result<(), Fail> {
-    expect_unread(&rt, &[], 2)?;
-    expect_unread(&rt, &["fly"], 2)?;
-    expect_unread(&rt, &["gen"], 2)?;
-    expect_unread(&rt, &["alone", "--budget", "1000001"], 2)?;
-    expect_unread(&rt, &["gen", "2"], 0)?;
-    expect_unread(&rt, &["gen", "2", "--by", "rounds"], 0)?;
-    expect_unread(&rt, &["gen", "2", "--by", "run"], 0)
+    for (words, status) in unread() {
+        expect_unread(&rt, *words, *status)?;
+    }
+    Ok(())
+}
+
+/// How the ring of this size ends with no event left.
+fn ring_of<R: AllocGlobal + Abort + Threads + Wait + Sync>(
+    rt: &R,
+    size: u32,
+) -> Result<Outcome, Memory>
+    requires { IsSync R.row }
+{
+    let size = format!(in rt.alloc(); "{size}")?;
+    call(rt, &["gen", size.as_str(), "--budget", "0"], b"")
+}
+
+/// That a ring with no event left is stopped.
+fn expect_stopped<R: AllocGlobal + Abort + Threads + Wait + Sync>(
+    rt: &R,
+    size: u32,
+) -> Result<(), Fail>
+    requires { IsSync R.row }
+{
+    let run = ring_of(rt, size)?;
+    run.expect(rt, 5, "events 0\nobservables 0\nstopped\n", "");
+    Ok(())
 }
 
 /// No ring has a refusal: with no event left each of them is stopped.
 #[test]
 fn rings_of_all_sizes(rt: HostRuntime) -> Result<(), Fail> {
-    let alloc = rt.alloc();
     for size in 1u32..65 {
-        let size = format!(in alloc; "{size}")?;
-        let words = ["gen", size.as_str(), "--budget", "0"];
-        let run = call(&rt, &words, b"")?;
-        run.expect(&rt, 5, "events 0\nobservables 0\nstopped\n", "");
+        expect_stopped(&rt, size)?;
     }
     Ok(())
 }
