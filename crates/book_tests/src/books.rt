@@ -17,8 +17,8 @@ fn book_of(alloc: Global, text: &str) -> Result<Box<Book>, Front> {
     Ok(book_with(alloc, &program)?)
 }
 
-/// What becomes of the move that has the request 0.k. None where the book is too long for these
-/// tests.
+/// What becomes of the move that a request of the first site asks for. None where the book is too
+/// long for these tests.
 fn commit_move(alloc: Global, book: &mut Book, k: u64) -> Result<Option<Commit>, Memory> {
     if book.journal().len() > MOST_EVENTS {
         return Ok(None);
