@@ -3,3 +3,4 @@ pub mod Made
 pub mod Leaving
 pub mod Long
 pub mod Reading
+pub mod Stopping

@@ -21,6 +21,7 @@ use Rattle.site_runner.specs.Free.{IsFinished, IsFree, first_workers}
 use Rattle.site_runner.specs.declared.outcome.Done.{Done}
 use Rattle.site_runner.specs.declared.outcome.How.TheVariants as how
 use Rattle.join_words.specs.declared.answer.By.TheVariants as by
+use Rattle.join_top.specs.inside.Begun.{IsBegun}
 use Rattle.join_top.specs.inside.Ran.{IsRunBy}
 
 -- a program's book without an event
@@ -81,18 +82,28 @@ module _ (p : ProgramTerms) (workers budget : ℕ) where
 same_member : (n m : Numbered) → Some n ≡ Some m → n ≡ m
 same_member n m e = cc
 
+-- the network that is opened from a code of the program
+pub net_begun : (p : ProgramTerms) (c : CodeParts) → IsCode c → IsCodeOf p c → (r : Result NetParts Memory)
+    → IfOk r (λ (net : NetParts). net.net ≡ opened_net c) → IfOk r (λ (net : NetParts). net.code ≡ c) → IfOk r (λ (net : NetParts). net.events ≡ 0)
+    → IfOk r (λ (net : NetParts). Stands (rules_of_group p) net.net (opening p)) → IfOk r (IsBegun p)
+net_begun p c is_code of_program (Err e) opened code events stands = tt
+net_begun p c is_code of_program (Ok net) opened code events stands = record {
+  is_code = subst IsCode (sym code) is_code;
+  of_program = subst (IsCodeOf p) (sym code) of_program;
+  opened = subst (λ (x : CodeParts). net.net ≡ opened_net x) (sym code) opened;
+  events = events;
+  stands = stands;
+}
+
 -- the opening of a program's network and its book without an event stand for one solution
-pub begun_stand : OpenedStands → (p : ProgramTerms) → IsProgram p → (c : CodeParts) → IsCode c → IsCodeOf p c
-    → (net : NetParts) → net.code ≡ c → net.net ≡ opened_net c → net.events ≡ 0
-    → Stands (rules_of_group p) net.net (opening p)
-    → (book : BookKept) → book ≡ begun p → StandForOne book net
-begun_stand law p fine c is_code of_program net code opened events stands book e =
-    let runs : RunsCode p c (opened_net c) = (law p c fine is_code of_program).1 in
+pub begun_stand : OpenedStands → (p : ProgramTerms) → IsProgram p → (net : NetParts) → IsBegun p net → (book : BookKept) → book ≡ begun p → StandForOne book net
+begun_stand law p fine net is book e =
+    let runs : RunsCode p net.code (opened_net net.code) = (law p net.code fine is.is_code is.of_program).1 in
     let at : StandForOne (begun p) net = record {
-      of_program = subst (IsCodeOf p) (sym code) of_program;
-      stand = λ n h. subst (Stands (rules_of_group p) net.net) (same_member (opening p) n h) stands;
-      runs = subst (RunsCode p net.code) (sym opened) (subst (λ (x : CodeParts). RunsCode p x (opened_net c)) (sym code) runs);
-      counted = events;
+      of_program = is.of_program;
+      stand = λ n h. subst (Stands (rules_of_group p) net.net) (same_member (opening p) n h) is.stands;
+      runs = subst (RunsCode p net.code) (sym is.opened) runs;
+      counted = is.events;
     } in
     subst (λ (b : BookKept). StandForOne b net) (sym e) at
 

@@ -6,31 +6,19 @@ use Rattle.join_top.specs.Task.{ReadOrRing}
 use Rattle.join_top.specs.RunJoin.{IsReadAt, IsReadToEnd}
 use Rattle.join_top.specs.inside.Ran.{ReadsAll}
 
-nothing_taken : (left : Option (List ℕ)) → TakesAtMost left left 1048576
+pub nothing_taken : (left : Option (List ℕ)) → TakesAtMost left left 1048576
 nothing_taken None = ([], tt, lit≤ tt)
 nothing_taken (Some bytes) = ([], refl, lit≤ tt)
 
-both : (ring : Option ℕ) (P Q : Type 0) → P → Q → ReadOrRing ring P Q
+pub both : (ring : Option ℕ) (P Q : Type 0) → P → Q → ReadOrRing ring P Q
 both None P Q p q = p
 both (Some size) P Q p q = q
 
-weaker : (ring : Option ℕ) (P P' Q : Type 0) → (P → P') → ReadOrRing ring P Q → ReadOrRing ring P' Q
+pub weaker : (ring : Option ℕ) (P P' Q : Type 0) → (P → P') → ReadOrRing ring P Q → ReadOrRing ring P' Q
 weaker None P P' Q f p = f p
 weaker (Some size) P P' Q f q = q
 
 module _ {S : Type 0} (left : S → Option (List ℕ)) where
-  -- a source that is as it was, where memory ran out
-  pub unread : (ring : Option ℕ) (status : ℕ) (it : S) → status ≡ 6
-      → ReadOrRing ring (IsReadAt S status left it it) (it ≡ it)
-  unread ring status it e =
-      let at : IsReadAt S 6 left it it = record {
-        usage = λ u. absurd cc;
-        run = λ r. absurd cc;
-        refused = λ r. absurd cc;
-        cut_short = λ _. nothing_taken (left it);
-      } in
-      both ring _ _ (subst (λ (n : ℕ). IsReadAt S n left it it) (sym e) at) refl
-
   -- a source that was read to its end, by a run that was asked for with this ring
   pub read_all : (asked ring : Option ℕ) (status : ℕ) (old new : S) → asked ≡ ring → (status ≡ 2 → ⊥)
       → ReadsAll ring left old new → ReadOrRing asked (IsReadAt S status left old new) (new ≡ old)

@@ -1,2 +1,4 @@
+pub mod Begun
+pub mod Job
 pub mod Ran
 pub mod Text

@@ -1,6 +1,7 @@
 //! Everything that the program does: the words, the text, the run and what is written.
 #![tactic(auto)]
 
+mod job;
 mod making;
 mod printed;
 mod run;

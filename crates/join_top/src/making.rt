@@ -4,6 +4,7 @@ ghost use Rattle.net_laws.specs.Opened.{opened_net};
 ghost use Rattle.site_runner.specs.Rounds.{StandForOne};
 ghost use Rattle.join_words.specs.Asks.{IsWithin};
 ghost use Rattle.join_words.specs.declared.answer.By.TheVariants as by;
+ghost use Rattle.join_top.specs.inside.Begun.{IsBegun};
 ghost use Rattle.join_top.specs.inside.Ran.{IsRunBy};
 
 use chem_model::{Memory, Program};
@@ -54,18 +55,25 @@ pub fn begin(alloc: Global, program: &Program) -> Result<(Net, Book), Memory>
 {
     opened_stands();
     let _tops = &program.tops;
-    let code = compile(alloc, program)?;
-    let _known = &code.tops;
-    let started = Net::start(alloc, program, &code);
-    drop(code);
-    let net = started?;
-    match Book::start(alloc, program) {
-        Ok(book) => Ok((net, book)),
+    let book = Book::start(alloc, program)?;
+    match net_of(alloc, program) {
+        Ok(net) => Ok((net, book)),
         Err(memory) => {
-            drop(net);
+            drop(book);
             Err(memory)
         }
     }
+}
+
+/// The network of a program's code, before any event.
+fn net_of(alloc: Global, program: &Program) -> Result<Net, Memory>
+    ensures { IfOk result (IsBegun program.now) }
+{
+    let code = compile(alloc, program)?;
+    let _known = &code.tops;
+    let net = Net::start(alloc, program, &code);
+    drop(code);
+    net
 }
 
 /// The run in rounds, from the beginning.

@@ -1,16 +1,19 @@
 //! The top call.
-ghost use Rattle.std.specs.Prelude.{◌≡◌, ◌⊎◌, ◌≤◌, IfSome, true, false, []};
+ghost use Rattle.std.specs.Prelude.{◌≡◌, ◌⊎◌, ◌≤◌, IfSome, is_some, length, true, false, []};
 ghost use Rattle.join_base.specs.Counts.{Rose};
 ghost use Rattle.join_base.specs.declared.fault.Kind.TheVariants as kind;
+ghost use Rattle.join_words.specs.Asks.{IsWithin};
 ghost use Rattle.join_top.specs.Task.{task};
 ghost use Rattle.join_top.specs.Text.{refusal_line as line_of_refusal};
 ghost use Rattle.join_top.specs.RunJoin.{ComesExactly, Reads, Refuses, Keeps, IsMadeAsAsked};
 ghost use Rattle.join_top.specs.RunJoin.{WritesWhole};
 ghost use Rattle.join_top.specs.RunJoin.{GainsLine, Gains, line_of, has_run, GoesWith, IsWritten};
+ghost use Rattle.join_top.specs.inside.Job.{StatusOf, GainsRefusal, IsStatusOfJob, IsRunOfJob};
+ghost use Rattle.join_top.specs.inside.Ran.{WhereRead};
 
+use crate::job::{Job, Stop, read_job};
 use crate::run::{Kept, Ran, run};
-use crate::task::{task, text_run};
-use crate::text::{program_of, refusal_line};
+use crate::text::refusal_line;
 use join_base::{Front, Kind, ReadEnd, Sink, Source, write_piece};
 use shared_net::Gate;
 use site_runner::{FreeTeam, Team};
@@ -85,27 +88,68 @@ pub fn run_join<S: Source, K: Sink, E: Sink, G: Gate, T: Team + FreeTeam<G>>(
 
     ensures err_line { GainsLine result.status E.held E.faults err.old err.new }
 {
-    let asked = match task(alloc, words) {
-        Ok(Some(asked)) => asked,
-        Ok(None) => return end(err, USAGE, None),
-        Err(_) => return end(err, OUT_OF_MEMORY, None),
-    };
-    let text = match text_run(alloc, asked.ring, source) {
-        Ok(text) => text,
-        Err(ReadEnd::TooLong) => return refuse_long(err),
-        Err(ReadEnd::ReadFault) => return end(err, READ_FAULT, None),
-        Err(ReadEnd::Memory) => return end(err, OUT_OF_MEMORY, None),
-    };
-    let program = match program_of(alloc, text.as_slice()) {
-        Ok(program) => program,
-        Err(Front::Refused { kind, place }) => return refuse(alloc, err, kind, place),
-        Err(Front::Memory) => return end(err, OUT_OF_MEMORY, None),
-    };
-    match run(alloc, &asked, text.as_slice(), &program, gate, team) {
+    match read_job(alloc, words, source) {
+        Ok(job) => {
+            let ended = run_job(alloc, &job, out, err, gate, team);
+            drop(job);
+            ended
+        }
+        Err(stop) => tell_stop(alloc, err, stop),
+    }
+}
+
+/// Runs a job, and writes the text of its run and the line that goes with its end.
+fn run_job<K: Sink, E: Sink, G: Gate, T: Team + FreeTeam<G>>(
+    alloc: Global,
+    job: &Job,
+    out: &mut K,
+    err: &mut E,
+    gate: &G,
+    team: &T,
+) -> Ended
+    requires ready { T.ready }
+    requires free_ready { T.free_ready }
+    requires source { WhereRead job.now.asked.ring (length job.now.text ≤ 1048576) }
+    requires within { IsWithin job.now.asked }
+    ensures status { IsStatusOfJob result.status }
+    ensures exactly { is_some result.kept ≡ has_run result.status }
+    ensures run { IfSome result.kept (
+        IsRunOfJob job.now result.status (K.held out.old) (K.held out.new)) }
+    ensures write_fault { result.status ≡ 4 → Rose (K.faults out.old) (K.faults out.new) }
+    ensures out_untouched { has_run result.status ≡ false → out.new ≡ out.old }
+    ensures err_line { GainsLine result.status E.held E.faults err.old err.new }
+{
+    match run(
+        alloc,
+        &job.asked,
+        job.text.as_slice(),
+        &job.program,
+        gate,
+        team,
+    ) {
         Err(_) => end(err, OUT_OF_MEMORY, None),
         Ok(ran) => {
             let status = write_text(out, &ran);
             end(err, status, Some(ran.kept))
+        }
+    }
+}
+
+/// Writes the line that tells why there is no job.
+fn tell_stop<E: Sink>(alloc: Global, err: &mut E, stop: Stop) -> Ended
+    ensures kept { result.kept ≡ None }
+    ensures status { StatusOf stop result.status }
+    ensures refusal { result.status ≡ 1 →
+        GainsRefusal stop (Gains E.held E.faults err.old err.new) }
+    ensures err_line { GainsLine result.status E.held E.faults err.old err.new }
+{
+    match stop {
+        Stop::Form => end(err, USAGE, None),
+        Stop::Source(ReadEnd::TooLong) => refuse_long(err),
+        Stop::Source(ReadEnd::ReadFault) => end(err, READ_FAULT, None),
+        Stop::Text(Front::Refused { kind, place }) => refuse(alloc, err, kind, place),
+        Stop::Memory | Stop::Source(ReadEnd::Memory) | Stop::Text(Front::Memory) => {
+            end(err, OUT_OF_MEMORY, None)
         }
     }
 }

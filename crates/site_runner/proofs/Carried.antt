@@ -7,6 +7,7 @@ use Rattle.chem_model.specs.declared.event.Event.{Event}
 use Rattle.chem_model.specs.declared.memory.Memory.{Memory}
 use Rattle.trace_history.specs.Kept.{BookKept}
 use Rattle.trace_history.specs.Book.{OnItsSolution}
+use Rattle.shared_net.specs.declared.closing.Closed.{Closed}
 use Rattle.shared_net.specs.declared.closing.Closed.TheVariants as closed
 use Rattle.shared_net.specs.declared.differs.Differs.{Differs}
 use Rattle.shared_net.specs.declared.receipt.Receipt.{Receipt}
@@ -19,6 +20,7 @@ use Rattle.shared_net.specs.Reports.{Reported}
 use Rattle.shared_net.specs.Turning.{HaveSameOwners}
 use Rattle.site_runner.specs.declared.outcome.Done.{Done}
 use Rattle.site_runner.specs.Free.{IsFinished, HasEnded, AreRows, AreFirst, GoesOnAlone, HasCause, IsMadeWith, IsFree}
+use Rattle.site_runner.specs.inside.Rows.{rows_of}
 use Rattle.site_runner.specs.Run.{RunsOn}
 use Rattle.site_runner.specs.Schedule.{IsSchedule, ScheduleOf}
 
@@ -134,17 +136,22 @@ module _ (sites : ℕ) (old w : List PassKept) (p : ProgramTerms) (budget : ℕ)
     made = subst (λ (ws : List Worked). IsMadeWith ws p budget d.book.journal d.how) is made;
   }
 
-  pub shared_is_free : (book : BookKept) (report : Reported) → Closes p budget (map row_of w) (closed.Agreed book report) → (r : Result Done Memory)
-      → IfOk r (λ (d : Done). IsMadeWith report.workers book.program budget d.book.journal d.how)
+  pub closed_is_free : (end : Closed) → Closes p budget (map row_of w) end → (r : Result Done Memory)
+      → IfOk r (λ (d : Done). IsMadeWith (rows_of end) p budget d.book.journal d.how)
       → IfOk r (λ (d : Done). IsFree sites (map (λ (p : PassKept). p.number) old) p budget d.book.journal d.how)
-  shared_is_free book report closes r made =
-      with_rows report.workers (ap (λ (r : Reported). r.workers) closes.1) r
-      (subst (λ (q : ProgramTerms). IfOk r (λ (d : Done). IsMadeWith report.workers q budget d.book.journal d.how)) closes.0.same made)
+  closed_is_free (closed.Agreed book report) closes r made = with_rows report.workers (ap (λ (r : Reported). r.workers) closes.1) r made
+  closed_is_free (closed.Differs report) closes r made = with_rows report.workers closes.0 r made
 
-  pub lone_is_free : (report : Reported) → Closes p budget (map row_of w) (closed.Differs report) → (r : Result Done Memory)
+module _ (p : ProgramTerms) (budget : ℕ) where
+  -- the rows are those of the report
+  pub closes_own : (rows : List Worked) (end : Closed) → Closes p budget rows end → Closes p budget (rows_of end) end
+  closes_own rows (closed.Agreed book report) closes = subst (λ (ws : List Worked). Closes p budget ws (closed.Agreed book report)) (sym (ap (λ (r : Reported). r.workers) closes.1)) closes
+  closes_own rows (closed.Differs report) closes = subst (λ (ws : List Worked). Closes p budget ws (closed.Differs report)) (sym closes.0) closes
+
+  pub made_shared : (book : BookKept) (report : Reported) → Closes p budget report.workers (closed.Agreed book report) → (r : Result Done Memory)
+      → IfOk r (λ (d : Done). IsMadeWith report.workers book.program budget d.book.journal d.how)
       → IfOk r (λ (d : Done). IsMadeWith report.workers p budget d.book.journal d.how)
-      → IfOk r (λ (d : Done). IsFree sites (map (λ (p : PassKept). p.number) old) p budget d.book.journal d.how)
-  lone_is_free report closes r made = with_rows report.workers closes.0 r made
+  made_shared book report closes r made = subst (λ (q : ProgramTerms). IfOk r (λ (d : Done). IsMadeWith report.workers q budget d.book.journal d.how)) closes.0.same made
 
 -- the run from a program's book before any event
 module _ (p : ProgramTerms) (budget : ℕ) (book : BookKept) (same : book.program ≡ p) where

@@ -1,1 +1,2 @@
 pub mod RoundParts
+pub mod Rows

@@ -4,10 +4,12 @@ ghost use Rattle.chem_model.specs.Each.{Each};
 ghost use Rattle.env_store.specs.Reading.{IsCodeOf};
 ghost use Rattle.shared_net.specs.Agrees.{row_of};
 ghost use Rattle.shared_net.specs.Causes.{DifferInNumber, IsOfStarted};
-ghost use Rattle.shared_net.specs.Closes.{HaveBudget, IsAgreed};
+ghost use Rattle.shared_net.specs.Closes.{Closes, HaveBudget, IsAgreed};
+ghost use Rattle.shared_net.specs.Turning.{HaveSameOwners};
 ghost use Rattle.site_runner.specs.Free.{HasEnded, IsFinished, IsMadeWith, IsFree};
 ghost use Rattle.site_runner.specs.Free.{first_workers};
 ghost use Rattle.site_runner.specs.Schedule.{ScheduleOf};
+ghost use Rattle.site_runner.specs.inside.Rows.{rows_of};
 
 use crate::one_thread::finish;
 use crate::outcome::{Done, How};
@@ -31,6 +33,21 @@ fn have_ended<L: Run>(passes: &Passes<L>, sites: u32) -> bool
         }
     }
     true
+}
+
+/// Lends one pass to each worker. Whether each worker has ended.
+fn work<L: Run + Send + Sync, G: Gate, R: Threads + Wait + Sync>(
+    rt: &R,
+    alloc: Global,
+    net: &SharedNet<L>,
+    passes: &mut Passes<L>,
+    gate: &G,
+) -> bool
+    ensures same { HaveSameOwners passes.old passes.new }
+    ensures ended { result ≡ true → Each (λ p. HasEnded net.now.sites (row_of p)) passes.new }
+{
+    net.work_all(rt, alloc, passes.as_mut_slice(), gate);
+    have_ended(passes, net.sites())
 }
 
 /// Goes on from the book with which the receipts agree, on one thread.
@@ -84,6 +101,25 @@ fn lone(alloc: Global, program: &Program, report: Report, budget: u32) -> Result
     }
 }
 
+/// Goes on once the network is closed: from its book, or, where the receipts don't agree with that,
+/// with the whole run.
+fn after_close(
+    alloc: Global,
+    program: &Program,
+    closed: Closed,
+    budget: u32,
+) -> Result<Done, Memory>
+    requires { Closes program.now budget (rows_of closed) closed }
+    ensures run { IfOk result (λ done. IsFinished program.now budget done.book) }
+    ensures how { IfOk result (λ done.
+        IsMadeWith (rows_of closed) program.now budget done.book.journal done.how) }
+{
+    match closed {
+        Closed::Agreed(book, report) => shared(alloc, book, report, budget),
+        Closed::Differs(report) => lone(alloc, program, report, budget),
+    }
+}
+
 /// Lends one pass to each worker, closes the network, and finishes on one thread from its book.
 ///
 /// A worker turns at one site after another until the journal has `budget` events, or its last
@@ -110,19 +146,17 @@ pub fn free<L: Run + Send + Sync, G: Gate, R: Threads + Wait + Sync>(
         program.now budget done.book.journal done.how) }
 {
     let mut passes = passes;
-    net.work_all(rt, alloc, passes.as_mut_slice(), gate);
-    if !have_ended(&passes, net.sites()) {
+    if !work(rt, alloc, &net, &mut passes, gate) {
         drop(net);
         drop(passes);
         return Err(Memory);
     }
     match net.close(alloc, passes) {
+        Ok(closed) => after_close(alloc, program, closed, budget),
         Err(back) => {
             drop(back);
             Err(Memory)
         }
-        Ok(Closed::Agreed(book, report)) => shared(alloc, book, report, budget),
-        Ok(Closed::Differs(report)) => lone(alloc, program, report, budget),
     }
 }
 

@@ -1,50 +1,57 @@
--- A source that is unread or read to its end, a text that is too long, and the run that is kept.
-use Rattle.std.proofs.Common.{◌≡◌, ◌∙◌, ap, sym, subst, Err, Some, None, rules}
-use Rattle.chem_model.specs.ProgramFacts.{ProgramTerms}
-use Rattle.join_top.specs.declared.top.Ended.{Ended}
-use Rattle.join_top.specs.Task.{task, ring_asked}
-use Rattle.join_top.specs.Text.{IsProgramOfText}
-use Rattle.join_top.specs.RunJoin.{Gains, GoesWith, IsMadeBy}
-use Rattle.join_top.specs.inside.Ran.{IsEnded}
-use Rattle.join_top.proofs.Long.{refused_long}
-use Rattle.join_top.proofs.Reading.{unread, read_all}
-use Rattle.join_top.proofs.Leaving.{run_asked, no_usage, keeps, made_as_asked}
+-- Where there is no job, the statuses tell why; where there is one, its run is the one that is kept.
+use Rattle.std.proofs.Common.{refl}
+use Rattle.join_top.proofs.Leaving as ran
+use Rattle.join_top.proofs.Reading.{read_all}
+use Rattle.join_top.proofs.Stopping as stopped
 use Rattle.join_top.proofs.top.run_join.Goals as goal
 
+pub returns-in-Err-clause-known : goal.returns-in-Err-clause-known
+returns-in-Err-clause-known g c = stopped.known c.in-Err.stop _ c.tell_stop.ensures.status
+
+pub returns-in-Err-clause-usage : goal.returns-in-Err-clause-usage
+returns-in-Err-clause-usage g c = stopped.usage c.args.words.now g.S.Source.left g.S.Source.faults c.args.source.now c.read_job.new.source c.in-Err.stop _ c.in-Err.ensures.stop c.tell_stop.ensures.status
+
+pub returns-in-Err-clause-read_fault : goal.returns-in-Err-clause-read_fault
+returns-in-Err-clause-read_fault g c = stopped.read_fault c.args.words.now g.S.Source.left g.S.Source.faults c.args.source.now c.read_job.new.source c.in-Err.stop _ c.in-Err.ensures.stop c.tell_stop.ensures.status
+
 pub returns-in-Err-clause-reads_all : goal.returns-in-Err-clause-reads_all
-returns-in-Err-clause-reads_all g c =
-    let status = ap (λ (e : Ended). e.status) c.end-in-Err.ensures.ended in
-    unread g.S.Source.left (ring_asked c.args.words.now) _ c.args.source.now status
+returns-in-Err-clause-reads_all g c = stopped.reads c.args.words.now g.S.Source.left g.S.Source.faults c.args.source.now c.read_job.new.source c.in-Err.stop _ c.in-Err.ensures.stop c.tell_stop.ensures.status
 
-pub returns-in-Err-TooLong-clause-refusal : goal.returns-in-Err-TooLong-clause-refusal
-returns-in-Err-TooLong-clause-refusal g c =
-    let long = c.in-Err-TooLong.is ∙ ap Err c.in-Err-TooLong.field-0-is in
-    let no_ring = c.text_run.ensures.no_ring long in
-    let none : ring_asked c.args.words.now ≡ None = search (rules, no_ring) in
-    λ e. refused_long _ _ _ (Gains g.E.Sink.held g.E.Sink.faults c.args.err.now c.refuse_long.new.err) none (c.text_run.ensures.too_long long) c.refuse_long.ensures.line
+pub returns-in-Err-clause-refusal : goal.returns-in-Err-clause-refusal
+returns-in-Err-clause-refusal g c = λ e. stopped.is_refused c.args.words.now g.S.Source.left g.S.Source.faults c.args.source.now c.read_job.new.source _ c.in-Err.stop _ c.in-Err.ensures.stop c.tell_stop.ensures.status e (c.tell_stop.ensures.refusal e)
 
-pub returns-clause-reads_all : goal.returns-clause-reads_all
-returns-clause-reads_all g c =
-    let ring : ring_asked c.args.words.now ≡ c.in-Ok-Some.asked.ring = search rules in
-    let goes : GoesWith c.end-in-Ok-run.result.status c.in-Ok-run.ran.ending = search rules in
-    read_all g.S.Source.left _ _ _ c.args.source.now c.text_run.new.source ring (no_usage _ c.in-Ok-run.ran.ending goes) c.in-Ok.ensures.all
+pub returns-in-Err-clause-kept : goal.returns-in-Err-clause-kept
+returns-in-Err-clause-kept g c = stopped.keeps_none c.in-Err.stop _ c.tell_stop.ensures.status c.args.words.now (g.S.Source.left c.args.source.now) c.tell_stop.result refl c.tell_stop.ensures.kept
 
-pub returns-clause-kept : goal.returns-clause-kept
-returns-clause-kept g c =
-    let a = c.in-Ok-Some.asked in
-    let kept = c.in-Ok-run.ran.kept in
-    let is_asked : task c.args.words.now ≡ Some a = search rules in
-    let ring : ring_asked c.args.words.now ≡ a.ring = search rules in
-    let is_program : IsProgramOfText c.in-Ok.text kept.program = search rules in
-    let ended : IsEnded a c.in-Ok.text kept c.in-Ok-run.ran.text c.in-Ok-run.ran.ending = search rules in
-    let run = run_asked c.args.words.now (g.S.Source.left c.args.source.now) a c.in-Ok.text kept c.in-Ok-run.ran.text c.in-Ok-run.ran.ending is_asked ring c.in-Ok.ensures.text is_program ended in
-    keeps _ _ _ _ kept c.in-Ok-run.ran.ending c.end-in-Ok-run.ensures.ended c.write_text-status.ensures.status run
+pub returns-in-Err-clause-how : goal.returns-in-Err-clause-how
+returns-in-Err-clause-how g c = stopped.nothing_kept c.tell_stop.result.kept c.tell_stop.ensures.kept _
 
-pub returns-clause-how : goal.returns-clause-how
-returns-clause-how g c =
-    let a = c.in-Ok-Some.asked in
-    let kept = c.in-Ok-run.ran.kept in
-    let is_asked : task c.args.words.now ≡ Some a = search rules in
-    let same : kept.program ≡ c.in-Ok-program_of.program = search rules in
-    let made : IsMadeBy a.by a.workers a.budget kept.program kept.journal kept.how = subst (λ (p : ProgramTerms). IsMadeBy a.by a.workers a.budget p kept.journal kept.how) (sym same) c.in-Ok-run.ensures.made in
-    made_as_asked c.args.words.now a _ _ kept c.end-in-Ok-run.ensures.ended is_asked made
+pub returns-in-Err-clause-whole_text : goal.returns-in-Err-clause-whole_text
+returns-in-Err-clause-whole_text g c = stopped.nothing_kept c.tell_stop.result.kept c.tell_stop.ensures.kept _
+
+pub returns-in-Err-clause-write_fault : goal.returns-in-Err-clause-write_fault
+returns-in-Err-clause-write_fault g c = λ e. absurd (stopped.no_write c.in-Err.stop _ c.tell_stop.ensures.status e)
+
+pub returns-in-Ok-clause-known : goal.returns-in-Ok-clause-known
+returns-in-Ok-clause-known g c = ran.known _ c.run_job-ended.ensures.status
+
+pub returns-in-Ok-clause-usage : goal.returns-in-Ok-clause-usage
+returns-in-Ok-clause-usage g c = ran.usage _ c.args.words.now c.in-Ok.job.asked c.in-Ok.ensures.job.is_asked c.run_job-ended.ensures.status
+
+pub returns-in-Ok-clause-read_fault : goal.returns-in-Ok-clause-read_fault
+returns-in-Ok-clause-read_fault g c = λ e. absurd (ran.no_read_fault _ c.run_job-ended.ensures.status e)
+
+pub returns-in-Ok-clause-reads_all : goal.returns-in-Ok-clause-reads_all
+returns-in-Ok-clause-reads_all g c = read_all g.S.Source.left _ _ _ c.args.source.now c.read_job.new.source c.in-Ok.ensures.job.ring (ran.no_usage _ c.run_job-ended.ensures.status) c.in-Ok.ensures.job.all
+
+pub returns-in-Ok-clause-refusal : goal.returns-in-Ok-clause-refusal
+returns-in-Ok-clause-refusal g c = λ e. absurd (ran.no_refusal _ c.run_job-ended.ensures.status e)
+
+pub returns-in-Ok-clause-kept : goal.returns-in-Ok-clause-kept
+returns-in-Ok-clause-kept g c = ran.keeps c.args.words.now g.S.Source.left c.args.source.now c.read_job.new.source c.in-Ok.job c.in-Ok.ensures.job _ _ c.run_job-ended.result c.run_job-ended.ensures.run c.run_job-ended.ensures.exactly
+
+pub returns-in-Ok-clause-how : goal.returns-in-Ok-clause-how
+returns-in-Ok-clause-how g c = ran.made_as_asked c.args.words.now g.S.Source.left c.args.source.now c.read_job.new.source c.in-Ok.job c.in-Ok.ensures.job _ _ c.run_job-ended.result c.run_job-ended.ensures.run
+
+pub returns-in-Ok-clause-whole_text : goal.returns-in-Ok-clause-whole_text
+returns-in-Ok-clause-whole_text g c = ran.whole_text c.args.words.now g.S.Source.left c.args.source.now c.read_job.new.source c.in-Ok.job c.in-Ok.ensures.job _ _ c.run_job-ended.result c.run_job-ended.ensures.run

@@ -1,0 +1,18 @@
+-- The network with which a run begins.
+use Rattle.std.specs.Prelude.{◌≡◌}
+use Rattle.chem_model.specs.ProgramFacts.{ProgramTerms}
+use Rattle.chem_model.specs.Opening.{opening}
+use Rattle.env_store.specs.CodeFacts.{IsCode}
+use Rattle.env_store.specs.Laws.{rules_of_group}
+use Rattle.env_store.specs.Reading.{IsCodeOf}
+use Rattle.net_core.specs.Whole.{NetParts}
+use Rattle.net_laws.specs.Net.{Stands}
+use Rattle.net_laws.specs.Opened.{opened_net}
+
+-- the network of a code of this program, before any event
+pub record IsBegun (p : ProgramTerms) (net : NetParts) : Type 0 where
+  pub is_code : IsCode net.code
+  pub of_program : IsCodeOf p net.code
+  pub opened : net.net ≡ opened_net net.code
+  pub events : net.events ≡ 0
+  pub stands : Stands (rules_of_group p) net.net (opening p)
