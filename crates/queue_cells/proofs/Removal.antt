@@ -1,21 +1,26 @@
 -- What becomes of groups where one is emptied, and where several are dropped.
-use Rattle.std.proofs.Common.{◌≡◌, ℕ, zero, suc, ◌+◌, ◌<◌, ◌≤◌, Bool, true, false, cond, List, [], ◌∷◌, map, length, get_or, take, Option, Some, None, refl, sym, ap, ◌∙◌, arith}
+use Rattle.std.proofs.Common.{◌≡◌, ℕ, zero, suc, ◌+◌, ◌<◌, ◌≤◌, Bool, true, false, cond, List, [], ◌∷◌, map, length, get_or, take, Option, Some, refl, sym, ap, ◌∙◌, arith}
 use Rattle.std.specs.Prelude.{not, replicate, slice_get, remove, filter, sum_by}
 use Rattle.std.proofs.lemmas.List.{length-set, nil_from_length}
 use Rattle.std.proofs.lemmas.List.Sums.{sum_by-cons}
 use Rattle.slab.specs.Slab.{Slab}
 use Rattle.queue_cells.specs.declared.cells.Cell.{Cell}
-use Rattle.queue_cells.specs.declared.cells.Ends.{Ends}
 use Rattle.queue_cells.specs.declared.rows.Row.{Row}
 use Rattle.queue_cells.specs.Grouped.{Queued, lists_at, queue_in, with_queue, waiting, but_where}
 use Rattle.queue_cells.specs.Grouped.{waiting_where}
 use Rattle.queue_cells.specs.inside.Grouped.{emptied}
-use Rattle.queue_cells.specs.inside.Walk.{messages, all_uses, total}
-use Rattle.queue_cells.specs.inside.Rows.{queued, IsRow, AllRows, row_uses, AreRows}
+use Rattle.queue_cells.specs.inside.Walk.{messages, total}
+use Rattle.queue_cells.specs.inside.Rows.{queued, AllRows, row_uses, AreRows}
 use Rattle.queue_cells.proofs.RowLemmas.{empty_ends, waiting-at}
-use Rattle.queue_cells.proofs.IndexLemmas.{waiting-replicate}
 
 -- ---- lists of empty queues
+
+waiting-replicate : (T : Type 0) (n : ℕ) → waiting {T = T} (replicate n []) ≡ 0
+waiting-replicate T zero = refl
+waiting-replicate T (suc n) =
+    let rest = waiting-replicate T n in
+    let one = sum_by-cons (length {A = T}) [] (replicate n []) in
+    omega arith
 
 all_empty : {T : Type 0} (ls : List (List T)) → ((c : ℕ) → c < length ls → get_or ls c [] ≡ []) → replicate (length ls) [] ≡ ls
 all_empty [] none = refl

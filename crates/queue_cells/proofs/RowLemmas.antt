@@ -1,6 +1,6 @@
 -- What becomes of groups of queues where a message comes or goes.
 use Rattle.std.proofs.Common.{◌≡◌, ◌≢◌, ℕ, zero, suc, ◌+◌, ◌<◌, ◌≤◌, true, false, cond, List, [], ◌∷◌, ◌++◌, map, length, get_or, set, Option, Some, None, eqb, refl, sym, ap, subst, ◌∙◌, inl, inr, arith}
-use Rattle.std.specs.Prelude.{replicate, slice_get, remove, is_some, IfNone, IfSome}
+use Rattle.std.specs.Prelude.{replicate, slice_get, remove}
 use Rattle.std.proofs.lemmas.Bool.{cases_eq}
 use Rattle.std.proofs.lemmas.Bool.Decides.{nat_tests}
 use Rattle.std.proofs.lemmas.List.{map-append, length-map, length-set, map-set, get_or-set_same, get_or-set_other, get_or_default, set-set, set-get_or, nil_from_length}
@@ -9,9 +9,8 @@ use Rattle.slab.specs.Slab.{Slab, slab_len}
 use Rattle.queue_cells.specs.declared.cells.Cell.{Cell}
 use Rattle.queue_cells.specs.declared.cells.Ends.{Ends}
 use Rattle.queue_cells.specs.declared.rows.Row.{Row}
-use Rattle.status_words.specs.Words.{Covers, NoneFrom, IsNext}
+use Rattle.status_words.specs.Words.{Covers}
 use Rattle.queue_cells.specs.Grouped.{Queued, lists_at, queue_in, with_queue, idle_group, waiting, AllHeld}
-use Rattle.queue_cells.specs.Busy.{any_waits}
 use Rattle.queue_cells.specs.inside.Walk.{walked, messages, uses, IsQueue, AllQueues, all_uses}
 use Rattle.queue_cells.specs.inside.Walk.{total, Chained, Unchained}
 use Rattle.queue_cells.specs.inside.Rows.{is_held, no_ends, IsIdle, queued, IsRow, AllRows}
@@ -51,9 +50,6 @@ pub waiting-at : {T : Type 0} (ls : List (List T)) (i : ℕ) → length (get_or 
 waiting-at [] i = omega arith
 waiting-at (ms ∷ ls) zero = omega (arith, sum_by-cons length ms ls)
 waiting-at (ms ∷ ls) (suc i) = omega (arith, waiting-at ls i, sum_by-cons length ms ls)
-
-pub any_waits-some : {T : Type 0} (ls : List (List T)) → 0 < waiting ls → any_waits ls ≡ true
-any_waits-some ls some = grind (arith, nat_tests)
 
 pub none_waits : (n : ℕ) → (0 < n → ⊥) → n ≡ 0
 none_waits zero no_one = refl
@@ -288,19 +284,6 @@ module _ {G T : Type 0} where
     λ covers i wanted. (held-at slots r.ends.items i row.queues).0 (ap (λ s. get_or s i false) (sym row.status) ∙ covers i wanted),
     λ all i wanted. ap (λ s. get_or s i false) row.status ∙ (held-at slots r.ends.items i row.queues).1 (all i wanted),
   )
-
-  -- the status has a number exactly where a message waits
-  pub holds-of : (slots : List (Option (Cell T))) (r : Row G) (found : Option ℕ) → IsRow slots r → IfNone found (NoneFrom r.status 0 (length r.status)) → IfSome found (λ i. IsNext r.status 0 i) → is_some found ≡ any_waits (map (messages slots) r.ends.items)
-  holds-of slots r None row idle some =
-      let empty : (i : ℕ) → i < length (map (messages slots) r.ends.items) → get_or (map (messages slots) r.ends.items) i [] ≡ [] = λ i less.
-      let bit : get_or (map is_held r.ends.items) i false ≡ false = ap (λ s. get_or s i false) (sym row.status) ∙ idle i (omega arith) (omega (arith, ap length row.status, length-map r.ends.items is_held, length-map r.ends.items (messages slots))) in
-      nil_from_length (get_or (map (messages slots) r.ends.items) i []) (none_waits (length (get_or (map (messages slots) r.ends.items) i [])) (λ waits. let t = (held-at slots r.ends.items i row.queues).1 waits in absurd (cc))) in
-      let none : waiting (map (messages slots) r.ends.items) ≡ 0 = waiting-none (map (messages slots) r.ends.items) empty in
-      rw none refl
-  holds-of slots r (Some i) row idle some =
-      let waits = (held-at slots r.ends.items i row.queues).0 (ap (λ s. get_or s i false) (sym row.status) ∙ some.there) in
-      let among = waiting-at (map (messages slots) r.ends.items) i in
-      sym (any_waits-some (map (messages slots) r.ends.items) (omega arith))
 
   AllRows-push : (slots : List (Option (Cell T))) (rs : List (Row G)) (r : Row G) → IsRow slots r → AllRows slots rs → AllRows slots (rs ++ r ∷ [])
   AllRows-push slots [] r one all = (one, tt)

@@ -1,4 +1,3 @@
 pub mod Grouped
 pub mod Messages
-pub mod Busy
 pub mod inside

@@ -1,4 +1,3 @@
-pub mod Index
 pub mod Grouped
 pub mod Walk
 pub mod Rows

@@ -3,7 +3,6 @@ ghost use Rattle.std.specs.Prelude.{slice_get, remove, option_copied, IsOk, IsTr
 ghost use Rattle.queue_cells.specs.Grouped.{lists_at, queue_in, with_queue, with_last, waiting};
 ghost use Rattle.queue_cells.specs.Grouped.{idle_group, but_where, waiting_where, AllHeld};
 ghost use Rattle.queue_cells.specs.inside.Grouped.{emptied};
-ghost use Rattle.queue_cells.specs.Busy.{any_waits};
 ghost use Rattle.queue_cells.specs.Messages.{messages_in};
 ghost use Rattle.status_words.specs.Words.{number_of_words};
 
@@ -123,15 +122,6 @@ impl<G: Drop, T: Drop> Groups<G, T> {
     {
         let row = &self.rows[group];
         row.status.covers(mask)
-    }
-
-    /// Whether any queue of a group holds a message.
-    pub fn holds(&self, group: usize) -> bool
-        requires { group < length self.now.groups }
-        ensures { result ≡ any_waits (lists_at self.now.groups group) }
-    {
-        let row = &self.rows[group];
-        row.status.next(0).is_some()
     }
 
     /// Makes room for more messages, in whatever queues.

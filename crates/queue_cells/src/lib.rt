@@ -6,12 +6,10 @@
 mod cells;
 mod choosing;
 mod groups;
-mod hot;
 mod rows;
 mod walk;
 
 pub use choosing::Selects;
 pub use groups::Groups;
-pub use hot::Hot;
 pub use rows::Idle;
 pub use walk::Iter;
