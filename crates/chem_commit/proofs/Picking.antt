@@ -14,7 +14,7 @@ use Rattle.chem_model.specs.Apply.{same_atom, atom_at, without, received_at, bot
 use Rattle.chem_model.specs.Sound.{IsSound}
 use Rattle.chem_laws.proofs.Bags.{one_self}
 use Rattle.chem_laws.proofs.Taking.{same_atom_is, same_atom_refl, atom_pair_found, pairs-without}
-use Rattle.std.proofs.lemmas.List.{take_all, get_or_default}
+use Rattle.std.proofs.lemmas.List.{get_or_default}
 use Rattle.std.proofs.Math.Seq.{take-append_seam}
 use Rattle.chem_commit.specs.inside.Parts.{place_from}
 use Rattle.chem_commit.specs.inside.Differ.{AtomsDiffer, IsAtomAt, IsPicked, ArePicked}
@@ -27,9 +27,6 @@ pub first_differ : (n m : Numbered) (s : ℕ) (made : Made) (count : ℕ) → Is
 first_differ n m s made count sound is many =
     let all : take count m.atoms ≡ n.atoms = ap (λ (x : Numbered). take count x.atoms) is ∙ ap (λ (k : ℕ). take k (n.atoms ++ made.atoms)) many ∙ take-append_seam n.atoms made.atoms in
     subst AtomsDiffer (sym all) (atoms_differ n sound)
-
-pub all_differ : (n : Numbered) (count : ℕ) → IsSound n → count ≡ length n.atoms → AtomsDiffer (take count n.atoms)
-all_differ n count sound many = subst AtomsDiffer (sym (take_all count n.atoms (omega (arith, many)))) (atoms_differ n sound)
 
 pub differ-without : (i : AtomId) (atoms : List NumberedAtom) → AtomsDiffer atoms → AtomsDiffer (without i atoms)
 differ-without i atoms d p = let less = pairs-without i atoms p in let all = d p in omega (arith, less, all)
@@ -108,9 +105,6 @@ each_to P Q f [] h = tt
 each_to P Q f (x ∷ xs) h = (f x h.0, each_to P Q f xs h.1)
 
 module _ (atoms : List NumberedAtom) (took : List AtomId) where
-  pub none_picked : ArePicked atoms [] []
-  none_picked = record { right = λ i a e. cc; all = tt }
-
   pub picked_next : (few more : List NumberedAtom) (k : ℕ) (i : AtomId) (a : NumberedAtom) → k < length took → i ≡ get_or took k i → atom_at atoms i ≡ Some a → more ≡ few ++ a ∷ [] → ArePicked atoms (take k took) few → ArePicked atoms (take (k + 1) took) more
   picked_next few more k i a low e found is h = subst (ArePicked atoms (take (k + 1) took)) (sym is) (record {
     right = λ j b f. right j b (atom_at few j) refl f;

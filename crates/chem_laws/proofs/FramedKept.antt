@@ -197,25 +197,6 @@ has_through u n m k sound f g =
       atoms = λ i b e site. g.atoms i b (f.atoms i b e site) (roots b.loc (atom_stands_there n sound i b e) site);
     }
 
--- ---- reactions of a site, and then more of them
-
-then_twice : (a b c : Made) → then_made (then_made a b) c ≡ then_made a (then_made b c)
-then_twice a b c = λ i. record {
-  next = c.next;
-  births = append_assoc a.births b.births c.births i;
-  named = append_assoc a.named b.named c.named i;
-  rules = append_assoc a.rules b.rules c.rules i;
-  atoms = append_assoc a.atoms b.atoms c.atoms i;
-  outs = append_assoc a.outs b.outs c.outs i;
-}
-
-pub reacts_join : (t : ℕ) (n m last : Numbered) (journal more : List Event) (gone left : List NumberedAtom) (a b : Made) → ReactsAt t n journal gone a m → ReactsAt t m more left b last → ReactsAt t n (journal ++ more) (gone ++ left) (then_made a b) last
-reacts_join t n m last [] more gone left a b no_reaction h = h
-reacts_join t n m last (e ∷ journal) more gone left a b (a_reaction {m = k} {gone = first} {more = then} {a = c} {b = d} step rest) h =
-    let joined = a_reaction step (reacts_join t k m last journal more then left d b rest h) in
-    subst (λ (g : List NumberedAtom). ReactsAt t n (e ∷ (journal ++ more)) g (then_made (then_made c d) b) last) (sym (append_assoc first then left))
-    (subst (λ (x : Made). ReactsAt t n (e ∷ (journal ++ more)) (first ++ (then ++ left)) x last) (sym (then_twice c d b)) joined)
-
 -- ---- one reaction of a site
 
 -- what is made is added at the site

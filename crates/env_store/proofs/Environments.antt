@@ -2,18 +2,11 @@
 use Rattle.std.proofs.Common.{◌≡◌, ℕ, ◌+◌, List, [], ◌∷◌, length, Some, refl, sym, ◌∙◌, arith, length-append}
 use Rattle.chem_model.specs.declared.name.Loc.{Loc}
 use Rattle.chem_model.specs.declared.name.Name.{Name}
-use Rattle.env_store.specs.declared.code.Slot.{Slot}
-use Rattle.env_store.specs.declared.code.Slot.TheVariants.{Env, Known}
 use Rattle.env_store.specs.declared.code.Block.{Block}
 use Rattle.env_store.specs.CodeParts.{CodeParts}
-use Rattle.env_store.specs.CodeFacts.{IsInEnv, IsSlotAt, place_names_made, names_made, IsBlockAt}
+use Rattle.env_store.specs.CodeFacts.{place_names_made, names_made, IsBlockAt}
 use Rattle.env_store.specs.Running.{NumberedLevel, numbered_levels, loc_at, channel_names, place_names, after_place, Making, block_entered, levels_entered}
 use Rattle.env_store.proofs.NamingOrder.{channels_long}
-
--- a slot of a body may be looked up
-pub slot_in_env : (c : CodeParts) (d : ℕ) (s : Slot) → IsSlotAt c d s → IsInEnv d s
-slot_in_env c d (Env i) h = h
-slot_in_env c d (Known n) h = tt
 
 place_names_long : (s k : ℕ) (vs : List NumberedLevel) → length (place_names s k vs) ≡ place_names_made vs
 place_names_long s k [] = refl

@@ -68,9 +68,6 @@ laid_none s m l k (and_also (Place x es p) ds) e = laid_none s m l k ds e
 
 -- ---- the location of a place, by its name
 
-loc_of_known : (l : Loc) (x : Ref) (a : Loc) → x ≡ Known (name.Place a) → loc_or l x ≡ a
-loc_of_known l x a e = ap (loc_or l) e
-
 module _ (c : CodeParts) (levels : List LevelTerm) (tops : Naming) (M : Making) (s : ℕ) (r : Loc)
     (flat : (n : ℕ) (t : LevelTerm) → slice_get levels n ≡ Some t → ReadsLevel c levels tops n t)
     (runs : (j : ℕ) (is : List Instr) → slice_get c.bodies j ≡ Some is → (env : List Name) (l : Loc) (k : ℕ) → M j env l k ≡ run c M s is env l k) where

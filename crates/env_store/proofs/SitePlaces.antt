@@ -67,9 +67,6 @@ SiteLevel m i t =
     let bs = new_channels [] ds in
     PlacesNamed i m bs (1 + length bs) ds × ChannelsNamed i m (loc_at i 0) 1 bs
 
-agree_on : (bs cs : List ℕ) (m n : Naming) → ((b : ℕ) → is_among cs b ≡ true → is_among bs b ≡ true) → Agree bs m n → Agree cs m n
-agree_on bs cs m n h f b e = f b (h b e)
-
 site_levels : (ts : List SiteTerm) (i : ℕ) (m : Naming) → IsBlockAt None (places ts) → Each HasLevel ts → Agree (block (places ts)) m (rest_names i ts)
     → (j : ℕ) (t : SiteTerm) → slice_get ts j ≡ Some t → SiteLevel m (i + j) t
 site_levels [] i m h g same j t e = cc

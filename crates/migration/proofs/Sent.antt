@@ -1,8 +1,6 @@
 -- What is sent is read as it was.
-use Rattle.std.proofs.Common.{◌≡◌, Result, Ok, Err, Some, inl, inr, sym, ap, ◌∙◌}
-use Rattle.wire_packet.specs.Codec.{IsOrMemory}
+use Rattle.std.proofs.Common.{◌≡◌, Some, sym, ap, ◌∙◌}
 use Rattle.wire_packet.specs.ParcelFacts.{ParcelParts}
-use Rattle.wire_packet.specs.declared.fault.DecodeEnd.{DecodeEnd}
 use Rattle.wire_packet.specs.declared.fault.DecodeEnd.TheVariants as end
 use Rattle.wire_packet.specs.declared.packet.Request.{Request}
 use Rattle.wire_packet.specs.declared.parcel.Packet.{Packet}
@@ -11,15 +9,6 @@ use Rattle.net_laws.specs.Site.{Site}
 use Rattle.net_laws.specs.Holding.{request_with, without_request, drop_request}
 use Rattle.net_laws.specs.Parcels.{pack, parcel_of}
 use Rattle.migration.proofs.Between.{pack_less}
-use Rattle.std.proofs.Common.{ℕ}
-
-pub read_again : (p read : Packet) (r : Result Packet DecodeEnd) → IsOrMemory (Ok p) r → r ≡ Ok read → read ≡ p
-read_again p read r (inl e) is = cc
-read_again p read r (inr e) is = absurd (cc)
-
-pub never_bad : (p : Packet) (r : Result Packet DecodeEnd) (place : ℕ) → IsOrMemory (Ok p) r → r ≡ Err (end.Bad place) → ⊥
-never_bad p r place (inl e) is = cc
-never_bad p r place (inr e) is = cc
 
 -- the parcel without the request is that of the location once the request is dropped
 pub left_out : (s : Site) (q : Request) (p : ParcelParts) → request_with q.id s.requests ≡ Some q → p ≡ parcel_of (pack q.loc s)

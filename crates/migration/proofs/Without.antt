@@ -1,6 +1,5 @@
 -- Lists of requests and parcels with one request less.
-use Rattle.std.proofs.Common.{◌≡◌, ℕ, zero, suc, ◌+◌, ◌≤◌, Bool, true, false, cond, List, [], ◌∷◌, ◌++◌, length, take, drop, Some, refl, ap, ◌∙◌, arith}
-use Rattle.std.specs.Prelude.{slice_get}
+use Rattle.std.proofs.Common.{◌≡◌, ℕ, zero, suc, ◌+◌, ◌≤◌, Bool, true, false, cond, List, [], ◌∷◌, ◌++◌, length, take, drop, refl, ap, ◌∙◌, arith}
 use Rattle.chem_model.specs.declared.event.AtomId.{AtomId}
 use Rattle.chem_model.specs.Apply.{same_atom}
 use Rattle.chem_model.specs.Each.{Each}
@@ -9,20 +8,6 @@ use Rattle.wire_packet.specs.declared.packet.Request.{Request}
 use Rattle.net_laws.specs.Holding.{without_request}
 
 -- ---- the walk over a list
-
-pub goes_at : (i : AtomId) (rs : List Request) (k : ℕ) (x : Request) → slice_get rs k ≡ Some x → same_atom x.id i ≡ true → without_request i (drop k rs) ≡ drop (k + 1) rs
-goes_at i [] k x is same = absurd (cc)
-goes_at i (y ∷ rs) zero x is same =
-    let at : y ≡ x = cc in
-    ap (λ (b : Bool). cond b rs (y ∷ without_request i rs)) (ap (λ (r : Request). same_atom r.id i) at ∙ same)
-goes_at i (y ∷ rs) (suc k) x is same = let n : suc k + 1 ≡ suc (k + 1) = omega arith in rw n (goes_at i rs k x is same)
-
-pub stays_at : (i : AtomId) (rs : List Request) (k : ℕ) (x : Request) → slice_get rs k ≡ Some x → same_atom x.id i ≡ false → take k rs ++ without_request i (drop k rs) ≡ take (k + 1) rs ++ without_request i (drop (k + 1) rs)
-stays_at i [] k x is same = absurd (cc)
-stays_at i (y ∷ rs) zero x is same =
-    let at : y ≡ x = cc in
-    ap (λ (b : Bool). cond b rs (y ∷ without_request i rs)) (ap (λ (r : Request). same_atom r.id i) at ∙ same)
-stays_at i (y ∷ rs) (suc k) x is same = let n : suc k + 1 ≡ suc (k + 1) = omega arith in rw n (ap (λ (ys : List Request). y ∷ ys) (stays_at i rs k x is same))
 
 pub at_end : (i : AtomId) (rs : List Request) (k : ℕ) → length rs ≤ k → take k rs ++ without_request i (drop k rs) ≡ rs
 at_end i [] zero past = refl

@@ -1,9 +1,7 @@
 -- What follows for a network from its standing for a sound solution: ids are all different and below their sites' counts, and so are locations and channels.
-use Rattle.std.proofs.Common.{◌≡◌, ℕ, zero, suc, ◌+◌, ◌<◌, ◌≤◌, List, [], ◌∷◌, Option, Some, None, true, refl, sym, ap, ◌∙◌, subst, arith, length, slice_get, inl, inr, Bool, false, cond}
+use Rattle.std.proofs.Common.{◌≡◌, ℕ, zero, suc, ◌+◌, ◌<◌, ◌≤◌, List, [], ◌∷◌, Option, Some, None, true, refl, sym, ap, ◌∙◌, subst, arith, slice_get, inl, inr, Bool, false, cond}
 use Rattle.std.specs.Prelude.{slice_index}
 use Rattle.chem_model.specs.declared.name.Loc.{Loc}
-use Rattle.chem_model.specs.declared.name.Ref.TheVariants.{Known}
-use Rattle.chem_model.specs.declared.name.Pat.{Pat}
 use Rattle.chem_model.specs.declared.event.AtomId.{AtomId}
 use Rattle.chem_model.specs.declared.numbered.NumberedRule.{NumberedRule}
 use Rattle.chem_model.specs.declared.numbered.NumberedAtom.{NumberedAtom}
@@ -14,11 +12,11 @@ use Rattle.chem_model.specs.Solution.{is_there, coded_name}
 use Rattle.chem_model.specs.NewNames.{coded_pair}
 use Rattle.chem_model.specs.Numbered.{standing, atom_pairs, channel_pairs, channel_pair, pairs}
 use Rattle.chem_model.specs.Apply.{atom_at, same_atom}
-use Rattle.chem_model.specs.Sound.{IsNameOf, IsKnown, IsHomedAt, IsRule, names_in}
+use Rattle.chem_model.specs.Sound.{names_in}
 use Rattle.chem_laws.proofs.Lists.{above}
 use Rattle.chem_laws.proofs.Bags.{one_self, one_is, bag-append}
 use Rattle.chem_laws.proofs.Places.{place_pair_found}
-use Rattle.chem_laws.proofs.Taking.{same_atom_is, same_atom_refl, atom_pair_found, rule_pair_found, rule_found}
+use Rattle.chem_laws.proofs.Taking.{same_atom_is, same_atom_refl, atom_pair_found, rule_pair_found}
 use Rattle.wire_packet.specs.declared.packet.GroupInst.{GroupInst}
 use Rattle.wire_packet.specs.declared.packet.Ask.{Ask}
 use Rattle.wire_packet.specs.declared.packet.Request.{Request}
@@ -27,12 +25,10 @@ use Rattle.loc_tree.specs.declared.tree.Spot.{Spot}
 use Rattle.loc_tree.specs.Tree.{spot, number_in, is_root}
 use Rattle.loc_tree.specs.Places.{standing_in}
 use Rattle.net_laws.specs.Net.{Net, Stands, made_of, all_atoms, all_rules, under_way, among}
-use Rattle.net_laws.specs.Changes.{channel_of}
-use Rattle.net_laws.specs.Kept.{AreDisjoint, IsKept}
+use Rattle.net_laws.specs.Kept.{IsKept}
 use Rattle.net_laws.specs.Holding.{request_with}
 use Rattle.net_laws.proofs.Holds.{each_get, laid_at}
-use Rattle.net_laws.proofs.Sites.{made_at}
-use Rattle.net_laws.proofs.Steps.{atoms_among, rules_among, group_among}
+use Rattle.net_laws.proofs.Steps.{atoms_among}
 use Rattle.net_laws.proofs.Found.{atom_in, rule_in}
 use Rattle.net_laws.proofs.React.{atoms_differ, rules_differ}
 use Rattle.chem_model.specs.declared.name.Name.TheVariants as name
@@ -137,33 +133,6 @@ module _ (rules_of : GroupInst → List NumberedRule) (net : Net) (n : Numbered)
       go : (o : Option Spot) → number_in o ≡ Some i → is_there (standing_in (is_root net.tree l) o) ≡ true
       go None f = cc
       go (Some p) f = refl
-
-  -- ---- channels: one on which a rule has a pattern is below its site's count
-
-  pub channel_below : (r : NumberedRule) (j : ℕ) (p : Pat) (s k : ℕ) (h : Loc) → 0 < all_rules rules_of net.sites r → slice_get r.pats j ≡ Some p → p.on ≡ Known (name.Chan s k h) → k < slice_index (made_of net.sites) s
-  channel_below r j p s k h here at on =
-      let stands_r : 0 < bag coded_rule n.rules r = omega (arith, stands.agrees.rules r) in
-      let rule = rule_found (IsRule n) n.rules r.id r (rule_in n.rules r (rules_differ n stands.sound) stands_r) stands.sound.rules in
-      let pat = each_get (λ (q : Pat). IsKnown (IsNameOf n) q.on × IsKnown (IsHomedAt r.loc) q.on) r.pats j p at rule.channels in
-      let known : IsNameOf n (name.Chan s k h) = subst (IsKnown (IsNameOf n)) on pat.0 in
-      below s k (omega (arith, channel_pair_found n.named s k h known.0))
-
-  -- ---- so the groups that a pouring lays have no channel in common with those that are there
-
-  -- each channel of the group is one of a pattern of its rules
-  abbrev pub HasPatterns : Told → Type 0
-  HasPatterns d = (c : ℕ) → c < length d.counts → (r : NumberedRule) × (j : ℕ) × (p : Pat) × (0 < bag coded_rule (rules_of d.inst) r) × (slice_get r.pats j ≡ Some p) × (p.on ≡ Known (channel_of d.inst c))
-
-  pub apart_from_new : (i j : ℕ) (s : Site) (g : Group) (new : Told) → slice_get net.sites i ≡ Some s → slice_get s.groups j ≡ Some g → HasPatterns g.told → new.inst.chans.site ≡ i → s.made ≤ new.inst.chans.k → AreDisjoint g.told new
-  apart_from_new i j s g new here held has site first b c below_b below_c same =
-      let u = has b below_b in
-      let d = g.told in
-      let there : 0 < all_rules rules_of net.sites u.0 = omega (arith, rules_among rules_of net.sites i s u.0 here, group_among rules_of s.groups j g u.0 held, u.3) in
-      let low : d.inst.chans.k + b < slice_index (made_of net.sites) d.inst.chans.site = channel_below u.0 u.1 u.2 d.inst.chans.site (d.inst.chans.k + b) d.inst.loc there u.4 u.5 in
-      let sites : d.inst.chans.site ≡ new.inst.chans.site = cc in
-      let numbers : d.inst.chans.k + b ≡ new.inst.chans.k + c = cc in
-      let count : slice_index (made_of net.sites) d.inst.chans.site ≡ s.made = ap (slice_index (made_of net.sites)) (sites ∙ site) ∙ made_at net.sites i s here in
-      omega arith
 
   -- ---- what the tests of choices want to know
 

@@ -2,9 +2,8 @@
 use Rattle.std.proofs.Common.{◌≡◌, ℕ, zero, suc, ◌+◌, List, [], ◌∷◌, ◌++◌, Option, Some, None, Bool, true, false, cond, refl, sym, ap, ◌∙◌, subst, arith, length, slice_get, ◌==◌, eqb-true, eq-eqb}
 use Rattle.std.proofs.lemmas.Bool.{and_parts}
 use Rattle.chem_model.specs.declared.name.Loc.{Loc}
-use Rattle.chem_model.specs.declared.numbered.NumberedRule.{NumberedRule}
 use Rattle.chem_model.specs.declared.numbered.NumberedAtom.{NumberedAtom}
-use Rattle.chem_model.specs.Bag.{one, bag}
+use Rattle.chem_model.specs.Bag.{one}
 use Rattle.chem_model.specs.Each.{Each}
 use Rattle.chem_model.specs.Numbered.{same_name}
 use Rattle.chem_laws.proofs.Lists.{true_both, Each-append}
@@ -12,7 +11,7 @@ use Rattle.chem_laws.proofs.Taking.{same_name_is, same_name_refl}
 use Rattle.wire_packet.specs.MessageFacts.{MessageParts}
 use Rattle.wire_packet.specs.declared.packet.GroupInst.{GroupInst}
 use Rattle.wire_packet.specs.declared.packet.Waiting.{Waiting}
-use Rattle.net_laws.specs.Site.{Told, Group, told_in, Site, coded_rule, coded_atom, message_atom, messages_at, queues_at, queue_atoms, waiting_atoms, atoms_of, laid_rules, rules_held}
+use Rattle.net_laws.specs.Site.{Told, Group, told_in, Site, coded_atom, message_atom, messages_at, queues_at, queue_atoms, waiting_atoms, atoms_of}
 use Rattle.net_laws.specs.Net.{home_or, among}
 use Rattle.net_laws.specs.Changes.{channel_of, IsQueued, AreQueues}
 use Rattle.net_laws.specs.Kept.{FitsNone, AreApart, IsKept}
@@ -277,12 +276,3 @@ lay_is d s kept here apart =
       requests = are.requests;
       atoms = λ x. omega (arith, are.atoms x, queued_append s.groups g x, empty_atoms d.inst.loc d.counts x);
     }
-
-module _ (rules_of : GroupInst → List NumberedRule) where
-  laid_rules_append : (ds : List Told) (d : Told) (r : NumberedRule) → laid_rules rules_of (ds ++ d ∷ []) r ≡ laid_rules rules_of ds r + bag coded_rule (rules_of d.inst) r
-  laid_rules_append [] d r = omega arith
-  laid_rules_append (e ∷ ds) d r = omega (arith, laid_rules_append ds d r)
-
-  -- its rules come to those of the site
-  pub lay_rules_are : (d : Told) (old new : Site) → IsLaid d old new → (r : NumberedRule) → rules_held rules_of new r ≡ rules_held rules_of old r + bag coded_rule (rules_of d.inst) r
-  lay_rules_are d old new h r = ap (λ ds. laid_rules rules_of ds r) h.told ∙ laid_rules_append (told_in old.groups) d r

@@ -259,12 +259,6 @@ module _ (rules_of : GroupInst → List NumberedRule) where
     outs = pours.outs;
   }
 
-  or_comm_is : (a b : Bool) → a || b ≡ (false || b) || a
-  or_comm_is true true = refl
-  or_comm_is true false = refl
-  or_comm_is false true = refl
-  or_comm_is false false = refl
-
   rules_in_bag : (ds : List Told) (r : NumberedRule) → bag coded_rule (rules_in rules_of ds) r ≡ laid_rules rules_of ds r
   rules_in_bag [] r = refl
   rules_in_bag (d ∷ ds) r = omega (arith, bag-append coded_rule (rules_of d.inst) (rules_in rules_of ds) r, rules_in_bag ds r)

@@ -11,7 +11,7 @@ use Rattle.env_store.specs.CodeParts.{CodeParts}
 use Rattle.env_store.specs.CodeFacts.{IsCode, IsBodyAt, received}
 use Rattle.status_words.specs.Words.{number_of_words}
 use Rattle.queue_cells.specs.Grouped.{AllHeld}
-use Rattle.loc_tree.specs.Tree.{Tree, is_alive}
+use Rattle.loc_tree.specs.Tree.{Tree}
 use Rattle.net_laws.specs.Site.{told_in, Group, Site}
 use Rattle.net_laws.proofs.Holds.{each_get, laid_at}
 use Rattle.site_solution.specs.CanLay.{HasNumbers}
@@ -20,7 +20,7 @@ use Rattle.site_solution.specs.Held.{queues_in, queues_of, inst_in}
 use Rattle.reducer.specs.declared.pick.Pick.{Pick}
 use Rattle.reducer.specs.Picks.{Picked, Picks, IsPick, Covers, IsToldAs}
 use Rattle.reducer.specs.inside.Searching.{IsOfLevel, pick_of, NoneCovered, IsFirstCovered, NoOffer}
-use Rattle.reducer.proofs.Levels.{some_is, many_queues, group_same, level_same}
+use Rattle.reducer.proofs.Levels.{some_is, many_queues, level_same}
 use Rattle.reducer.proofs.Masks.{words_are}
 use Rattle.reducer.proofs.Best.{below_or, not_both}
 
@@ -111,16 +111,7 @@ found_first c s j n r pick tells holds none = record {
 pub none_offered : (c : CodeParts) (t : Tree) (s : Site) (j : ℕ) → ((n : ℕ) → NoneCovered c s j n) → NoOffer c t s j
 none_offered c t s j none n y fires = none (n + 1) n y (omega arith) fires.covers
 
-pub dead_offers_none : (c : CodeParts) (t : Tree) (s : Site) (j : ℕ) (g : Group) → slice_get s.groups j ≡ Some g → is_alive t g.told.inst.loc ≡ false → NoOffer c t s j
-dead_offers_none c t s j g held dead n y fires =
-    let same : y.group ≡ g = group_same c s (pick_of j n) y g fires.covers.picks held in
-    let lives : is_alive t g.told.inst.loc ≡ true = ap (λ (h : Group). is_alive t h.told.inst.loc) (sym same) ∙ fires.live in
-    not_both (is_alive t g.told.inst.loc) lives dead
-
 -- ---- what the code reads is there
-
-pub guard_in : (c : CodeParts) (s : Site) (p : Pick) → IsPick c s p → p.guard < length c.guards
-guard_in c s p (x, picks) = slice_get_within c.guards p.guard x.guard picks.guard
 
 pub group_in : (c : CodeParts) (s : Site) (p : Pick) → IsPick c s p → p.group < length s.groups
 group_in c s p (x, picks) = slice_get_within s.groups p.group x.group picks.group

@@ -128,12 +128,6 @@ firsts-within (c ∷ bs) before b e = by (list_any (is_same c) before) (firsts_a
     by true more ih = ih
     by false more ih = (λ i. (or_parts (is_same b c) (list_any (is_same b) bs) e).0 i || ih i)
 
-consecutive-append : (number : Binder → ℕ) (xs ys : List Binder) (n : ℕ) → Consecutive number n xs → Consecutive number (n + length xs) ys → Consecutive number n (xs ++ ys)
-consecutive-append number [] ys n a b = let e : n + 0 ≡ n = omega arith in subst (λ m. Consecutive number m ys) e b
-consecutive-append number (x ∷ xs) ys n a b =
-    let e : n + length (x ∷ xs) ≡ n + 1 + length xs = omega arith in
-    (a.0, consecutive-append number xs ys (n + 1) a.1 (subst (λ m. Consecutive number m ys) e b))
-
 -- the binders of a tree have the numbers 0, 1, 2 and so on
 pub numbers-site : (t : TreeOfText) → Consecutive (index_of (binders t)) 0 (site_level t)
 numbers-site t = counted (site_names t) (observed t) [] (others t) (λ b e. refl)

@@ -1,16 +1,12 @@
 -- What a walk that copies what stands at a location has come to.
-use Rattle.std.proofs.Common.{◌≡◌, ℕ, zero, suc, ◌+◌, ◌<◌, ◌≤◌, Bool, true, false, cond, List, [], ◌∷◌, ◌++◌, length, get_or, drop, Some, refl, sym, ap, ◌∙◌, arith, append_assoc, append-nil}
+use Rattle.std.proofs.Common.{◌≡◌, ℕ, zero, suc, ◌+◌, ◌<◌, ◌≤◌, Bool, true, false, cond, List, [], ◌∷◌, ◌++◌, drop, Some, refl, sym, ap, ◌∙◌, arith, append_assoc, append-nil}
 use Rattle.std.specs.Prelude.{slice_get}
 use Rattle.chem_model.specs.declared.name.Loc.{Loc}
 use Rattle.chem_model.specs.Solution.{same_loc}
 use Rattle.chem_laws.proofs.Within.{same_loc_is}
-use Rattle.wire_packet.specs.MessageFacts.{MessageParts}
-use Rattle.wire_packet.specs.declared.packet.GroupInst.{GroupInst}
 use Rattle.wire_packet.specs.declared.packet.Waiting.{Waiting}
-use Rattle.wire_packet.specs.declared.packet.Request.{Request}
-use Rattle.net_laws.specs.Site.{Told, Group, told_in}
-use Rattle.net_laws.specs.Parcels.{groups_at, stuck_at, requests_at, insts_in, in_queue, in_queues, in_all_queues}
-use Rattle.site_solution.proofs.Walked.{drop-past}
+use Rattle.net_laws.specs.Site.{Group, told_in}
+use Rattle.net_laws.specs.Parcels.{groups_at, insts_in, in_queues, in_all_queues}
 
 -- one part more was appended
 pub stepped : {X : Type 0} (old new part rest whole done : List X) → new ≡ old ++ part → whole ≡ part ++ rest → old ++ whole ≡ done → new ++ rest ≡ done
@@ -20,20 +16,6 @@ stepped old new part rest whole done more split was =
 -- nothing is left
 pub ended : {X : Type 0} (old rest done : List X) → rest ≡ [] → old ++ rest ≡ done → old ≡ done
 ended old rest done none is = sym (append-nil old) ∙ ap (λ xs. old ++ xs) (sym none) ∙ is
-
-in-front : {X : Type 0} (b : Bool) (x : X) (xs : List X) → cond b (x ∷ xs) xs ≡ cond b (x ∷ []) [] ++ xs
-in-front true x xs = refl
-in-front false x xs = refl
-
-pub stuck-next : (l : Loc) (ws : List Waiting) (i : ℕ) (w : Waiting) → i < length ws → get_or ws i w ≡ w → stuck_at l (drop i ws) ≡ cond (same_loc l w.loc) (w ∷ []) [] ++ stuck_at l (drop (i + 1) ws)
-stuck-next l [] i w within is = absurd (omega arith)
-stuck-next l (v ∷ ws) zero w within is = in-front (same_loc l v.loc) v (stuck_at l ws) ∙ ap (λ (u : Waiting). cond (same_loc l u.loc) (u ∷ []) [] ++ stuck_at l ws) is
-stuck-next l (v ∷ ws) (suc i) w within is = let e : suc i + 1 ≡ suc (i + 1) = omega arith in rw e (stuck-next l ws i w (omega arith) is)
-
-pub requests-next : (l : Loc) (qs : List Request) (i : ℕ) (q : Request) → i < length qs → get_or qs i q ≡ q → requests_at l (drop i qs) ≡ cond (same_loc l q.loc) (q ∷ []) [] ++ requests_at l (drop (i + 1) qs)
-requests-next l [] i q within is = absurd (omega arith)
-requests-next l (r ∷ qs) zero q within is = in-front (same_loc l r.loc) r (requests_at l qs) ∙ ap (λ (u : Request). cond (same_loc l u.loc) (u ∷ []) [] ++ requests_at l qs) is
-requests-next l (r ∷ qs) (suc i) q within is = let e : suc i + 1 ≡ suc (i + 1) = omega arith in rw e (requests-next l qs i q (omega arith) is)
 
 pub insts-next : (l : Loc) (gs : List Group) (i : ℕ) (g : Group) → slice_get gs i ≡ Some g → insts_in (told_in (groups_at l (drop i gs))) ≡ cond (same_loc l g.told.inst.loc) (g.told.inst ∷ []) [] ++ insts_in (told_in (groups_at l (drop (i + 1) gs)))
 insts-next l [] i g is = absurd (cc)
@@ -67,8 +49,3 @@ pub queued-out : (l : Loc) (gs : List Group) (i : ℕ) (g : Group) (old done : L
 queued-out l gs i g old done is other was =
     let rest = in_all_queues (groups_at l (drop (i + 1) gs)) in
     ap (λ xs. old ++ xs) (sym (queued-next l gs i g is ∙ ap (λ b. cond b (in_queues g.told.inst.loc g.queues) [] ++ rest) other)) ∙ was
-
-pub queues-next : (l : Loc) (qs : List (List MessageParts)) (c : ℕ) → c < length qs → in_queues l (drop c qs) ≡ in_queue l (get_or qs c []) ++ in_queues l (drop (c + 1) qs)
-queues-next l [] c within = absurd (omega arith)
-queues-next l (q ∷ qs) zero within = refl
-queues-next l (q ∷ qs) (suc c) within = let e : suc c + 1 ≡ suc (c + 1) = omega arith in rw e (queues-next l qs c (omega arith))

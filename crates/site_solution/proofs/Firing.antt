@@ -1,5 +1,5 @@
 -- The walk along the index: it finds the guard that goes first, or none.
-use Rattle.std.proofs.Common.{◌≡◌, ℕ, zero, suc, ◌+◌, ◌-◌, ◌<◌, ◌≤◌, Bool, true, false, cond, List, [], ◌∷◌, length, get_or, Option, Some, None, refl, sym, ap, subst, ◌∙◌, arith, eq-eqb}
+use Rattle.std.proofs.Common.{◌≡◌, ℕ, zero, suc, ◌+◌, ◌-◌, ◌<◌, ◌≤◌, Bool, true, false, cond, List, [], ◌∷◌, length, Some, refl, sym, ap, subst, ◌∙◌, arith, eq-eqb}
 use Rattle.std.specs.Prelude.{slice_get, nat_lt, ◌==◌, ◌&&◌, ◌||◌}
 use Rattle.std.specs.List.{list_any, AllByRecursion}
 use Rattle.std.specs.List.Sorted.{IsStrictlySortedBy}
@@ -8,7 +8,7 @@ use Rattle.std.specs.declared.cmp.Ordering.TheVariants.{Less, Equal, Greater}
 use Rattle.std.specs.Ordering.{is_eq, ordering_then, ordering_reverse, nat_cmp}
 use Rattle.std.specs.Cmp.{IsTotalOrder, then_total, on_total, nat_cmp_total}
 use Rattle.std.specs.BTreeMap.{is_at}
-use Rattle.std.proofs.lemmas.Option.{slice_get_within, slice_get-get_or}
+use Rattle.std.proofs.lemmas.Option.{slice_get_within}
 use Rattle.std.proofs.lemmas.Bool.Decides.{nat_tests}
 use Rattle.chem_model.specs.declared.event.RuleId.{RuleId}
 use Rattle.env_store.specs.declared.code.Level.{Level}
@@ -16,13 +16,13 @@ use Rattle.env_store.specs.declared.code.Guard.{Guard}
 use Rattle.env_store.specs.CodeParts.{CodeParts}
 use Rattle.loc_tree.specs.Tree.{Tree}
 use Rattle.queue_cells.specs.Grouped.{AllHeld}
-use Rattle.net_laws.specs.Site.{Told, Group}
+use Rattle.net_laws.specs.Site.{Group}
 use Rattle.site_solution.specs.inside.Index.{Rise}
-use Rattle.site_solution.specs.inside.Covered.{Key, Keys, key_cmp, has, Levels, AreMasksOf, Agrees}
+use Rattle.site_solution.specs.inside.Covered.{Key, Keys, key_cmp, has, Levels, Agrees}
 use Rattle.site_solution.specs.inside.Covered.{IsIndexed, AreIndexed}
 use Rattle.site_solution.specs.inside.Fired.{IsGuardOf, IsFiredBy, NothingFiredBy, NothingFired}
 use Rattle.site_solution.specs.inside.Fired.{IsFirstFired, AreGuardsWide}
-use Rattle.site_solution.specs.Guards.{Picked, PicksAt, CoversAt, FiresAt, rule_at, precedes, NothingFires, FiresFirst}
+use Rattle.site_solution.specs.Guards.{Picked, PicksAt, FiresAt, rule_at, precedes, NothingFires, FiresFirst}
 use Rattle.site_solution.proofs.Noting.{key-parts, some-is, same-place}
 
 -- ---- the order of keys
@@ -97,9 +97,6 @@ module _ (c : CodeParts) (t : Tree) (gs : List Group) (ss : List ℕ) where
     pub there :
         (q : Key) (j n : ℕ) → has all q ≡ true → IsFiredBy c t gs ss q j n
         → list_any (is_at (key_cmp q)) left ≡ true
-
-  pub all-left : (all : Keys) → IsStrictlySortedBy key_cmp all.keys → AreLeft all all.keys
-  all-left all sorted = record { sorted = sorted; there = λ q j n e fired. e }
 
   -- a key with the same parts
   same-fired : (q k : Key) (j n : ℕ) → is_at (key_cmp q) k ≡ true → IsFiredBy c t gs ss q j n → IsFiredBy c t gs ss k j n
@@ -254,6 +251,3 @@ module _ (c : CodeParts) (t : Tree) (gs : List Group) (ss : List ℕ) (next : �
       let same : m ≡ n = same-guard m n h.guard is in
       let u-is : by.pick.guard ≡ u = some-is (slice_get c.guards m) by.pick.guard u by.fires.covers.picks.guard (ap (slice_get c.guards) same ∙ guard) in
       none by.pick h.group u-is m (subst (λ k. FiresAt c t gs k m by.pick) h.place by.fires)
-
-pub no-place : (c : CodeParts) (t : Tree) (gs : List Group) (ss : List ℕ) (key : Key) → ((j : ℕ) → slice_get ss j ≡ Some key.2 → ⊥) → NothingFiredBy c t gs ss key
-no-place c t gs ss key none j n by = none j by.serial

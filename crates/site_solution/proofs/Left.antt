@@ -44,23 +44,6 @@ other-home d l site k at other has = grind (arith, nat_tests)
 same-home : (d : Told) (l : Loc) (site k : ℕ) (at : Loc) → same_loc l d.inst.loc ≡ true → has_channel d site k at ≡ true → same_loc l at ≡ true
 same-home d l site k at same has = grind (arith, nat_tests)
 
--- the queues of a group at the location are forgotten, and those of no other
-pub group-forgotten : (d : Told) (l : Loc) (site k : ℕ) (at : Loc) (old new : Option Mark) → same_loc l d.inst.loc ≡ true → new ≡ cond (has_channel d site k at) None old → new ≡ cond (same_loc l at && has_channel d site k at) None old
-group-forgotten d l site k at old new same is = is ∙ by_tests (same_loc l at) (has_channel d site k at) refl (same-home d l site k at same)
-  where
-    by_tests : (a h : Bool) → same_loc l at ≡ a → (h ≡ true → same_loc l at ≡ true) → cond h None old ≡ cond (a && h) None old
-    by_tests true h is at_home = refl
-    by_tests false true is at_home = absurd (let e = at_home refl in cc)
-    by_tests false false is at_home = refl
-
-pub group-kept : (d : Told) (l : Loc) (site k : ℕ) (at : Loc) (old : Option Mark) → same_loc l d.inst.loc ≡ false → old ≡ cond (same_loc l at && has_channel d site k at) None old
-group-kept d l site k at old other = by_tests (same_loc l at) (has_channel d site k at) refl (other-home d l site k at other)
-  where
-    by_tests : (a h : Bool) → same_loc l at ≡ a → (h ≡ true → same_loc l at ≡ false) → old ≡ cond (a && h) None old
-    by_tests true true is not_home = absurd (let e = not_home refl in cc)
-    by_tests true false is not_home = refl
-    by_tests false h is not_home = refl
-
 told_get : (qs : Rows) (g : ℕ) (q : Queued Told MessageParts) → slice_get qs g ≡ Some q → (g < length (told_of qs)) × (get_or (told_of qs) g q.told ≡ q.told)
 told_get [] g q is = absurd (cc)
 told_get (x ∷ qs) zero q is = let same : x ≡ q = cc in (omega arith, ap (λ (y : Queued Told MessageParts). y.told) same)

@@ -219,9 +219,6 @@ group-covering a ss more gs new t h n many place serials groups covering e =
 
 -- ---- groups go
 
-pub away-all : (levels : Levels) (ks : Keys) (ss : List ℕ) (gs : List Group) (l : Loc) → AreIndexed levels ks ss gs → AreIndexedAway levels ks ss gs l
-away-all levels ks ss gs l are j s g away serial at = are j s g serial at
-
 pub away-next : (levels : Levels) (ks new : Keys) (ss : List ℕ) (next : ℕ) (gs : List Group) (l : Loc) (i s : ℕ) (h : Group) → Rise 0 ss next → slice_get ss i ≡ Some s → slice_get gs i ≡ Some h → same_loc l h.told.inst.loc ≡ true → KeepsOthers s ks new → AreIndexedAway levels ks ss gs l → AreIndexedAway levels new ss gs l
 away-next levels ks new ss next gs l i s h rise at here stands keeps are j t g away serial there = with-keys levels ks new s t g differ keeps (are j t g away serial there)
   where

@@ -18,9 +18,6 @@ before-not_same a b p = grind (arith, nat_tests)
 after-not_same : (a b : AtomId) → precedes b a ≡ true → same_atom a b ≡ false
 after-not_same a b p = grind (arith, nat_tests)
 
-same-not_before : (a b : AtomId) → same_atom a b ≡ true → precedes a b ≡ false
-same-not_before a b p = grind (arith, nat_tests)
-
 neither-after : (a b : AtomId) → precedes a b ≡ false → same_atom a b ≡ false → precedes b a ≡ true
 neither-after a b p q = grind (arith, nat_tests)
 

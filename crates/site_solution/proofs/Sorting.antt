@@ -1,5 +1,5 @@
 -- What is posted, sorted from the left.
-use Rattle.std.proofs.Common.{◌≡◌, List, [], ◌∷◌, ◌++◌, true, false, cond, refl, sym, ap, ◌∙◌, subst, append-nil}
+use Rattle.std.proofs.Common.{◌≡◌, List, [], ◌∷◌, ◌++◌, true, false, cond, sym, ap, ◌∙◌, subst, append-nil}
 use Rattle.chem_model.specs.declared.name.Loc.{Loc}
 use Rattle.wire_packet.specs.MessageFacts.{MessageParts}
 use Rattle.wire_packet.specs.declared.packet.Flight.{Flight}
@@ -7,16 +7,13 @@ use Rattle.wire_packet.specs.declared.packet.Waiting.{Waiting}
 use Rattle.wire_packet.specs.declared.packet.Request.{Request}
 use Rattle.loc_tree.specs.Tree.{Tree}
 use Rattle.net_laws.specs.Net.{Addressed, among, address}
-use Rattle.net_laws.specs.Posting.{Posted, a_message, a_request}
+use Rattle.net_laws.specs.Posting.{Posted, a_message}
 use Rattle.site_solution.specs.Answers.{IsFlightOf, AreFlights}
 use Rattle.site_solution.specs.inside.Split.{waits_in, asked_in, away_from}
 use Rattle.site_solution.specs.inside.Leave.{Sorting}
 use Rattle.site_solution.proofs.LaidAll.{append-one}
 
 module _ (t : Tree) (ls : List Loc) (whole : List Posted) where
-  pub sort-begin : Sorting t ls whole whole [] [] []
-  sort-begin = record { waiting_are = refl; requests_are = refl; flights_are = λ gs h. h }
-
   pub sort-waits : (w : Waiting) (left : List Posted) (ws : List Waiting) (qs : List Request) (fs : List Flight) → among ls w.loc ≡ true → Sorting t ls (a_message w.loc w.msg ∷ left) whole ws qs fs → Sorting t ls left whole (ws ++ w ∷ []) qs fs
   sort-waits w left ws qs fs here s = record {
     waiting_are = append-one ws w (waits_in ls left) ∙ sym (ap (λ b. ws ++ cond b (record { loc = w.loc; msg = w.msg } ∷ waits_in ls left) (waits_in ls left)) here) ∙ s.waiting_are;
@@ -29,13 +26,6 @@ module _ (t : Tree) (ls : List Loc) (whole : List Posted) where
     waiting_are = sym (ap (λ b. ws ++ cond b (record { loc = l; msg = m } ∷ waits_in ls left) (waits_in ls left)) away) ∙ s.waiting_are;
     requests_are = s.requests_are;
     flights_are = λ gs h. subst (λ (ys : List Flight). AreFlights (away_from t ls whole) ys) (sym (append-one fs f gs)) (s.flights_are (f ∷ gs) (subst (λ (ps : List Addressed). AreFlights ps (f ∷ gs)) (sym (ap (λ b. cond b (away_from t ls left) (record { target = address t l; msg = m } ∷ away_from t ls left)) away)) (is, h)));
-  }
-
-  pub sort-asks : (q : Request) (left : List Posted) (ws : List Waiting) (qs : List Request) (fs : List Flight) → Sorting t ls (a_request q ∷ left) whole ws qs fs → Sorting t ls left whole ws (qs ++ q ∷ []) fs
-  sort-asks q left ws qs fs s = record {
-    waiting_are = s.waiting_are;
-    requests_are = append-one qs q (asked_in left) ∙ s.requests_are;
-    flights_are = s.flights_are;
   }
 
   pub sort-end : (left : List Posted) (ws : List Waiting) (qs : List Request) (fs : List Flight) → left ≡ [] → Sorting t ls left whole ws qs fs → (ws ≡ waits_in ls whole) × (qs ≡ asked_in whole) × AreFlights (away_from t ls whole) fs

@@ -1,6 +1,6 @@
 -- What a walk over groups has come to.
-use Rattle.std.proofs.Common.{◌≡◌, ℕ, zero, suc, ◌+◌, ◌<◌, ◌≤◌, Bool, List, [], ◌∷◌, length, drop, get_or, Some, refl, sym, ap, ◌∙◌, arith}
-use Rattle.std.specs.Prelude.{slice_get, ◌&&◌, ◌||◌, ◌==◌, zip}
+use Rattle.std.proofs.Common.{◌≡◌, ℕ, zero, suc, ◌+◌, ◌<◌, ◌≤◌, Bool, List, [], ◌∷◌, length, drop, Some, refl, sym, ap, ◌∙◌, arith}
+use Rattle.std.specs.Prelude.{slice_get, ◌&&◌, ◌||◌, ◌==◌}
 use Rattle.std.specs.List.{list_any, list_all}
 use Rattle.chem_model.specs.declared.name.Name.{Name}
 use Rattle.wire_packet.specs.MessageFacts.{MessageParts}
@@ -9,7 +9,6 @@ use Rattle.loc_tree.specs.Tree.{Tree}
 use Rattle.net_laws.specs.Site.{Told, Group}
 use Rattle.site_solution.specs.inside.Index.{Rows, groups_of}
 use Rattle.site_solution.specs.inside.InTree.{names_stand, queues_stand, group_stands}
-use Rattle.site_solution.specs.InCode.{same_pairs}
 use Rattle.site_solution.specs.Draws.{told_drawn, queues_drawn, group_drawn}
 use Rattle.site_solution.proofs.Queueing.{group-at}
 
@@ -45,9 +44,3 @@ group-read t qs j q env a b r g is at env_is names queues both =
 pub group-drawn : (number made : ℕ) (qs : Rows) (j : ℕ) (q : Queued Told MessageParts) (a b r : Bool) (g : Group) → slice_get qs j ≡ Some q → slice_get (groups_of qs) j ≡ Some g → a ≡ told_drawn number made q.told → b ≡ queues_drawn number made q.lists → r ≡ a && b → r ≡ group_drawn number made g
 group-drawn number made qs j q a b r g is at told queues both =
     both ∙ ap (λ x. x && b) told ∙ ap (λ x. told_drawn number made q.told && x) queues ∙ ap (group_drawn number made) (group-is qs j q g is at)
-
-pub pairs-more : (xs ys : List ℕ) (i d e : ℕ) → i < length xs → i < length ys → same_pairs (zip (drop i xs) (drop i ys)) ≡ (get_or xs i d == get_or ys i e) && same_pairs (zip (drop (i + 1) xs) (drop (i + 1) ys))
-pairs-more [] ys i d e less also = absurd (omega arith)
-pairs-more (x ∷ xs) [] i d e less also = absurd (omega arith)
-pairs-more (x ∷ xs) (y ∷ ys) zero d e less also = refl
-pairs-more (x ∷ xs) (y ∷ ys) (suc i) d e less also = let n : suc i + 1 ≡ suc (i + 1) = omega arith in rw n (pairs-more xs ys i d e (omega arith) (omega arith))

@@ -5,7 +5,7 @@ use Rattle.chem_model.specs.declared.numbered.NumberedAtom.{NumberedAtom}
 use Rattle.chem_model.specs.Bag.{one, bag}
 use Rattle.chem_model.specs.NewNames.{Pair, coded_pair}
 use Rattle.chem_model.specs.Numbered.{atom_pairs}
-use Rattle.chem_model.specs.Each.{Each, IsIn}
+use Rattle.chem_model.specs.Each.{IsIn}
 use Rattle.chem_model.specs.Apply.{same_atom, atom_at, without}
 use Rattle.chem_laws.proofs.Taking.{same_atom_is, same_atom_refl, atom_pair_found}
 use Rattle.trace_history.specs.inside.Table.{Adds}
@@ -137,14 +137,6 @@ fewer i old d j e = atom_at-without i j old d ∙ go (same_atom i j)
     go true = refl
     go false = e
 
--- ---- nothing changes, and one change behind the other
-
-pub keeps_same : (old xs : List NumberedAtom) → AtomsDiffer (old ++ xs) → Keeps old xs old xs
-keeps_same old xs d = record { alike = λ i. refl; differ = d }
-
-pub keeps_along : (a xs b ys c zs : List NumberedAtom) → Keeps a xs b ys → Keeps b ys c zs → Keeps a xs c zs
-keeps_along a xs b ys c zs f g = record { alike = λ i. f.alike i ∙ g.alike i; differ = g.differ }
-
 -- ---- keys
 
 pub queued_added : (old now : List NumberedAtom) (ks new : List Key) (a : NumberedAtom) (c : ℕ) → AtomsDiffer now → Adds a old now → channel_of a.term ≡ Some c → KeepsKeys ks new → IsIn (c, (a.id.site, a.id.k)) new → AreQueued old ks → AreQueued now new
@@ -171,17 +163,3 @@ queued_taken old ks new i c d drops h b at = go (same_atom i b.id) refl (sym (at
         still n (inl same) =
             let pair : same_atom i b.id ≡ true = ap (λ (k : Key). same_atom i (record { site = k.1.0; k = k.1.1 })) same ∙ same_atom_refl i in
             let wrong : false ≡ true = sym e ∙ pair in cc
-
--- ---- one after another
-
-each_next : {X : Type 0} (P Q : X → Type 0) → ((x : X) → P x → Q x) → (xs : List X) (i : ℕ) (x : X) → i < length xs → x ≡ get_or xs i x → Q x → Each P (take i xs) → Each Q (take (suc i) xs)
-each_next P Q f [] i x h e q so_far = absurd (omega arith)
-each_next P Q f (y ∷ xs) zero x h e q so_far = (subst Q e q, tt)
-each_next P Q f (y ∷ xs) (suc i) x h e q so_far = (f y so_far.0, each_next P Q f xs i x (omega arith) e q so_far.1)
-
-pub gone_next : (old now : List NumberedAtom) (took : List AtomId) (i : ℕ) (id : AtomId) → i < length took → id ≡ get_or took i id → ((j : AtomId) → atom_at old j ≡ None → atom_at now j ≡ None) → atom_at now id ≡ None
-    → Each (λ (j : AtomId). atom_at old j ≡ None) (take i took) → Each (λ (j : AtomId). atom_at now j ≡ None) (take (i + 1) took)
-gone_next old now took i id h e less none so_far =
-    let next : suc i ≡ i + 1 = omega arith in
-    subst (λ (k : ℕ). Each (λ (j : AtomId). atom_at now j ≡ None) (take k took)) next
-    (each_next (λ (j : AtomId). atom_at old j ≡ None) (λ (j : AtomId). atom_at now j ≡ None) less took i id h e none so_far)

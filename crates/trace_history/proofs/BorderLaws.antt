@@ -20,9 +20,6 @@ use Rattle.trace_history.specs.inside.Alike.{AreAlike}
 use Rattle.trace_history.proofs.Alike.{AreAlikeIf}
 use Rattle.trace_history.proofs.ApplyAlike.{apply_alike}
 
-pub alike-trans : (xs ys zs : List NumberedAtom) → AreAlike xs ys → AreAlike ys zs → AreAlike xs zs
-alike-trans xs ys zs h k i = h i ∙ k i
-
 both_some : (o q : Option Numbered) → AreAlikeIf o q → is_some o ≡ is_some q
 both_some None None h = refl
 both_some None (Some m) h = absurd h

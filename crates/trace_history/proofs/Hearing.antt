@@ -1,10 +1,8 @@
 -- A rule of which some channel has no message isn't ready.
-use Rattle.std.proofs.Common.{◌≡◌, ℕ, zero, suc, ◌+◌, ◌*◌, ◌%◌, ◌++◌, ◌<◌, length, take, get_or, set, List, [], ◌∷◌, Option, Some, None, Bool, true, false, cond, refl, ap, sym, ◌∙◌, subst, arith, ◌&&◌, ◌==◌, inl, inr, is_some}
+use Rattle.std.proofs.Common.{◌≡◌, ℕ, zero, suc, ◌+◌, ◌*◌, ◌%◌, ◌++◌, ◌<◌, length, take, get_or, List, [], ◌∷◌, Option, Some, None, Bool, true, false, cond, refl, ap, sym, ◌∙◌, subst, arith, ◌&&◌, ◌==◌, inl, inr, is_some}
 use Rattle.std.proofs.lemmas.Bool.{and_parts}
-use Rattle.std.proofs.lemmas.List.{get_or-set_same}
 use Rattle.std.specs.List.{list_all}
 use Rattle.chem_model.specs.declared.name.Loc.{Loc}
-use Rattle.chem_model.specs.declared.name.Ref.{Ref}
 use Rattle.chem_model.specs.declared.name.Pat.{Pat}
 use Rattle.chem_model.specs.declared.numbered.NumberedRule.{NumberedRule}
 use Rattle.chem_model.specs.declared.numbered.NumberedAtom.{NumberedAtom}
@@ -21,23 +19,8 @@ use Rattle.trace_history.specs.inside.Search.{receives, is_met, is_ready}
 use Rattle.chem_model.specs.declared.name.Name.TheVariants as name
 use Rattle.chem_model.specs.declared.name.Ref.TheVariants.{Binder, Known}
 use Rattle.trace_history.specs.inside.Older.{Key, channel_of, AreQueued, AreHeard}
-use Rattle.trace_history.specs.inside.Heard.{slot_of, is_heard, Grows, is_told, are_told}
+use Rattle.trace_history.specs.inside.Heard.{is_heard, Grows, is_told, are_told}
 use Rattle.trace_history.specs.inside.Heard.{may_be_met}
-
--- ---- one channel more is noted
-
-set_true : (l : List Bool) (i k : ℕ) → get_or l k true ≡ true → get_or (set l i true) k true ≡ true
-set_true [] i k h = h
-set_true (b ∷ l) zero zero h = refl
-set_true (b ∷ l) zero (suc k) h = h
-set_true (b ∷ l) (suc i) zero h = h
-set_true (b ∷ l) (suc i) (suc k) h = set_true l i k h
-
-pub heard_here : (size : ℕ) (old new : List Bool) (x : Ref) (s : ℕ) → s ≡ slot_of size x → s < length old → new ≡ set old s true → is_heard size new x ≡ true
-heard_here size old new x s e h is = ap (λ (l : List Bool). get_or l (slot_of size x) true) is ∙ ap (λ (k : ℕ). get_or (set old s true) k true) (sym e) ∙ get_or-set_same old s true true h
-
-pub heard_kept : (size : ℕ) (old new : List Bool) (s : ℕ) → new ≡ set old s true → (x : Ref) → is_heard size old x ≡ true → is_heard size new x ≡ true
-heard_kept size old new s is x h = ap (λ (l : List Bool). get_or l (slot_of size x) true) is ∙ set_true old s (slot_of size x) h
 
 -- ---- one message more is told
 

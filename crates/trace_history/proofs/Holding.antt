@@ -49,15 +49,6 @@ differ_of n sound p = omega (arith, sound.different p)
 
 -- ---- at the beginning, and where messages only moved
 
-pub holds_first : (o : Option Numbered) (n : Numbered) (old : List NumberedAtom) → old ≡ [] → o ≡ Some n → IsSound n → Holds o old n
-holds_first o n old none leads sound = subst (λ (l : List NumberedAtom). Holds o l n) (sym none) (record {
-  left = n;
-  replays = leads;
-  rest = refl;
-  alike = λ i. refl;
-  differ = differ_of n sound;
-})
-
 pub holds_on : (o : Option Numbered) (old now ys : List NumberedAtom) (n : Numbered) → Holds o old n → Keeps old n.atoms now ys → Holds o now (record n { atoms = ys })
 holds_on o old now ys n h k = record {
   left = h.left;

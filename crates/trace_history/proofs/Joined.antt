@@ -81,9 +81,6 @@ or_true : (t : Bool) → true ≡ t || true
 or_true true = refl
 or_true false = refl
 
-pub met_newest : (old xs : List NumberedAtom) (l : Loc) (p : Pat) → is_met xs l p ≡ true → true ≡ is_met (old ++ xs) l p
-met_newest old xs l p h = or_true (is_met old l p) ∙ sym (met_both old xs l p ∙ ap (λ t. is_met old l p || t) h)
-
 met_by : (old : List NumberedAtom) (l : Loc) (p : Pat) (a : NumberedAtom) → IsIn a old → receives l p a ≡ true → is_met old l p ≡ true
 met_by [] l p a at h = absurd at
 met_by (b ∷ old) l p a (inl e) h = ap (λ t. t || is_met old l p) (ap (receives l p) (sym e) ∙ h)

@@ -1,6 +1,5 @@
 -- Where the rules that wait for a message that is there were looked at, and those that were not noted, the best one is the first of all.
 use Rattle.std.proofs.Common.{◌≡◌, ℕ, zero, suc, ◌+◌, ◌*◌, ◌%◌, ◌++◌, ◌<◌, ◌≤◌, length, get_or, take, List, [], ◌∷◌, Option, Some, None, Bool, true, false, refl, ap, sym, ◌∙◌, subst, arith, ◌&&◌, ◌==◌, ◌⊎◌, inl, inr, is_some, eqb, ◌≢◌}
-use Rattle.std.specs.Prelude.{IfSome}
 use Rattle.std.specs.List.{list_all}
 use Rattle.std.proofs.lemmas.Bool.{and_parts}
 use Rattle.std.proofs.lemmas.Bool.Decides.{eqb_tells}
@@ -31,7 +30,7 @@ use Rattle.chem_model.specs.declared.name.Ref.TheVariants.{Binder, Known}
 use Rattle.trace_history.proofs.FirstOf.{IsOrder}
 use Rattle.trace_history.proofs.Founds.{rules_order}
 use Rattle.trace_history.proofs.Hearing.{some_here, when_some}
-use Rattle.trace_history.proofs.Filed.{at_in, in_at, slot_within}
+use Rattle.trace_history.proofs.Filed.{at_in, in_at}
 
 -- ---- numbers and lists
 
@@ -58,9 +57,6 @@ each_more P [] i x h e p so_far = absurd (omega arith)
 each_more P (y ∷ xs) zero x h e p so_far = (subst P e p, tt)
 each_more P (y ∷ xs) (suc i) x h e p so_far = (so_far.0, each_more P xs i x (omega arith) e p so_far.1)
 
-same_at : {X : Type 0} (xs : List X) (j : ℕ) (x y : X) → IsAt xs j x → IsAt xs j y → x ≡ y
-same_at xs j x y one other = one.1 ∙ get_or_default xs j x y one.0 ∙ sym other.1
-
 module _ (n : Numbered) (from : ℕ) where
   order : IsOrder (rule_before n from)
   order = rules_order n from
@@ -71,9 +67,6 @@ module _ (n : Numbered) (from : ℕ) where
       go : (t : Bool) → rule_before n from r r ≡ t → t ≡ false
       go false e = refl
       go true e = let f = order.asym r r e in sym e ∙ f
-
-  pub betters_itself : (o : Option NumberedRule) → Betters n from o o
-  betters_itself o = record { one = λ h. h; kept = λ r ready h. h }
 
   pub betters_along : (a b c : Option NumberedRule) → Betters n from a b → Betters n from b c → Betters n from a c
   betters_along a b c f g = record { one = λ h. g.one (f.one h); kept = λ r ready h. g.kept r ready (f.kept r ready h) }
@@ -91,27 +84,6 @@ module _ (n : Numbered) (from : ℕ) where
       go : (o : Option NumberedRule) → beats (rule_before n from) r o ≡ true → (x : NumberedRule) → Beaten (rule_before n from) x o → rule_before n from x r ≡ false
       go None b x h = absurd h
       go (Some y) b x h = order.along x y r h (order.asym r y b)
-
-  pub taken_looked : (j : ℕ) (r : NumberedRule) → IsAt n.rules j r → IsLookedAt n from j (Some r)
-  taken_looked j r at q there ready = ap (λ (x : NumberedRule). rule_before n from x r) (same_at n.rules j q r there at) ∙ not_itself r
-
-  pub left_looked : (found : Option NumberedRule) (j : ℕ) (r : NumberedRule) → IsAt n.rules j r → beats (rule_before n from) r found && is_ready n r ≡ false → IsLookedAt n from j found
-  left_looked found j r at e q there ready =
-      let same : q ≡ r = same_at n.rules j q r there at in
-      subst (λ (x : NumberedRule). Beaten (rule_before n from) x found) (sym same) (go found (is_ready n r) (ap (is_ready n) (sym same) ∙ ready) e)
-    where
-      go : (o : Option NumberedRule) (t : Bool) → t ≡ true → beats (rule_before n from) r o && t ≡ false → Beaten (rule_before n from) r o
-      go None true is h = cc
-      go None false is h = cc
-      go (Some y) false is h = cc
-      go (Some y) true is h = alone (rule_before n from r y) h
-        where
-          alone : (b : Bool) → b && true ≡ false → b ≡ false
-          alone true c = c
-          alone false c = refl
-
-  pub none_looked : (found : Option NumberedRule) (j : ℕ) → length n.rules ≤ j → IsLookedAt n from j found
-  none_looked found j h q there ready = absurd (omega (arith, h, there.0))
 
   pub looked_kept : (j : ℕ) (old new : Option NumberedRule) → Betters n from old new → IsLookedAt n from j old → IsLookedAt n from j new
   looked_kept j old new b h q there ready = b.kept q ready (h q there ready)
@@ -166,9 +138,6 @@ module _ (n : Numbered) (from : ℕ) where
       go (inl e) = subst (λ (k : ℕ). IsLookedAt n from k new) (sym e.1) here
       go (inr e) = let other : j ≢ place = e.1 in looked_kept j old new b (h j low (omega (arith, small, other)))
 
-  pub rest_all : (noted place : ℕ) (best : Option NumberedRule) → length n.rules ≤ place → IsRest noted place best → IsRest noted (length n.rules) best
-  rest_all noted place best h r j low small = r j low (omega (arith, h, small))
-
   -- ---- the messages
 
   module _ (heads links : List ℕ) where
@@ -186,9 +155,6 @@ module _ (n : Numbered) (from : ℕ) where
       pub slot : IsSlotLookedAt n from heads links last best
       pub messages : Each (IsAtomLookedAt best) (take i atoms)
 
-    pub first_so_far : (atoms : List NumberedAtom) (best : Option NumberedRule) → Betters n from None best → IsRest (length links) (length n.rules) best → SoFar atoms 0 None best
-    first_so_far atoms best b rest = record { one = b.one tt; rest = rest; slot = tt; messages = tt }
-
     pub next_so_far : (atoms : List NumberedAtom) (i : ℕ) (last : Option ℕ) (old new : Option NumberedRule) (a : NumberedAtom) (s : Option ℕ) → i < length atoms → a ≡ get_or atoms i a → s ≡ slot_of_term (length heads) a.term
         → Betters n from old new → IsSlotLookedAt n from heads links s new → SoFar atoms i last old → SoFar atoms (i + 1) s new
     next_so_far atoms i last old new a s h e is b here f = record {
@@ -201,9 +167,6 @@ module _ (n : Numbered) (from : ℕ) where
           let before : Each (IsAtomLookedAt new) (take i atoms) = each_map (IsAtomLookedAt old) (IsAtomLookedAt new) (λ x. slot_kept (slot_of_term (length heads) x.term) old new b) (take i atoms) f.messages in
           subst (λ (k : ℕ). Each (IsAtomLookedAt new) (take k atoms)) next (each_more (IsAtomLookedAt new) atoms i a h e this before);
     }
-
-    pub same_slot : (s last : Option ℕ) (best : Option NumberedRule) → s ≡ last → IsSlotLookedAt n from heads links last best → IsSlotLookedAt n from heads links s best
-    same_slot s last best e h = subst (λ o. IsSlotLookedAt n from heads links o best) (sym e) h
 
     -- ---- what a pattern receives is on its channel
 
@@ -288,14 +251,3 @@ module _ (n : Numbered) (from : ℕ) where
 
         newer : Each (IsAtomLookedAt best) xs
         newer = each_map (IsAtomLookedAt some) (IsAtomLookedAt best) (λ a. slot_kept (slot_of_term (length heads) a.term) some best b) xs f.messages
-
-pub term_within : (size : ℕ) (p : Process) (s : Option ℕ) → 0 < size → s ≡ slot_of_term size p → IfSome s (λ k. k < size)
-term_within size p s h is = subst (λ o. IfSome o (λ k. k < size)) (sym is) (go p)
-  where
-    go : (q : Process) → IfSome (slot_of_term size q) (λ k. k < size)
-    go (Msg x vs) = slot_within size x h
-    go (Par ps) = tt
-    go (Def ds r) = tt
-    go (Go b k) = tt
-    go (Fail a k) = tt
-    go Halt = tt
