@@ -1,5 +1,5 @@
 -- Locations as pairs of a set.
-use Rattle.std.proofs.Common.{◌≡◌, ℕ, List, [], ◌∷◌, ◌++◌, Bool, false, Result, Ok, Err, refl, ap, ◌∙◌, if◌then◌else◌}
+use Rattle.std.proofs.Common.{◌≡◌, ℕ, suc, List, [], ◌∷◌, ◌++◌, length, Bool, false, Result, Ok, Err, refl, ap, ◌∙◌, if◌then◌else◌}
 use Rattle.std.specs.Prelude.{IsOk, IfOk, ◌||◌}
 use Rattle.std.specs.List.{list_any}
 use Rattle.loc_tree.proofs.Spots.{same_loc_sym}
@@ -19,6 +19,10 @@ pairs-among (p ∷ ps) l = ap (λ (b : Bool). b || list_any (same_pair_as (l.sit
 pub locs-more : (ps : List (ℕ × ℕ)) (p : ℕ × ℕ) → locs_of (ps ++ p ∷ []) ≡ locs_of ps ++ record { site = p.0; k = p.1 } ∷ []
 locs-more [] p = refl
 locs-more (q ∷ ps) p = ap (λ (ls : List Loc). record { site = q.0; k = q.1 } ∷ ls) (locs-more ps p)
+
+pub length-locs_of : (ps : List (ℕ × ℕ)) → length (locs_of ps) ≡ length ps
+length-locs_of [] = refl
+length-locs_of (p ∷ ps) = ap suc (length-locs_of ps)
 
 pub if-ok : {A E : Type 0} (r : Result A E) (P : A → Type 0) (Q : Type 0) → IsOk r → IfOk r P → ((a : A) → P a → Q) → Q
 if-ok (Ok a) P Q ok p f = f a p

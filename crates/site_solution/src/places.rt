@@ -1,5 +1,5 @@
 // The locations that a site hosts.
-ghost use Rattle.std.specs.Prelude.{◌≡◌, ◌≤◌, ◌+◌, ◌∷◌, ◌++◌, [], false, length, OnOk, OnErr};
+ghost use Rattle.std.specs.Prelude.{◌≡◌, ◌<◌, ◌≤◌, ◌+◌, ◌^◌, ◌∷◌, ◌++◌, [], false, length, OnOk, OnErr};
 ghost use Rattle.net_laws.specs.Net.{among};
 ghost use Rattle.net_laws.specs.Parcels.{locs_but};
 ghost use Rattle.site_solution.specs.inside.Hosted.{locs_of};
@@ -10,19 +10,25 @@ use indexmap::IndexSet;
 use std::alloc::Global;
 use std::marker::Model;
 
-// Locations in the order in which they came, all different.
+// Locations in the order in which they came, all different, and fewer than 2^32.
 #[derive(Drop)]
 pub(crate) struct Places {
     pairs: IndexSet<(u32, u64)>,
 }
 
 impl Model for Places {
+    ghost use Rattle.std.specs.Prelude.{◌<◌, ◌-◌, ◌^◌, min, length};
     ghost use Rattle.indexmap.specs.IndexSet.{spare};
     ghost use Rattle.site_solution.specs.inside.Hosted.{Hosted, locs_of};
 
     ghost Value = { Hosted };
 
-    ghost view = { λ p. record { locs = locs_of p.pairs.keys; spare = spare p.pairs } };
+    ghost view = { λ p. record {
+      locs = locs_of p.pairs.keys;
+      spare = min (spare p.pairs) (2 ^ 32 - 1 - length p.pairs.keys);
+    } };
+
+    ghost invariant = { λ p. length p.pairs.keys < 2 ^ 32 };
 }
 
 impl Places {
@@ -41,6 +47,13 @@ impl Places {
         self.pairs.contains(&(loc.site, loc.k))
     }
 
+    // There are few of them. It does nothing.
+    pub(crate) fn are_few(&self)
+        ensures { length self.now.locs < 2 ^ 32 }
+    {
+        let _pairs = &self.pairs;
+    }
+
     // The pairs of all of them.
     pub(crate) fn as_slice(&self) -> &[(u32, u64)]
         ensures { locs_of result.now ≡ self.now.locs }
@@ -52,6 +65,9 @@ impl Places {
         ensures room { OnOk result (more ≤ self.new.spare) }
         ensures same { self.new.locs ≡ self.old.locs }
     {
+        if more > u32::MAX as usize - self.pairs.len() {
+            return Err(Memory);
+        }
         self.pairs.reserve(more)?;
         Ok(())
     }

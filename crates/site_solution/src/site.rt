@@ -554,15 +554,18 @@ fn drop_stuck(stuck: &mut Vec<Waiting>, loc: Loc)
 /// All that a site holds stands at locations that it hosts, a queue holds messages on its channel
 /// with its count, no group could take a stuck message, no two groups share a channel, channels and
 /// rules have numbers of 64 bits, the ids of waiting messages and requests are all different, those
-/// of requests rise, and there are fewer than 2^32 messages and as few requests. It does nothing.
+/// of requests rise, and there are fewer than 2^32 messages, as few locations and as few requests. It
+/// does nothing.
 pub fn site_is_kept(site: &Site)
     ensures kept { IsKept site.now }
     ensures numbers { Each HasNumbers (told_in site.now.groups) }
     ensures once { (i : AtomId) → times i site.now ≤ 1 }
     ensures few_waiting { waiting_in site.now < 2 ^ 32 }
+    ensures few_locs { length site.now.locs < 2 ^ 32 }
     ensures asked { AreAsked site.now.requests }
 {
     let _number = site.number;
+    site.locs.are_few();
     let _requests = site.requests.as_slice();
 }
 

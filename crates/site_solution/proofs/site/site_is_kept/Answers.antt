@@ -1,4 +1,4 @@
-use Rattle.std.proofs.Common.{◌≤◌, ◌<◌, ◌^◌, subst}
+use Rattle.std.proofs.Common.{◌≤◌, ◌<◌, ◌^◌, length, subst}
 use Rattle.chem_model.specs.declared.event.AtomId.{AtomId}
 use Rattle.site_solution.specs.Counted.{times, waiting_in}
 use Rattle.chem_model.specs.Each.{Each}
@@ -18,3 +18,6 @@ returns-clause-once c = subst (λ (s : Site). (i : AtomId) → times i s ≤ 1) 
 
 pub returns-clause-few_waiting : goal.returns-clause-few_waiting
 returns-clause-few_waiting c = subst (λ (s : Site). waiting_in s < 2 ^ 32) c.site.view_is c.site.invariant.few_waiting
+
+pub returns-clause-few_locs : goal.returns-clause-few_locs
+returns-clause-few_locs c = subst (λ (s : Site). length s.locs < 2 ^ 32) c.site.view_is c.are_few.ensures
