@@ -13,6 +13,7 @@ ghost use Rattle.router.specs.Delivering.{is_channel, can_deliver, IsDelivery, I
 use chem_model::{Loc, Memory, Name};
 use loc_tree::LocTree;
 use site_solution::{Site, message_is_there, site_is_kept};
+use std::alloc::Global;
 use wire_packet::Msg;
 
 /// What became of a message that came to a site.
@@ -22,6 +23,18 @@ pub enum Delivery {
     Delivered,
     /// It goes on to the site with this number.
     Forward(u32, Msg),
+}
+
+impl Delivery {
+    /// A value that is equal to this one.
+    pub fn copy(&self, alloc: Global) -> Result<Delivery, Memory>
+        ensures { IfOk result (λ copy. copy ≡ self.now) }
+    {
+        match self {
+            Delivery::Delivered => Ok(Delivery::Delivered),
+            Delivery::Forward(site, msg) => Ok(Delivery::Forward(*site, msg.copy(alloc)?)),
+        }
+    }
 }
 
 /// The number of the site that hosts the home of a channel.

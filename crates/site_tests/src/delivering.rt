@@ -4,8 +4,11 @@
 use crate::net::Pair;
 use crate::shown::{Fact, Look};
 use crate::steps::{Place, Step, run_by_hand};
-use chem_model::{Loc, Name};
+use chem_model::{AtomId, Items, Loc, Memory, Name};
+use router::Delivery;
+use std::alloc::Global;
 use std::test::Fail;
+use wire_packet::Msg;
 
 const ROOT: Pair = (0, 0);
 
@@ -38,4 +41,29 @@ fn delivers() -> &'static [Step] {
 #[test]
 fn a_message_goes_where_its_home_is(rt: HostRuntime) -> Result<(), Fail> {
     run_by_hand(&rt, rt.alloc(), two_sites(), delivers())
+}
+
+/// Where a copy of a delivery goes, and with which message.
+fn goes_to(alloc: Global, delivery: &Delivery) -> Result<Option<(u32, AtomId)>, Memory> {
+    match delivery.copy(alloc)? {
+        Delivery::Delivered => Ok(None),
+        Delivery::Forward(target, msg) => Ok(Some((target, msg.id))),
+    }
+}
+
+/// The message goes on to the site 3.
+fn goes_on(alloc: Global, id: AtomId) -> Result<Option<(u32, AtomId)>, Memory> {
+    let msg = Msg {
+        id,
+        on: Name::Seen(0),
+        args: Items::new(alloc),
+    };
+    goes_to(alloc, &Delivery::Forward(3, msg))
+}
+
+#[test]
+fn a_delivery_and_its_copy(rt: HostRuntime) {
+    let id = AtomId { site: 7, k: 7 };
+    assert_eq!(rt; goes_to(rt.alloc(), &Delivery::Delivered), Ok(None));
+    assert_eq!(rt; goes_on(rt.alloc(), id), Ok(Some((3, id))));
 }
