@@ -280,20 +280,11 @@ module _ (c : CodeParts) (t : Tree) (i : ℕ) (fs : List Flight) (s : Site) wher
   take_whole (x ∷ xs) zero h = absurd (omega arith)
   take_whole (x ∷ xs) (suc n) h = ap (λ ys. x ∷ ys) (take_whole xs n (omega arith))
 
-  drop_whole : {X : Type 0} (xs : List X) (n : ℕ) → length xs ≤ n → drop n xs ≡ []
-  drop_whole [] zero h = refl
-  drop_whole [] (suc n) h = refl
-  drop_whole (x ∷ xs) zero h = absurd (omega arith)
-  drop_whole (x ∷ xs) (suc n) h = drop_whole xs n (omega arith)
-
   pub all_came : (n : ℕ) (now : Site) (on : List Flight) → IsComing c t i fs n s now on → length fs ≤ n → HasArrived t i fs s on now
   all_came n now on h e = record {
     works = subst (λ (gs : List Flight). WorksOff (bare t) s (mail_to i (all_carried gs)) (all_carried on) now) (take_whole fs n e) h.works;
     spelled = h.spelled;
   }
-
-  pub all_stays : (n : ℕ) (now : Site) (on : List Flight) → IsComing c t i fs n s now on → length fs ≤ n → (events : ℕ) → IsAlone c t i events s (mail_to i (all_carried fs)) → IsAlone c t i events now []
-  all_stays n now on h e events a = subst (λ (gs : List Flight). IsAlone c t i events now (mail_to i (all_carried gs))) (drop_whole fs n e) (h.stays events a)
 
 -- ---- a reaction
 
@@ -421,22 +412,6 @@ pub record IsReacting (c : CodeParts) (t : Tree) (i quota n : ℕ) (s now : Site
   pub stays : (events : ℕ) → events + quota < 2 ^ 32 → IsAlone c t i events s [] → IsAlone c t i (events + n) now []
 
 module _ (c : CodeParts) (t : Tree) (i quota : ℕ) (s : Site) where
-  pub none_reacted : (m : Made) → m.sends ≡ [] → m.outs ≡ [] → m.events ≡ [] → IsReacting c t i quota 0 s s m
-  none_reacted m sends outs events = record {
-    works = λ es os ps new w.
-        let start : WorksAlone c (bare t) i quota s es os ps new = subst (λ (k : ℕ). WorksAlone c (bare t) i k s es os ps new) (omega arith) w in
-        works_as (m.events ++ es) es (m.outs ++ os) os (all_carried m.sends ++ ps) ps new (ap (λ xs. xs ++ es) events) (ap (λ xs. xs ++ os) outs) (ap (λ xs. all_carried xs ++ ps) sends) start;
-    spelled = subst (Each IsMessageFlight) (sym sends) tt;
-    count = ap length events;
-    stays = λ k few h. subst (λ (n : ℕ). IsAlone c t i n s []) (omega arith) h;
-  }
-    where
-      works_as : (es ds : List Event) (os us : List Out) (ps qs : List Addressed) (new : Site) → es ≡ ds → os ≡ us → ps ≡ qs → WorksAlone c (bare t) i quota s ds us qs new → WorksAlone c (bare t) i quota s es os ps new
-      works_as es ds os us ps qs new a b d w =
-          subst (λ (xs : List Event). WorksAlone c (bare t) i quota s xs os ps new) (sym a)
-          (subst (λ (xs : List Out). WorksAlone c (bare t) i quota s ds xs ps new) (sym b)
-          (subst (λ (xs : List Addressed). WorksAlone c (bare t) i quota s ds us xs new) (sym d) w))
-
   module _ (n : ℕ) (now : Site) (m : Made) (h : IsReacting c t i quota n s now m) where
     pub reacting_fits : (events : ℕ) → events + quota < 2 ^ 32 → IsAlone c t i events s [] → IsReadyForCalls c t now
     reacting_fits events few a = alone_fits c t i (events + n) now [] (h.stays events few a)

@@ -156,9 +156,6 @@ module _ (t : Tree) (s : Site) where
 -- ---- the requests of all sites
 
 module _ (sites : List Site) (t : Tree) where
-  pub least_none : IsLeast sites t 0 None
-  least_none i s r below e may = omega arith
-
   -- one site more
   more_of : (n : ℕ) (s : Site) (q : Request) → slice_get sites n ≡ Some s
       → ((i : ℕ) (u : Site) (r : Request) → i < n → slice_get sites i ≡ Some u → IsMeetable t u r → precedes r.id q.id ≡ false)
@@ -382,10 +379,6 @@ request_is q = by_ask q.ask
     by_ask request.Halt = refl
 
 module _ (sites : List Site) (t : Tree) where
-  -- of the first n sites none meets the choice
-  pub meets_first : (x : Choice) → NoneMeets sites t x 0
-  meets_first x i s below e = absurd (omega arith)
-
   pub meets_next : (x : Choice) (n : ℕ) (s : Site) → slice_get sites n ≡ Some s → meets t x s ≡ false → NoneMeets sites t x n → NoneMeets sites t x (n + 1)
   meets_next x n s here not none i u below e =
       elim (below_or n i below) [

@@ -74,9 +74,6 @@ drawn_one number made s k h = go (s == number) refl
     go true e = lt-ltb k made (h (eqb-true s number e))
     go false e = refl
 
-low_range : (number made s k many : ℕ) → k + many ≤ made → are_drawn number made s k many ≡ true
-low_range number made s k many low = grind (arith, nat_tests)
-
 drawn_range : (number made s k many : ℕ) → (s ≡ number → 0 < many → k + many ≤ made) → are_drawn number made s k many ≡ true
 drawn_range number made s k zero h = or_right (not (s == number)) true refl
 drawn_range number made s k (suc m) h = go (s == number) refl

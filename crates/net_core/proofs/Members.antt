@@ -158,11 +158,3 @@ member_found ps place i j m n x at m_is n_is x_is =
     let whole : n ≡ at.members = n_is ∙ same in
     let low : j < length n = omega (arith, at.below, ap length whole) in
     get_place ps place i j at ∙ ap (λ r. slice_get r j) (sym whole) ∙ get_is n j x low ∙ ap (λ (y : _). Some y) (sym x_is)
-
-pub member_low : {X : Type 0} (ps : List (List X)) (place i j : ℕ) (m n : List X) → IsPlace ps place i j → m ≡ slice_index_or ps i m → n ≡ m → j < length n
-member_low ps place i j m n at m_is n_is =
-    let same : m ≡ at.members = m_is ∙ get_or_from_slice_get ps i at.members m at.is in
-    omega (arith, at.below, ap length (n_is ∙ same))
-
-pub piece_low : {X : Type 0} (ps : List (List X)) (place i j : ℕ) → IsPlace ps place i j → i < length ps
-piece_low ps place i j at = low_some ps i at.members at.is

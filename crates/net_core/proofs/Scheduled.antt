@@ -178,12 +178,6 @@ module _ (p : ProgramTerms) (c : CodeParts) (ok : IsProgram p) (kept : IsCode c)
 
   -- ---- a run in rounds
 
-  pub goes_fine : (budget : ℕ) (net new : Net) (es : List Event) → Fine net → GoesOn c budget net es new → Fine new
-  goes_fine budget net new es fine (all_spent _) = fine
-  goes_fine budget net new es fine (none_enabled _ _ h) = fine
-  goes_fine budget net new es fine (commits _ _ mid _ x e more some first acts rest) = goes_fine (budget - 1) mid new more (acts_fine p c ok kept is net mid x (Some e) fine acts) rest
-  goes_fine budget net new es fine (carries _ _ mid _ x _ some first acts rest) = goes_fine budget mid new es (acts_fine p c ok kept is net mid x None fine acts) rest
-
   -- what comes next does one thing
   next_acts_one : (net mid mid2 : Net) (x y : Choice) (o u : Option Event) → Fine net → IsNext c net x → IsNext c net y → Acts c net x o mid → Acts c net y u mid2 → (o ≡ u) × (mid ≡ mid2)
   next_acts_one net mid mid2 x y o u fine a b h k =

@@ -171,15 +171,6 @@ module _ (c : CodeParts) (sites : List Site) (t : Tree) (code : IsCode c) where
             let fires = subst (λ (u : Tree). MayFire c u s p) parts.tree_is (reacts_fires_at c net code i s p here may) in
             tells.1 (fires.0, from_bare c t s p fires.0 fires.1)
 
-    pub none_reacts_past : (i : ℕ) (p : Pick) → length sites ≤ i → IsTrue false ↔ MayReact c net i p
-    none_reacts_past i p past = (
-      (λ e. cc),
-      (λ may.
-          let own : slice_get sites i ≡ Some may.by.site = ap (λ ss. slice_get ss i) (sym parts.sites_are) ∙ may.by.site_is in
-          let within = slice_get_within sites i may.by.site own in
-          absurd (omega arith)),
-    )
-
     no_fires : (i : ℕ) (p : Pick) → (m : MayReact c net i p) → NoneFires c t m.by.site → ⊥
     no_fires i p m none =
         let fires = subst (λ (u : Tree). MayFire c u m.by.site p) parts.tree_is (reacts_fires c net code i p m) in

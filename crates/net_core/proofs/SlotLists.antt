@@ -1,7 +1,6 @@
 -- Lists of slots.
-use Rattle.std.proofs.Common.{◌≡◌, ℕ, suc, ◌+◌, ◌<◌, append_assoc, subst, List, [], ◌∷◌, ◌++◌, take, drop, map, length, slice_index_or, Some, refl, ap, sym, ◌∙◌, arith, length-append}
+use Rattle.std.proofs.Common.{◌≡◌, ℕ, suc, ◌+◌, ◌<◌, append_assoc, subst, List, [], ◌∷◌, ◌++◌, map, length, slice_index_or, Some, refl, ap, sym, ◌∙◌, arith, length-append}
 use Rattle.std.specs.Prelude.{◌^◌}
-use Rattle.std.proofs.Math.Seq.{take-append_seam}
 use Rattle.chem_model.specs.declared.event.Event.{Event}
 use Rattle.chem_laws.proofs.Lists.{Each-append, append_nil}
 use Rattle.wire_packet.specs.declared.packet.Flight.{Flight}
@@ -19,10 +18,6 @@ module _ {X : Type 0} (R : X → X → Type 0) where
   pairwise [] (y ∷ ys) e h = absurd (omega arith)
   pairwise (x ∷ xs) [] e h = absurd (omega arith)
   pairwise (x ∷ xs) (y ∷ ys) e h = (h 0 x (omega arith), pairwise xs ys (omega arith) (λ i d lt. h (suc i) d (omega arith)))
-
--- a whole vector that was written through its slice
-pub whole_written : {X : Type 0} (n : ℕ) (ys xs : List X) → length ys ≡ length xs → n ≡ length xs → take n (ys ++ drop (length ys) xs) ≡ ys
-whole_written n ys xs e f = ap (λ k. take k (ys ++ drop (length ys) xs)) (f ∙ sym e) ∙ take-append_seam ys (drop (length ys) xs)
 
 pub joined_more : {X : Type 0} (xss : List (List X)) (xs : List X) → joined (xss ++ xs ∷ []) ≡ joined xss ++ xs
 joined_more [] xs = append_nil xs
@@ -51,18 +46,6 @@ flights_join [] rs = refl
 flights_join (s ∷ ss) rs = ap (λ xs. flights_in s.work ++ xs) (flights_join ss rs) ∙ sym (append_assoc (flights_in s.work) (flights_of ss) (flights_of rs))
 
 -- ---- taken back one after another
-
-pub none_back : (p : Parts) (es : List Event) → AreBack [] p es p es
-none_back p es = record {
-  worked = tt;
-  sites = sym (append_nil p.sites.items);
-  tree = refl;
-  trace = sym (append_nil (joined p.trace.items));
-  flights = sym (append_nil (joined p.flights.items));
-  count = omega arith;
-  few = λ low. low;
-  events = sym (append_nil es);
-}
 
 pub more_back : (ss rs : List Slot) (old mid new : Parts) (es fs gs : List Event) → AreBack ss old es mid fs → AreBack rs mid fs new gs → AreBack (ss ++ rs) old es new gs
 more_back ss rs old mid new es fs gs a b = record {

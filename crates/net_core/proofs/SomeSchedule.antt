@@ -90,10 +90,6 @@ module _ (p : ProgramTerms) (c : CodeParts) (ok : IsProgram p) (kept : IsCode c)
     same_left : left ≡ old
     none : first_to i (take old net.packets) ≡ None
 
-  not_more : (a b : Net) → (deliveries_left a < deliveries_left b) ⊎ (a ≡ b) → deliveries_left a ≤ deliveries_left b
-  not_more a b (inl less) = omega arith
-  not_more a b (inr same) = let equal : deliveries_left a ≡ deliveries_left b = ap deliveries_left same in omega arith
-
   collects_falls : (i old left : ℕ) (net new : Net) → Fine net → Collects i old net left new → (deliveries_left new < deliveries_left net) ⊎ IsIdle i old left net new
   collects_falls i old left net new fine (all_in _ _ e) = inr (record { same_net = refl; same_left = refl; none = e })
   collects_falls i old left net new fine (brings _ _ f _ mid _ e h rest) = inl (go (collects_falls i (old - 1) left mid new (brought p c ok kept is net mid f fine h) rest))

@@ -20,7 +20,7 @@ use Rattle.env_store.specs.Reading.{IsCodeOf}
 use Rattle.env_store.specs.Running.{Ran, site_made}
 use Rattle.env_store.specs.Laws.{rules_of_group}
 use Rattle.loc_tree.specs.declared.tree.Spot.{Spot}
-use Rattle.loc_tree.specs.Tree.{Tree, spot, is_pair_of, unmarked, roots_from, unmarked_roots, with_birth, with_room, bare}
+use Rattle.loc_tree.specs.Tree.{Tree, spot, is_pair_of, unmarked, roots_from, unmarked_roots, with_birth, bare}
 use Rattle.loc_tree.proofs.Spots.{same_loc_refl, same_loc_sym}
 use Rattle.code_run.specs.RunFacts.{AreBorn}
 use Rattle.code_run.proofs.Facts.{opening_facts}
@@ -56,20 +56,6 @@ use Rattle.net_core.proofs.Fitting.{fit_bare, fit_full}
 use Rattle.net_core.proofs.Handed.{run_bare, births_bare}
 
 -- ---- the first tree
-
-pub top_kept : (t : Tree) (x : Loc) (rest : List Loc) → is_some (spot t x) ≡ true → with_tops (bare t) (x ∷ rest) ≡ with_tops (bare t) rest
-top_kept t x rest e = go (spot t x) e
-  where
-    go : (o : Option Spot) → is_some o ≡ true → with_tops (with_top o (bare t) x) rest ≡ with_tops (bare t) rest
-    go None h = cc
-    go (Some s) h = refl
-
-pub top_born : (t : Tree) (n : ℕ) (x : Loc) (rest : List Loc) → is_some (spot t x) ≡ false → with_tops (bare t) (x ∷ rest) ≡ with_tops (bare (with_birth (with_room t n) x x.site)) rest
-top_born t n x rest e = go (spot t x) e
-  where
-    go : (o : Option Spot) → is_some o ≡ false → with_tops (with_top o (bare t) x) rest ≡ with_tops (bare (with_birth (with_room t n) x x.site)) rest
-    go None h = refl
-    go (Some s) h = cc
 
 pub none_of : (o : Option Spot) → is_some o ≡ false → o ≡ None
 none_of None e = refl
@@ -293,6 +279,9 @@ opened_whole q c ok kept is few p h =
 
 pub opened_is : (q : ProgramTerms) (c : CodeParts) → IsProgram q → IsCode c → IsCodeOf q c → (p : Parts) → IsUpTo c (length c.sites) p → Stands (rules_of_group q) (net_of c.seen p) (opening q)
 opened_is q c ok kept is p h = subst (λ (net : Net). Stands (rules_of_group q) net (opening q)) (sym (all_are_opened c p h)) (opened_stands q c ok kept is).0
+
+pub opened_runs : (q : ProgramTerms) (c : CodeParts) → IsProgram q → IsCode c → IsCodeOf q c → (p : Parts) → IsUpTo c (length c.sites) p → RunsCode q c (net_of c.seen p)
+opened_runs q c ok kept is p h = subst (RunsCode q c) (sym (all_are_opened c p h)) (opened_stands q c ok kept is).1
 
 -- ---- before any site
 

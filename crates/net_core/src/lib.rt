@@ -1,4 +1,4 @@
-//! A network of sites on one thread.
+//! A network of sites, on one thread and in rounds.
 #![tactic(auto)]
 
 mod acting;

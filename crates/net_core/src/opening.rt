@@ -5,7 +5,7 @@ ghost use Rattle.env_store.specs.Reading.{IsCodeOf};
 ghost use Rattle.env_store.specs.Laws.{rules_of_group};
 ghost use Rattle.loc_tree.specs.Tree.{bare};
 ghost use Rattle.net_laws.specs.Net.{Stands};
-ghost use Rattle.net_laws.specs.Opened.{opened_net, AreNew};
+ghost use Rattle.net_laws.specs.Opened.{opened_net, AreNew, RunsCode};
 ghost use Rattle.reducer.specs.Opens.{IsOfProgram};
 ghost use Rattle.net_core.specs.inside.Handing.{HandsOut};
 ghost use Rattle.net_core.specs.inside.Starting.{IsUpTo};
@@ -109,6 +109,7 @@ impl Net {
         ensures events { IfOk result (λ net. net.events ≡ 0) }
         ensures stands { IfOk result (λ net.
             Stands (rules_of_group program.now) net.net (opening program.now)) }
+        ensures runs { IfOk result (λ net. RunsCode program.now net.code net.net) }
     {
         let _tops = &program.tops;
         let _known = &code.tops;

@@ -1,5 +1,5 @@
 // Lists of choices.
-ghost use Rattle.std.specs.Prelude.{◌≡◌, ◌+◌, ◌-◌, ◌<◌, ◌≤◌, ◌^◌, length, OnOk, OnErr};
+ghost use Rattle.std.specs.Prelude.{◌≡◌, ◌+◌, ◌-◌, ◌<◌, ◌≤◌, ◌^◌, length, Ok, IfOk, OnOk, OnErr};
 ghost use Rattle.net_core.specs.Choosing.{Allows};
 ghost use Rattle.net_core.specs.Played.{HasPlayed};
 ghost use Rattle.net_core.specs.inside.PlayedSoFar.{MakesMore};
@@ -18,6 +18,15 @@ pub enum PlayStop {
     Memory,
 }
 
+impl PlayStop {
+    /// A value that is equal to this one. It takes no memory.
+    pub fn copy(&self, _alloc: Global) -> Result<PlayStop, Memory>
+        ensures { result ≡ Ok self.now }
+    {
+        Ok(*self)
+    }
+}
+
 /// How a list of choices was made: the events of those that were made, in order, how many were, and
 /// why it was made no further.
 #[derive(Drop)]
@@ -25,6 +34,20 @@ pub struct Played {
     pub events: Journal,
     pub done: u64,
     pub stop: PlayStop,
+}
+
+impl Played {
+    /// A value that is equal to this one.
+    pub fn copy(&self, alloc: Global) -> Result<Played, Memory>
+        ensures { IfOk result (λ copy. copy ≡ self.now) }
+    {
+        let events = self.events.copy(alloc)?;
+        Ok(Played {
+            events,
+            done: self.done,
+            stop: self.stop,
+        })
+    }
 }
 
 // Makes a choice, and appends its event if it has one. Where there is no memory, nothing changes.

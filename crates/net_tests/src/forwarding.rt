@@ -1,7 +1,7 @@
 // A packet that is forwarded after a move, and lists of choices that are played.
 
 use crate::both::{Both, Step, both_of, net_of};
-use chem_model::{AtomId, Event, RuleId};
+use chem_model::{AtomId, Event, Loc, Name, Out, RuleId};
 use net_core::{Choice, Net, PlayStop, Played};
 use std::alloc::Global;
 
@@ -77,8 +77,20 @@ fn forward(alloc: Global, both: &mut Both) -> bool {
         && is_forwarded(alloc, both)
 }
 
+/// Whether the name of the second site was observed, and nothing else.
+fn is_observed(trace: &[Out]) -> bool {
+    let second = Name::Place(Loc { site: 1, k: 0 });
+    match trace {
+        [out] => out.on == 0 && out.args.as_slice() == [second].as_slice(),
+        _ => false,
+    }
+}
+
 fn is_forwarded(alloc: Global, both: &Both) -> bool {
-    are_forwarded(both.book.journal().as_slice()) && both.agree(alloc) && both.net.next().is_none()
+    are_forwarded(both.book.journal().as_slice())
+        && is_observed(both.book.trace().as_slice())
+        && both.agree(alloc)
+        && both.net.next().is_none()
 }
 
 fn forwarded(alloc: Global) -> bool {
@@ -103,11 +115,13 @@ fn play(alloc: Global, net: &mut Net, choices: &[Choice]) -> Option<Played> {
     Some(net.play(alloc, choices))
 }
 
-/// How many events come of a list of choices, how many of these are made, and how it stops.
+/// How many events come of a list of choices, how many of these are made, and how it stops, by a
+/// copy of what is answered.
 fn played(alloc: Global, choices: &[Choice]) -> Option<(usize, u64, PlayStop)> {
     let mut net = net_of(alloc, MOVED.as_bytes())?;
     let played = play(alloc, &mut net, choices)?;
-    Some((played.events.len(), played.done, played.stop))
+    let copy = played.copy(alloc).ok()?;
+    Some((copy.events.len(), copy.done, copy.stop))
 }
 
 #[test]

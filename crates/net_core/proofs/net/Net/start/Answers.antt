@@ -5,10 +5,10 @@ use Rattle.env_store.specs.CodeFacts.{IsCode}
 use Rattle.env_store.specs.CodeParts.{CodeParts}
 use Rattle.env_store.specs.Laws.{rules_of_group}
 use Rattle.net_laws.specs.Net.{Stands}
-use Rattle.net_laws.specs.Opened.{opened_net}
+use Rattle.net_laws.specs.Opened.{opened_net, RunsCode}
 use Rattle.net_core.specs.Parts.{net_of}
 use Rattle.net_core.specs.Whole.{IsWhole}
-use Rattle.net_core.proofs.Starting.{opened_whole, opened_is, all_are_opened}
+use Rattle.net_core.proofs.Starting.{opened_whole, opened_is, opened_runs, all_are_opened}
 use Rattle.net_core.proofs.net.Net.start.Goals as goal
 
 pub invariant_of-result : goal.invariant_of-result
@@ -28,3 +28,10 @@ returns-in-Ok-clause-stands c =
 pub returns-in-Ok-clause-opened : goal.returns-in-Ok-clause-opened
 returns-in-Ok-clause-opened c =
     subst (λ (x : CodeParts). net_of x.seen c.in_ok-parts.parts ≡ opened_net c.args.code.now) (sym c.in-Ok.ensures) (all_are_opened c.args.code.now c.in_ok-parts.parts c.in_ok-parts.ensures)
+
+pub returns-in-Ok-clause-runs : goal.returns-in-Ok-clause-runs
+returns-in-Ok-clause-runs c =
+    let ok : IsProgram c.args.program.now = subst IsProgram c.program.view_is c.program.invariant in
+    let kept : IsCode c.args.code.now = subst IsCode c.code.view_is c.code.invariant in
+    subst (λ (x : CodeParts). RunsCode c.args.program.now x (net_of x.seen c.in_ok-parts.parts)) (sym c.in-Ok.ensures)
+    (opened_runs c.args.program.now c.args.code.now ok kept c.requires c.in_ok-parts.parts c.in_ok-parts.ensures)
