@@ -1,5 +1,5 @@
 -- Texts that are worked off one after another.
-use Rattle.std.proofs.Common.{◌≡◌, ℕ, zero, suc, ◌+◌, ◌<◌, ◌≤◌, List, [], ◌∷◌, ◌++◌, length, get_or, take, Some, Bool, true, false, Result, Ok, Err, refl, sym, ap, ◌∙◌, subst, arith, inl, inr, append_assoc}
+use Rattle.std.proofs.Common.{◌≡◌, ℕ, zero, suc, ◌+◌, ◌<◌, ◌≤◌, List, [], ◌∷◌, ◌++◌, length, get_or, take, Some, Result, Ok, Err, refl, sym, ap, ◌∙◌, subst, arith, inl, inr, append_assoc}
 use Rattle.std.specs.Prelude.{slice_get}
 use Rattle.std.proofs.lemmas.Option.{slice_get_read}
 use Rattle.chem_model.specs.Each.{Each}
@@ -14,11 +14,9 @@ use Rattle.wire_packet.specs.Codec.{IsSpelledBy, IsOrMemory}
 use Rattle.loc_tree.specs.Tree.{Tree}
 use Rattle.net_laws.specs.Site.{Site}
 use Rattle.net_laws.specs.Net.{Addressed}
-use Rattle.site_solution.specs.InTree.{is_in_tree}
 use Rattle.site_solution.specs.Answers.{AreFlights}
 use Rattle.shared_net.specs.Mail.{IsMessageFlight, AreSpelled}
-use Rattle.shared_net.specs.Arriving.{Arrival, come, all_come, HasCome, ArrivesWhere}
-use Rattle.shared_net.specs.Arriving.{Arrives, HasBegun}
+use Rattle.shared_net.specs.Arriving.{Arrival, come, all_come, HasCome}
 use Rattle.shared_net.specs.inside.Coming.{Comes, HasComeUpTo}
 
 -- ---- what a text spells
@@ -129,13 +127,3 @@ flights_spelled (p ∷ ps) (f ∷ fs) h = ((p.msg, h.0.spelled), flights_spelled
 
 pub are_message_flights : (ps : List Addressed) (fs : List Flight) → AreFlights ps fs → Each IsMessageFlight fs
 are_message_flights ps fs h = flights_spelled ps fs h
-
-module _ (t : Tree) (s : Site) (mail : List (List ℕ)) (new : Site) where
-  pub arrives_in : (on : List Flight) → is_in_tree t s ≡ true → HasCome t s mail new on → Arrives t s mail new on
-  arrives_in on there h = subst (λ (b : Bool). ArrivesWhere b t s mail new on) (sym there) h
-
-  pub arrives_out : (on : List Flight) → is_in_tree t s ≡ false → new ≡ s → on ≡ [] → Arrives t s mail new on
-  arrives_out on away at e = subst (λ (b : Bool). ArrivesWhere b t s mail new on) (sym away) (at, e)
-
-  pub begun_in : is_in_tree t s ≡ true → HasComeUpTo t s mail new → HasBegun t s mail new
-  begun_in there h = record { done = h.done; on = h.on; arrived = subst (λ (b : Bool). ArrivesWhere b t s (take h.done mail) new h.on) (sym there) h.come_is }

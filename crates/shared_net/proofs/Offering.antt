@@ -1,7 +1,5 @@
 -- Proposals of events that may not fit.
-use Rattle.std.proofs.Common.{◌≡◌, ℕ, ◌<◌, length, Bool, true, false, refl, ap, ◌∙◌, subst, arith, ◌⊎◌, inl, inr}
-use Rattle.std.specs.Prelude.{nat_lt}
-use Rattle.std.proofs.lemmas.Bool.Decides.{nat_tests}
+use Rattle.std.proofs.Common.{◌≡◌, ℕ, ◌<◌, length, refl, ap, ◌∙◌, subst, arith, ◌⊎◌, inl, inr}
 use Rattle.chem_model.specs.declared.event.Event.{Event}
 use Rattle.trace_history.specs.Kept.{BookKept}
 use Rattle.shared_net.specs.declared.turn.Turn.{Turn}
@@ -13,16 +11,6 @@ use Rattle.shared_net.specs.Offers.{Offers, Turned, MayHaveCommitted}
 use Rattle.shared_net.specs.Offers.{MayGain}
 
 module _ (old : BookKept) (held : PassKept) (e : Event) where
-  -- what doesn't fit
-  pub offers_nothing : (Fits : Type 0) → (Fits → ⊥) → (IsFull old held → ⊥) → Offers Fits old held e Nothing old held
-  offers_nothing Fits not full =
-      let below : length old.journal < held.budget = by_order (nat_lt (length old.journal) held.budget) refl in
-      record { answer = (below, inr not); book = refl; pass = refl }
-    where
-      by_order : (b : Bool) → nat_lt (length old.journal) held.budget ≡ b → length old.journal < held.budget
-      by_order true e = grind (arith, nat_tests)
-      by_order false e = absurd (full (grind (arith, nat_tests)))
-
   -- what fits, or is refused before that is asked
   pub offers_of : (Fits : Type 0) (turn : Turn) (new : BookKept) (after : PassKept) → Fits ⊎ IsFull old held → Proposes old held e turn new after → Offers Fits old held e turn new after
   offers_of Fits Full new after fits p = record { answer = p.answer; book = p.book; pass = p.pass }

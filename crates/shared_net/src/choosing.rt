@@ -1,5 +1,5 @@
 // What a site does next. It takes no memory.
-ghost use Rattle.std.specs.Prelude.{◌≡◌, ◌↔◌, IfNone, IfSome, IsTrue};
+ghost use Rattle.std.specs.Prelude.{◌≡◌, ◌↔◌, Ok, IfNone, IfSome, IsTrue};
 ghost use Rattle.reducer.specs.Ready.{NoneFires, IsReady};
 ghost use Rattle.site_solution.specs.InTree.{is_in_tree};
 ghost use Rattle.shared_net.specs.declared.choosing.Chosen.TheVariants as choice;
@@ -7,7 +7,7 @@ ghost use Rattle.shared_net.specs.Choosing.{CanAct, may_meet, NoneMeets, IsLeast
 ghost use Rattle.shared_net.specs.Choosing.{IsToGo, Chooses, OpensNone};
 ghost use Rattle.shared_net.specs.inside.Choosing.{LeadsTo};
 
-use chem_model::{AtomId, Name, Program};
+use chem_model::{AtomId, Memory, Name, Program};
 use env_store::Code;
 use failure::{dead_for, halt_ready};
 use loc_tree::LocTree;
@@ -15,6 +15,7 @@ use migration::move_ready;
 use reducer::{Pick, births, ready};
 use router::address;
 use site_solution::{Site, site_is_kept};
+use std::alloc::Global;
 use wire_packet::Ask;
 
 /// What a site does next.
@@ -25,6 +26,15 @@ pub enum Chosen {
     /// It meets the request with this id.
     Ask(AtomId),
     Nothing,
+}
+
+impl Chosen {
+    /// A value that is equal to this one. It takes no memory.
+    pub fn copy(&self, _alloc: Global) -> Result<Chosen, Memory>
+        ensures { result ≡ Ok self.now }
+    {
+        Ok(*self)
+    }
 }
 
 // Whether the site has what the calls over it need.

@@ -1,8 +1,9 @@
 // The sites of a run, and their mail.
-ghost use Rattle.std.specs.Prelude.{◌≡◌};
+ghost use Rattle.std.specs.Prelude.{◌≡◌, IfOk};
 
-use chem_model::Texts;
+use chem_model::{Memory, Texts};
 use site_solution::Site;
+use std::alloc::Global;
 use std::marker::Model;
 
 /// The sites by their numbers.
@@ -67,6 +68,17 @@ impl Mails {
         ensures { result ≡ list.items }
     {
         Mails { list }
+    }
+
+    /// A list that is equal to this one.
+    pub fn copy(&self, alloc: Global) -> Result<Mails, Memory>
+        ensures { IfOk result (λ copy. copy ≡ self.now) }
+    {
+        let mut list = Vec::new(alloc);
+        for member in self.list.as_slice() {
+            list.push(member.copy(alloc)?)?;
+        }
+        Ok(Mails { list })
     }
 
     pub fn into_vec(self) -> Vec<Texts>

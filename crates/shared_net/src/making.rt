@@ -20,6 +20,19 @@ pub struct Made {
     pub effects: Effects,
 }
 
+impl Made {
+    /// A value that is equal to this one.
+    pub fn copy(&self, alloc: Global) -> Result<Made, Memory>
+        ensures { IfOk result (λ copy. copy ≡ self.now) }
+    {
+        let effects = self.effects.copy(alloc)?;
+        Ok(Made {
+            turn: self.turn,
+            effects,
+        })
+    }
+}
+
 // No effects.
 pub(crate) fn no_effects(alloc: Global) -> Effects
     ensures { AreNone result }

@@ -28,6 +28,17 @@ use std::alloc::Global;
 use std::sync::{Mutex, Wait};
 use wire_packet::Flights;
 
+// What a turn is made with: a runtime that may wait, an allocator, the door to the book, the gate,
+// and the number of the turn.
+#[derive(Drop)]
+struct Hands<'a, K, G, R> {
+    rt: &'a R,
+    alloc: Global,
+    door: &'a Mutex<K>,
+    gate: &'a G,
+    count: u64,
+}
+
 // What the part of a turn under the tree's read lock came to.
 enum Step {
     Ended(Turn),
@@ -98,11 +109,9 @@ impl Parts {
     // ---- under the tree's read lock
 
     // Makes the reaction of a pick that opens no location.
-    fn react<L: Run, K: Desk<L>, R: Wait>(
+    fn react<L: Run, K: Desk<L>, G: Gate, R: Wait>(
         &self,
-        rt: &R,
-        alloc: Global,
-        door: &Mutex<K>,
+        hands: &Hands<'_, K, G, R>,
         pass: &mut Pass<L>,
         site: &mut Site,
         tree: &LocTree,
@@ -114,23 +123,19 @@ impl Parts {
         ensures turn { IfOk result (λ turn. Turned pass.old turn pass.new) }
         ensures gain { OnErr result (MayGain pass.old pass.new) }
     {
-        let mut desk = enter(rt, door);
-        let made = desk.here(alloc, site, tree, code, pass, pick)?;
+        let mut desk = enter(hands.rt, hands.door);
+        let made = desk.here(hands.alloc, site, tree, code, pass, pick)?;
         drop(desk);
-        self.send(rt, alloc, &made)
+        self.send(hands.rt, hands.alloc, &made)
     }
 
     // What the site does next, where that leaves the tree as it is.
     fn act_here<L: Run, K: Desk<L>, G: Gate, R: Wait>(
         &self,
-        rt: &R,
-        alloc: Global,
-        door: &Mutex<K>,
+        hands: &Hands<'_, K, G, R>,
         pass: &mut Pass<L>,
         site: &mut Site,
         tree: &LocTree,
-        gate: &G,
-        count: u64,
         passed: bool,
     ) -> Result<Step, Memory>
         ensures step { IfOk result (λ step. StepsFirst pass.old step pass.new) }
@@ -143,42 +148,34 @@ impl Parts {
         if !opens_none(site, code, tree, &pick) {
             return Ok(Step::Wide(passed));
         }
-        gate.pass(pass.number(), count, Phase::Held);
-        let turn = self.react(rt, alloc, door, pass, site, tree, code, &pick)?;
+        hands.gate.pass(pass.number(), hands.count, Phase::Held);
+        let turn = self.react(hands, pass, site, tree, code, &pick)?;
         Ok(Step::Ended(passed_or(turn, passed)))
     }
 
     // The part of a turn under the tree's read lock and the site's.
     fn turn_here<L: Run, K: Desk<L>, G: Gate, R: Wait>(
         &self,
-        rt: &R,
-        alloc: Global,
-        door: &Mutex<K>,
+        hands: &Hands<'_, K, G, R>,
         pass: &mut Pass<L>,
         at: usize,
-        gate: &G,
-        count: u64,
     ) -> Result<Step, Memory>
         requires { at < self.now.sites }
         ensures step { IfOk result (λ step. StepsFirst pass.old step pass.new) }
         ensures gain { OnErr result (MayGain pass.old pass.new) }
     {
-        let tree = self.tree.lock.read(rt);
-        let mut site = self.sites.list[at].lock(rt);
-        let passed = self.receive(rt, alloc, &mut *site, &*tree, at)?;
-        self.act_here(
-            rt, alloc, door, pass, &mut *site, &*tree, gate, count, passed,
-        )
+        let tree = self.tree.lock.read(hands.rt);
+        let mut site = self.sites.list[at].lock(hands.rt);
+        let passed = self.receive(hands.rt, hands.alloc, &mut *site, &*tree, at)?;
+        self.act_here(hands, pass, &mut *site, &*tree, passed)
     }
 
     // ---- under its write lock
 
     // Makes the event of a choice that stays at the site.
-    fn make_wide<L: Run, K: Desk<L>, R: Wait>(
+    fn make_wide<L: Run, K: Desk<L>, G: Gate, R: Wait>(
         &self,
-        rt: &R,
-        alloc: Global,
-        door: &Mutex<K>,
+        hands: &Hands<'_, K, G, R>,
         pass: &mut Pass<L>,
         site: &mut Site,
         tree: &mut LocTree,
@@ -190,18 +187,16 @@ impl Parts {
         ensures turn { IfOk result (λ turn. Turned pass.old turn pass.new) }
         ensures gain { OnErr result (MayGain pass.old pass.new) }
     {
-        let mut desk = enter(rt, door);
-        let made = desk.wide(alloc, site, tree, &self.program, code, pass, chosen)?;
+        let mut desk = enter(hands.rt, hands.door);
+        let made = desk.wide(hands.alloc, site, tree, &self.program, code, pass, chosen)?;
         drop(desk);
-        self.send(rt, alloc, &made)
+        self.send(hands.rt, hands.alloc, &made)
     }
 
     // Makes the move to a location of another site.
-    fn make_across<L: Run, K: Desk<L>, R: Wait>(
+    fn make_across<L: Run, K: Desk<L>, G: Gate, R: Wait>(
         &self,
-        rt: &R,
-        alloc: Global,
-        door: &Mutex<K>,
+        hands: &Hands<'_, K, G, R>,
         pass: &mut Pass<L>,
         site: &mut Site,
         into: &mut Site,
@@ -214,18 +209,25 @@ impl Parts {
         ensures turn { IfOk result (λ turn. Turned pass.old turn pass.new) }
         ensures gain { OnErr result (MayGain pass.old pass.new) }
     {
-        let mut desk = enter(rt, door);
-        let made = desk.across(alloc, site, into, tree, &self.program, code, pass, atom)?;
+        let mut desk = enter(hands.rt, hands.door);
+        let made = desk.across(
+            hands.alloc,
+            site,
+            into,
+            tree,
+            &self.program,
+            code,
+            pass,
+            atom,
+        )?;
         drop(desk);
-        self.send(rt, alloc, &made)
+        self.send(hands.rt, hands.alloc, &made)
     }
 
     // Meets a request of the site: a move to another site takes that site's lock too.
-    fn meet<L: Run, K: Desk<L>, R: Wait>(
+    fn meet<L: Run, K: Desk<L>, G: Gate, R: Wait>(
         &self,
-        rt: &R,
-        alloc: Global,
-        door: &Mutex<K>,
+        hands: &Hands<'_, K, G, R>,
         pass: &mut Pass<L>,
         site: &mut Site,
         tree: &mut LocTree,
@@ -240,25 +242,21 @@ impl Parts {
         if let Some(number) = leads_to(site, tree, atom) {
             let target = number as usize;
             if target != at && target < self.sites.list.len() {
-                let mut into = self.sites.list[target].lock(rt);
-                return self.make_across(rt, alloc, door, pass, site, &mut *into, tree, code, atom);
+                let mut into = self.sites.list[target].lock(hands.rt);
+                return self.make_across(hands, pass, site, &mut *into, tree, code, atom);
             }
         }
-        self.make_wide(rt, alloc, door, pass, site, tree, code, &Chosen::Ask(*atom))
+        self.make_wide(hands, pass, site, tree, code, &Chosen::Ask(*atom))
     }
 
     // What the site does next.
     fn act_wide<L: Run, K: Desk<L>, G: Gate, R: Wait>(
         &self,
-        rt: &R,
-        alloc: Global,
-        door: &Mutex<K>,
+        hands: &Hands<'_, K, G, R>,
         pass: &mut Pass<L>,
         site: &mut Site,
         tree: &mut LocTree,
         at: usize,
-        gate: &G,
-        count: u64,
     ) -> Result<Turn, Memory>
         ensures turn { IfOk result (λ turn. Turned pass.old turn pass.new) }
         ensures gain { OnErr result (MayGain pass.old pass.new) }
@@ -268,12 +266,12 @@ impl Parts {
         match &chosen {
             Chosen::Nothing => Ok(Turn::Nothing),
             Chosen::Ask(atom) => {
-                gate.pass(pass.number(), count, Phase::Held);
-                self.meet(rt, alloc, door, pass, site, tree, at, code, atom)
+                hands.gate.pass(pass.number(), hands.count, Phase::Held);
+                self.meet(hands, pass, site, tree, at, code, atom)
             }
             Chosen::Pick(_) => {
-                gate.pass(pass.number(), count, Phase::Held);
-                self.make_wide(rt, alloc, door, pass, site, tree, code, &chosen)
+                hands.gate.pass(pass.number(), hands.count, Phase::Held);
+                self.make_wide(hands, pass, site, tree, code, &chosen)
             }
         }
     }
@@ -282,25 +280,19 @@ impl Parts {
     // before, or not.
     fn turn_wide<L: Run, K: Desk<L>, G: Gate, R: Wait>(
         &self,
-        rt: &R,
-        alloc: Global,
-        door: &Mutex<K>,
+        hands: &Hands<'_, K, G, R>,
         pass: &mut Pass<L>,
         at: usize,
-        gate: &G,
-        count: u64,
         passed: bool,
     ) -> Result<Turn, Memory>
         requires { at < self.now.sites }
         ensures step { IfOk result (λ turn. Steps pass.old turn pass.new) }
         ensures gain { OnErr result (MayGain pass.old pass.new) }
     {
-        let mut tree = self.tree.lock.write(rt);
-        let mut site = self.sites.list[at].lock(rt);
-        let again = self.receive(rt, alloc, &mut *site, &*tree, at)?;
-        let turn = self.act_wide(
-            rt, alloc, door, pass, &mut *site, &mut *tree, at, gate, count,
-        )?;
+        let mut tree = self.tree.lock.write(hands.rt);
+        let mut site = self.sites.list[at].lock(hands.rt);
+        let again = self.receive(hands.rt, hands.alloc, &mut *site, &*tree, at)?;
+        let turn = self.act_wide(hands, pass, &mut *site, &mut *tree, at)?;
         Ok(passed_or(turn, passed || again))
     }
 
@@ -322,11 +314,16 @@ impl Parts {
     {
         let at = site as usize;
         let count = pass.begin();
-        let turn = match self.turn_here(rt, alloc, door, pass, at, gate, count)? {
+        let hands = Hands {
+            rt,
+            alloc,
+            door,
+            gate,
+            count,
+        };
+        let turn = match self.turn_here(&hands, pass, at)? {
             Step::Ended(turn) => turn,
-            Step::Wide(passed) => {
-                self.turn_wide(rt, alloc, door, pass, at, gate, count, passed)?
-            }
+            Step::Wide(passed) => self.turn_wide(&hands, pass, at, passed)?,
         };
         pass.note(turn);
         if let Turn::Did(_) = turn {

@@ -24,7 +24,13 @@ pub struct Told {
     pub observed: Option<Name>,
 }
 
-fn tell(made: &Made) -> Told {
+// What was answered, by a copy of it.
+fn tell(alloc: Global, made: &Made) -> Result<Told, Memory> {
+    let copy = made.copy(alloc)?;
+    Ok(told_of(&copy))
+}
+
+fn told_of(made: &Made) -> Told {
     let effects = &made.effects;
     let observed = match effects.outs.as_slice().first() {
         Some(out) => out.args.as_slice().first().copied(),
@@ -88,7 +94,7 @@ pub fn react<L: Run>(
         return Ok(None);
     };
     let made = make_here(alloc, site, tree, code, locked, pass, &pick)?;
-    Ok(Some(tell(&made)))
+    Ok(Some(tell(alloc, &made)?))
 }
 
 /// The site makes what it chooses. None where that is nothing.
@@ -109,7 +115,7 @@ pub fn make<L: Run>(
         return Ok(None);
     };
     let made = make_wide(alloc, site, tree, program, code, locked, pass, &chosen)?;
-    Ok(Some(tell(&made)))
+    Ok(Some(tell(alloc, &made)?))
 }
 
 // Whether the site has a request to go with this id.
@@ -143,7 +149,7 @@ pub fn go<L: Run>(
         return Ok(None);
     };
     let made = make_across(alloc, site, into, tree, program, code, locked, pass, &atom)?;
-    Ok(Some(tell(&made)))
+    Ok(Some(tell(alloc, &made)?))
 }
 
 // ---- what is left

@@ -6,14 +6,14 @@ ghost use Rattle.env_store.specs.Reading.{IsCodeOf};
 ghost use Rattle.shared_net.specs.Mail.{IsMessageText};
 
 use crate::plain::{Told, agree, go, go_on, holds, mail_of, make, react, root_of};
-use crate::texts::{FIRST, MOVED, WITHIN, atom, loc};
+use crate::texts::{FIRST, MOVED, SENT, WITHIN, atom, loc};
 use chem_model::{Items, Memory, Name, Program, Texts};
 use env_store::Code;
 use guard_compile::compile;
 use join_base::Front;
 use loc_tree::LocTree;
 use shared_net::inside::{choose, prepare};
-use shared_net::{Chosen, Locked, Opened, Passes, Run, Turn};
+use shared_net::{Chosen, Locked, Mails, Opened, Passes, Run, Turn};
 use site_solution::Site;
 use std::alloc::Global;
 use std::marker::Brand;
@@ -84,6 +84,45 @@ fn open<L: Run>(
 {
     let begun = begin::<L>(alloc, program, code, blank)?;
     Ok(Box::into_inner(begun).opening)
+}
+
+// ---- the mail of an opening
+
+/// How many messages wait in the mail of each of two sites, by a copy of it.
+fn waiting(alloc: Global, mail: &Mails) -> Result<[usize; 2], Memory> {
+    let copy = mail.copy(alloc)?;
+    match copy.as_slice() {
+        [first, second] => Ok([first.len(), second.len()]),
+        _ => Err(Memory),
+    }
+}
+
+fn open_mail<L: Run>(
+    alloc: Global,
+    program: &Program,
+    code: &Code,
+    blank: Blank,
+) -> Result<[usize; 2], Memory>
+    requires code { IsCodeOf program.now code.now }
+    requires name { blank.name ≡ L.name }
+    requires parts { blank.parts ≡ L.parts }
+    requires one { blank.parts ≡ 1 }
+    requires program { program.now ≡ L.program }
+{
+    let (opened, passes) = prepare::<L>(alloc, program, code, 1, 10, blank)?;
+    drop(passes);
+    waiting(alloc, &opened.mail)
+}
+
+fn sent(alloc: Global) -> Result<[usize; 2], Front> {
+    let program = program_of(alloc, SENT.as_bytes())?;
+    let code = Box::new(alloc, compile(alloc, &program)?)?;
+    Ok(open_mail::<Brand>(alloc, &program, &code, Blank::new(1))?)
+}
+
+#[test]
+fn the_mail_of_an_opening(rt: HostRuntime) {
+    assert_eq!(rt; sent(rt.alloc()), Ok([0, 1]));
 }
 
 // ---- a reaction, and the same reaction once more
