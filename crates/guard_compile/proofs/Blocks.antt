@@ -16,8 +16,8 @@ use Rattle.guard_compile.specs.declared.layout.Opened.{Opened}
 use Rattle.guard_compile.specs.declared.write.At.{At}
 use Rattle.guard_compile.specs.declared.write.Piece.{Piece}
 use Rattle.guard_compile.specs.declared.write.Defined.{Defined}
-use Rattle.guard_compile.specs.inside.Written.{Wrote, behind, inside, no_definitions, with_body, write}
-use Rattle.guard_compile.specs.inside.Written.{write_defs, write_def}
+use Rattle.guard_compile.specs.Written.{Wrote, behind, inside, no_definitions, with_body, write}
+use Rattle.guard_compile.specs.Written.{write_defs, write_def}
 use Rattle.guard_compile.specs.inside.Appends.{Appends, AppendsDefined, AreBlockNames, guard_with, whole_block, whole_place, place_defs, place_process, in_place, place_level}
 
 pub take_front : (xs ys : List ℕ) → take (length xs) (xs ++ ys) ≡ xs

@@ -17,10 +17,10 @@ use Rattle.env_store.specs.CodeParts.{CodeParts}
 use Rattle.env_store.specs.Running.{NumberedLevel, with_level, numbered_levels}
 use Rattle.env_store.specs.CodeFacts.{IsBelow, AreBelow, IsBlockBelow, Falls, BodiesFall}
 use Rattle.guard_compile.specs.declared.write.At.{At}
-use Rattle.guard_compile.specs.inside.Written.{join, behind, inside, body_piece, level_piece}
-use Rattle.guard_compile.specs.inside.Written.{block_piece, level_of, Wrote, with_body, write}
-use Rattle.guard_compile.specs.inside.Written.{write_all, write_defs, write_def, site_piece}
-use Rattle.guard_compile.specs.inside.Written.{write_sites, code_of}
+use Rattle.guard_compile.specs.Written.{join, behind, inside, body_piece, level_piece}
+use Rattle.guard_compile.specs.Written.{block_piece, level_of, Wrote, with_body, write}
+use Rattle.guard_compile.specs.Written.{write_all, write_defs, write_def, site_piece}
+use Rattle.guard_compile.specs.Written.{write_sites, code_of}
 use Rattle.guard_compile.proofs.From.{Holds, holds_left, holds_right}
 use Rattle.guard_compile.proofs.WrittenReads.{block_after, level_after, next_is, next_is_all, next_is_defs, next_is_def, guards_long}
 use Rattle.guard_compile.proofs.CodeRead.{has_all, sat, sd, sw, sfront, front_next, defs_next, site_next}

@@ -13,10 +13,10 @@ use Rattle.env_store.specs.declared.code.Block.{Block}
 use Rattle.env_store.specs.Layout.{rules_in, new_channels, place_order, place_in, order, LevelTerm, levels_of, levels_of_all, levels_of_defs, levels_of_def, levels_of_site, levels_of_sites, levels_of_program, all_rules}
 use Rattle.env_store.specs.CodeParts.{CodeParts}
 use Rattle.guard_compile.specs.declared.write.At.{At}
-use Rattle.guard_compile.specs.inside.Written.{join, behind, inside, body_piece, level_piece}
-use Rattle.guard_compile.specs.inside.Written.{block_piece, level_of, with_body, write, write_all}
-use Rattle.guard_compile.specs.inside.Written.{write_defs, write_def, site_piece, write_sites}
-use Rattle.guard_compile.specs.inside.Written.{code_of}
+use Rattle.guard_compile.specs.Written.{join, behind, inside, body_piece, level_piece}
+use Rattle.guard_compile.specs.Written.{block_piece, level_of, with_body, write, write_all}
+use Rattle.guard_compile.specs.Written.{write_defs, write_def, site_piece, write_sites}
+use Rattle.guard_compile.specs.Written.{code_of}
 use Rattle.guard_compile.proofs.From.{Holds, holds_left, holds_right}
 use Rattle.guard_compile.proofs.WrittenReads.{block_after, level_after, next_is, next_is_defs, next_is_def, levels_long, levels_long_defs, levels_long_def, guards_long}
 use Rattle.guard_compile.proofs.CodeRead.{has_all, sat, sd, sw, sfront, front_next, defs_next, site_next}

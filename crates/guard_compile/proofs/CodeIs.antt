@@ -9,7 +9,7 @@ use Rattle.env_store.specs.Layout.{LevelTerm, levels_of_program, all_rules}
 use Rattle.env_store.specs.CodeParts.{CodeParts}
 use Rattle.env_store.specs.Reading.{ReadsLevel, IsCodeOf}
 use Rattle.guard_compile.specs.declared.write.At.{At}
-use Rattle.guard_compile.specs.inside.Written.{write_sites, code_of}
+use Rattle.guard_compile.specs.Written.{write_sites, code_of}
 use Rattle.guard_compile.proofs.From.{Holds}
 use Rattle.guard_compile.proofs.WrittenReads.{LevelReads}
 use Rattle.guard_compile.proofs.CodeRead.{has_all, sites_read, level_found, sites_levels, sites_long}

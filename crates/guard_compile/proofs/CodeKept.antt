@@ -10,7 +10,7 @@ use Rattle.chem_model.specs.declared.name.Pat.{Pat}
 use Rattle.chem_model.specs.declared.program.SeenDecl.{SeenDecl}
 use Rattle.chem_model.specs.declared.program.SiteTerm.{SiteTerm}
 use Rattle.chem_model.specs.Process as term
-use Rattle.chem_model.specs.Process.{Process, Definition, Rule, Place, Definitions, no_definition, and_also}
+use Rattle.chem_model.specs.Process.{Process, Rule, Place, Definitions, no_definition, and_also}
 use Rattle.chem_model.specs.Binders.{params_of, nodes, definition_nodes}
 use Rattle.chem_model.specs.Each.{Each}
 use Rattle.chem_model.specs.Fill.{Naming, name_at}
@@ -35,7 +35,7 @@ use Rattle.env_store.proofs.NamingOrder.{order_is}
 use Rattle.env_store.proofs.Pouring.{laid_next, body_pours, site_pours}
 use Rattle.env_store.proofs.ReadSites.{site_read}
 use Rattle.env_store.proofs.SitePlaces.{program_sites}
-use Rattle.guard_compile.specs.inside.Written.{code_of}
+use Rattle.guard_compile.specs.Written.{code_of}
 use Rattle.guard_compile.proofs.CodeFalls.{code_falls}
 use Rattle.guard_compile.proofs.CodeIs.{code_is}
 use Rattle.guard_compile.proofs.Placed.{PlaceHasBody, LevelPlaced, code_placed}

@@ -11,9 +11,9 @@ use Rattle.env_store.specs.Reading.{ReadsSite, ReadsSites}
 use Rattle.guard_compile.specs.declared.write.At.{At}
 use Rattle.guard_compile.specs.declared.write.Piece.{Piece}
 use Rattle.guard_compile.specs.declared.write.Defined.{Defined}
-use Rattle.guard_compile.specs.inside.Written.{join, behind, inside, above, body_piece, block_piece}
-use Rattle.guard_compile.specs.inside.Written.{level_of, Wrote, with_body, write, write_defs}
-use Rattle.guard_compile.specs.inside.Written.{write_sites}
+use Rattle.guard_compile.specs.Written.{join, behind, inside, above, body_piece, block_piece}
+use Rattle.guard_compile.specs.Written.{level_of, Wrote, with_body, write, write_defs}
+use Rattle.guard_compile.specs.Written.{write_sites}
 use Rattle.guard_compile.proofs.From.{after, HasFrom, has_left, has_right, Holds, holds_left, holds_right}
 use Rattle.guard_compile.proofs.Slotted.{Slotted, DefsSlotted}
 use Rattle.guard_compile.proofs.WrittenReads.{LevelReads, after_join, body_after, block_after, next_is, next_is_defs, guards_long, levels_long, levels_long_defs, defs_level, term_level, places_read, body_reads, rules_read, LevelsRead, levels_joined, levels_read, levels_read_defs}

@@ -4,7 +4,7 @@ use Rattle.std.specs.Prelude.{slice_get}
 use Rattle.env_store.specs.CodeParts.{CodeParts}
 use Rattle.guard_compile.specs.declared.write.At.{At}
 use Rattle.guard_compile.specs.declared.write.Piece.{Piece}
-use Rattle.guard_compile.specs.inside.Written.{join}
+use Rattle.guard_compile.specs.Written.{join}
 
 abbrev pub HasFrom : {X : Type 0} → List X → ℕ → List X → Type 0
 HasFrom xs n [] = Unit {0}

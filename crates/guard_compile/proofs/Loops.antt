@@ -10,7 +10,7 @@ use Rattle.env_store.specs.Layout.{place_in, places_order}
 use Rattle.guard_compile.specs.declared.write.At.{At}
 use Rattle.guard_compile.specs.declared.write.Piece.{Piece}
 use Rattle.guard_compile.specs.declared.write.Defined.{Defined}
-use Rattle.guard_compile.specs.inside.Written.{with_bit, with_bits, WroteSites, join, no_piece, zero_at, write, write_all, write_defs, write_def, site_piece, site_code, write_sites}
+use Rattle.guard_compile.specs.Written.{with_bit, with_bits, WroteSites, join, no_piece, zero_at, write, write_all, write_defs, write_def, site_piece, site_code, write_sites}
 use Rattle.guard_compile.specs.inside.Appends.{Appends, AppendsDefined}
 
 -- the rest of a list begins with the member at its place
@@ -98,9 +98,6 @@ module _ (tops : Naming) (old : Piece) (begun : List Instr) (y : List ℕ) (whol
     pub written_instrs : is ≡ begun ++ (write_all tops old.next y (processes whole)).instrs
     written_instrs = sym (append_nil is) ∙ ended.1.0
 
-    pub written_layout : z ≡ y
-    written_layout = ended.1.1
-
 -- ---- definitions
 
 abbrev pub Defining : Naming → ℕ → ℕ → List ℕ → Defined → ℕ → List ℕ → List ℕ → List Definition → Defined → ℕ → List ℕ → List ℕ → List Definition → Type 0
@@ -150,9 +147,6 @@ module _ (tops : Naming) (block level : ℕ) (channels : List ℕ) (old : Define
 
     pub defined_named : named ≡ acc ++ places_order acc (definitions whole)
     defined_named = sym (append_nil named) ∙ ended_defs.1.1.1.0
-
-    pub defined_layout : z ≡ y
-    defined_layout = ended_defs.1.1.1.1
 
 -- ---- sites
 

@@ -11,8 +11,8 @@ use Rattle.chem_model.specs.Each.{Each}
 use Rattle.chem_model.specs.Binders.{is_among}
 use Rattle.env_store.specs.Masks.{has_bit, number_of_words, IsMask}
 use Rattle.env_store.specs.Reading.{position_from}
-use Rattle.guard_compile.specs.inside.Written.{channel_of, channels_of, with_bit, with_bits}
-use Rattle.guard_compile.specs.inside.Written.{mask_of}
+use Rattle.guard_compile.specs.Written.{channel_of, channels_of, with_bit, with_bits}
+use Rattle.guard_compile.specs.Written.{mask_of}
 use Rattle.guard_compile.proofs.Slotted.{IsChannel, channel_is}
 
 -- ---- one bit

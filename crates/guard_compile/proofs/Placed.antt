@@ -24,10 +24,10 @@ use Rattle.env_store.proofs.Pouring.{level_counts}
 use Rattle.guard_compile.specs.declared.write.At.{At}
 use Rattle.guard_compile.specs.declared.write.Piece.{Piece}
 use Rattle.guard_compile.specs.declared.write.Defined.{Defined}
-use Rattle.guard_compile.specs.inside.Written.{join, behind, inside, body_piece, level_piece}
-use Rattle.guard_compile.specs.inside.Written.{block_piece, level_of, Wrote, with_body, write}
-use Rattle.guard_compile.specs.inside.Written.{write_all, write_defs, write_def, site_piece}
-use Rattle.guard_compile.specs.inside.Written.{write_sites, code_of}
+use Rattle.guard_compile.specs.Written.{join, behind, inside, body_piece, level_piece}
+use Rattle.guard_compile.specs.Written.{block_piece, level_of, Wrote, with_body, write}
+use Rattle.guard_compile.specs.Written.{write_all, write_defs, write_def, site_piece}
+use Rattle.guard_compile.specs.Written.{write_sites, code_of}
 use Rattle.guard_compile.proofs.From.{after, Holds, holds_left, holds_right}
 use Rattle.guard_compile.proofs.Slotted.{Slotted, AllSlotted, DefsSlotted, DefSlotted}
 use Rattle.guard_compile.proofs.WrittenReads.{block_after, level_after, next_is, next_is_defs, next_is_def, guards_long}

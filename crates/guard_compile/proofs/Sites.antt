@@ -10,8 +10,8 @@ use Rattle.guard_compile.specs.declared.layout.Opened.{Opened}
 use Rattle.guard_compile.specs.declared.write.At.{At}
 use Rattle.guard_compile.specs.declared.write.Piece.{Piece}
 use Rattle.guard_compile.specs.declared.write.Defined.{Defined}
-use Rattle.guard_compile.specs.inside.Written.{Wrote, behind, inside, above, no_definitions}
-use Rattle.guard_compile.specs.inside.Written.{with_body, write, write_defs, site_body, site_piece}
+use Rattle.guard_compile.specs.Written.{Wrote, behind, inside, above, no_definitions}
+use Rattle.guard_compile.specs.Written.{with_body, write, write_defs, site_body, site_piece}
 use Rattle.guard_compile.specs.inside.Appends.{Appends, AppendsDefined, AreBlockNames, whole_block}
 
 -- definitions under no layout

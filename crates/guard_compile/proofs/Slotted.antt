@@ -11,8 +11,8 @@ use Rattle.chem_model.specs.Each.{Each}
 use Rattle.env_store.specs.declared.code.Slot.{Slot}
 use Rattle.env_store.specs.Layout.{new_channels, place_order, place_in, order}
 use Rattle.env_store.specs.Reading.{position, slot_of, AreSlots, AreChannels, ChannelsAt, PlacesAt}
-use Rattle.guard_compile.specs.inside.Written.{some_slot, some_place, channel_of, channels_of}
-use Rattle.guard_compile.specs.inside.Written.{slot_or, slots_or}
+use Rattle.guard_compile.specs.Written.{some_slot, some_place, channel_of, channels_of}
+use Rattle.guard_compile.specs.Written.{slot_or, slots_or}
 
 -- the channel is one of the level
 abbrev pub IsChannel : List ℕ → Ref → Type 0

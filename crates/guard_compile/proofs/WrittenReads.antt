@@ -16,10 +16,10 @@ use Rattle.env_store.specs.Reading.{ReadsPlaces, Reads, ReadsAll, ReadsBody, Rea
 use Rattle.guard_compile.specs.declared.write.At.{At}
 use Rattle.guard_compile.specs.declared.write.Piece.{Piece}
 use Rattle.guard_compile.specs.declared.write.Defined.{Defined}
-use Rattle.guard_compile.specs.inside.Written.{no_piece, join, body_piece, above, level_piece}
-use Rattle.guard_compile.specs.inside.Written.{block_piece, behind, inside, Wrote, slot_or}
-use Rattle.guard_compile.specs.inside.Written.{slots_or, with_body, guard_of, level_of, write}
-use Rattle.guard_compile.specs.inside.Written.{write_all, write_defs, write_def}
+use Rattle.guard_compile.specs.Written.{no_piece, join, body_piece, above, level_piece}
+use Rattle.guard_compile.specs.Written.{block_piece, behind, inside, Wrote, slot_or}
+use Rattle.guard_compile.specs.Written.{slots_or, with_body, guard_of, level_of, write}
+use Rattle.guard_compile.specs.Written.{write_all, write_defs, write_def}
 use Rattle.guard_compile.proofs.From.{after, HasFrom, has_left, has_right, Holds, holds_left, holds_right}
 use Rattle.guard_compile.proofs.Masked.{mask_is}
 use Rattle.guard_compile.proofs.Slotted.{Slotted, AllSlotted, DefsSlotted, DefSlotted, slot_is, slots_are, channels_are}

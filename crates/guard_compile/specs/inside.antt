@@ -1,4 +1,3 @@
-pub mod Written
 pub mod Drawing
 pub mod Appends
 pub mod Counted

@@ -5,7 +5,7 @@ ghost use Rattle.chem_model.specs.Binders.{binder_of, params_of};
 ghost use Rattle.env_store.specs.Layout.{new_ref, count_ref, new_in, counts_in, new_channels};
 ghost use Rattle.env_store.specs.Layout.{new_counts, place_order, places_order};
 ghost use Rattle.guard_compile.specs.inside.Appends.{AreBlockNames};
-ghost use Rattle.guard_compile.specs.inside.Written.{slot_or, slots_or, channel_of, channels_of};
+ghost use Rattle.guard_compile.specs.Written.{slot_or, slots_or, channel_of, channels_of};
 
 use crate::binders::Binders;
 use crate::names::NameTable;

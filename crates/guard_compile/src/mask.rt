@@ -1,6 +1,6 @@
 // Masks: words of 64 bits.
 ghost use Rattle.std.specs.Prelude.{◌≡◌, ◌<◌, ◌^◌, IfOk, length};
-ghost use Rattle.guard_compile.specs.inside.Written.{with_bit, mask_of};
+ghost use Rattle.guard_compile.specs.Written.{with_bit, mask_of};
 
 use chem_model::{Items, Memory, Nums};
 use env_store::Bits;

@@ -3,8 +3,8 @@ ghost use Rattle.std.specs.Prelude.{◌≡◌, ◌++◌, ℕ, IfOk, OnOk, length
 ghost use Rattle.chem_model.specs.Fill.{name_at};
 ghost use Rattle.chem_model.specs.Opening.{site_names, counts_of};
 ghost use Rattle.env_store.specs.Reading.{locs_in, IsCodeOf};
-ghost use Rattle.guard_compile.specs.inside.Written.{write_sites as written_sites, code_of};
-ghost use Rattle.guard_compile.specs.inside.Written.{zero_at};
+ghost use Rattle.guard_compile.specs.Written.{write_sites as written_sites, code_of};
+ghost use Rattle.guard_compile.specs.Written.{zero_at};
 ghost use Rattle.guard_compile.specs.inside.Appends.{Appends};
 
 use crate::names::{NameTable, site_names};
@@ -105,9 +105,10 @@ fn code(alloc: Global, program: &Program, tops: &NameTable) -> Result<Code, Memo
     })
 }
 
-/// The code of a program. It reads as the program.
+/// The code of a program: the one that `code_of` names. It reads as the program.
 pub fn compile(alloc: Global, program: &Program) -> Result<Code, Memory>
-    ensures { IfOk result (λ code. IsCodeOf program.now code) }
+    ensures is { IfOk result (λ code. code ≡ code_of program.now) }
+    ensures reads { IfOk result (λ code. IsCodeOf program.now code) }
 {
     let _ = &program.tops;
     let tops = site_names(alloc, &program.sites)?;

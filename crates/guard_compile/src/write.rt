@@ -2,12 +2,12 @@
 ghost use Rattle.std.specs.Prelude.{◌≡◌, [], ◌∷◌, ◌++◌, ◌+◌, IfOk, OnOk, Some, length};
 ghost use Rattle.chem_model.specs.Process.{definitions, processes, Def, Rule, Place};
 ghost use Rattle.env_store.specs.Layout.{place_in, places_order};
-ghost use Rattle.guard_compile.specs.inside.Written.{behind, inside, above};
-ghost use Rattle.guard_compile.specs.inside.Written.{no_definitions, no_piece};
-ghost use Rattle.guard_compile.specs.inside.Written.{write as written, write_all as written_all};
-ghost use Rattle.guard_compile.specs.inside.Written.{write_def as written_def};
-ghost use Rattle.guard_compile.specs.inside.Written.{write_defs as written_defs};
-ghost use Rattle.guard_compile.specs.inside.Written.{with_body, site_piece, site_code};
+ghost use Rattle.guard_compile.specs.Written.{behind, inside, above};
+ghost use Rattle.guard_compile.specs.Written.{no_definitions, no_piece};
+ghost use Rattle.guard_compile.specs.Written.{write as written, write_all as written_all};
+ghost use Rattle.guard_compile.specs.Written.{write_def as written_def};
+ghost use Rattle.guard_compile.specs.Written.{write_defs as written_defs};
+ghost use Rattle.guard_compile.specs.Written.{with_body, site_piece, site_code};
 ghost use Rattle.guard_compile.specs.inside.Appends.{Appends, AppendsDefined, IsBegun};
 ghost use Rattle.guard_compile.specs.inside.Appends.{whole_block, whole_place, in_place};
 ghost use Rattle.guard_compile.specs.inside.Appends.{place_level, guard_with};

@@ -4,3 +4,4 @@ pub mod Leaving
 pub mod Long
 pub mod Reading
 pub mod Stopping
+pub mod OneRun

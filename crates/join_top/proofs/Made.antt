@@ -1,5 +1,5 @@
 -- What each command makes of a program's book, and of the network of its code.
-use Rattle.std.proofs.Common.{◌≡◌, ℕ, ◌≤◌, List, [], Result, Ok, Err, Some, IfOk, refl, sym, subst, length}
+use Rattle.std.proofs.Common.{◌≡◌, ◌∙◌, ℕ, ◌≤◌, List, [], Result, Ok, Err, Some, IfOk, refl, sym, subst, length}
 use Rattle.chem_model.specs.declared.event.Event.{Event}
 use Rattle.chem_model.specs.declared.numbered.Numbered.{Numbered}
 use Rattle.chem_model.specs.declared.memory.Memory.{Memory}
@@ -10,7 +10,8 @@ use Rattle.env_store.specs.CodeFacts.{IsCode}
 use Rattle.env_store.specs.Reading.{IsCodeOf}
 use Rattle.env_store.specs.Laws.{rules_of_group}
 use Rattle.net_laws.specs.Net.{Stands}
-use Rattle.net_laws.specs.Opened.{opened_net, OpenedStands, RunsCode}
+use Rattle.net_laws.specs.Opened.{opened_net, RunsCode}
+use Rattle.guard_compile.specs.Written.{code_of}
 use Rattle.net_core.specs.Rounds.{RoundsReplay}
 use Rattle.net_core.specs.Whole.{NetParts}
 use Rattle.trace_history.specs.Kept.{BookKept}
@@ -53,56 +54,57 @@ module _ (p : ProgramTerms) (workers budget : ℕ) where
       made
 
   module _ (fine : IsProgram p) where
-    rounds_within : RoundsReplay → (journal : List Event) → RoundsOf p budget journal → length journal ≤ budget
-    rounds_within law journal (c, is_code, of_program, end, schedule) = (law p c fine is_code of_program budget journal end schedule).within
+    rounds_within : RoundsReplay → (c : CodeParts) (journal : List Event) → RoundsOf p c budget journal → length journal ≤ budget
+    rounds_within law c journal (is_code, of_program, end, schedule) = (law p c fine is_code of_program budget journal end schedule).within
 
     -- a run in rounds from there
-    rounds_begun : RoundsReplay → (net : NetParts) → net.net ≡ opened_net net.code → (r : Result Done Memory)
+    rounds_begun : RoundsReplay → (net : NetParts) → net.net ≡ opened_net net.code → net.code ≡ code_of p → (r : Result Done Memory)
         → IfOk r (λ (d : Done). RunsInRounds net (begun p) budget d.book)
-        → IfOk r (λ (d : Done). (begun p).journal ≡ [] → net.net ≡ opened_net net.code → RoundsOf (begun p).program budget d.book.journal)
+        → IfOk r (λ (d : Done). (begun p).journal ≡ [] → net.net ≡ opened_net net.code → RoundsOf (begun p).program net.code budget d.book.journal)
         → IfOk r (λ (d : Done). d.how ≡ how.Rounds)
         → IfOk r (IsRunBy by.Rounds workers budget p)
-    rounds_begun law net opened (Err e) runs whole made = tt
-    rounds_begun law net opened (Ok d) runs whole made = record {
-      finished = record { program = runs.program; within = rounds_within law d.book.journal (whole refl opened); ends = runs.ends };
-      made = (whole refl opened, made);
+    rounds_begun law net opened code (Err e) runs whole made = tt
+    rounds_begun law net opened code (Ok d) runs whole made = record {
+      finished = record { program = runs.program; within = rounds_within law net.code d.book.journal (whole refl opened); ends = runs.ends };
+      made = (subst (λ (c : CodeParts). RoundsOf p c budget d.book.journal) code (whole refl opened), made);
     }
 
-    pub rounds_made : RoundsReplay → (net : NetParts) → net.net ≡ opened_net net.code → (book : BookKept) (r : Result Done Memory) → book ≡ begun p
+    pub rounds_made : RoundsReplay → (net : NetParts) → net.net ≡ opened_net net.code → net.code ≡ code_of p → (book : BookKept) (r : Result Done Memory) → book ≡ begun p
         → IfOk r (λ (d : Done). RunsInRounds net book budget d.book)
-        → IfOk r (λ (d : Done). book.journal ≡ [] → net.net ≡ opened_net net.code → RoundsOf book.program budget d.book.journal)
+        → IfOk r (λ (d : Done). book.journal ≡ [] → net.net ≡ opened_net net.code → RoundsOf book.program net.code budget d.book.journal)
         → IfOk r (λ (d : Done). d.how ≡ how.Rounds)
         → IfOk r (IsRunBy by.Rounds workers budget p)
-    rounds_made law net opened book r e runs whole made =
-        rounds_begun law net opened r
+    rounds_made law net opened code book r e runs whole made =
+        rounds_begun law net opened code r
         (subst (λ (b : BookKept). IfOk r (λ (d : Done). RunsInRounds net b budget d.book)) e runs)
-        (subst (λ (b : BookKept). IfOk r (λ (d : Done). b.journal ≡ [] → net.net ≡ opened_net net.code → RoundsOf b.program budget d.book.journal)) e whole)
+        (subst (λ (b : BookKept). IfOk r (λ (d : Done). b.journal ≡ [] → net.net ≡ opened_net net.code → RoundsOf b.program net.code budget d.book.journal)) e whole)
         made
 
 same_member : (n m : Numbered) → Some n ≡ Some m → n ≡ m
 same_member n m e = cc
 
--- the network that is opened from a code of the program
-pub net_begun : (p : ProgramTerms) (c : CodeParts) → IsCode c → IsCodeOf p c → (r : Result NetParts Memory)
+-- the network that is opened from the program's code
+pub net_begun : (p : ProgramTerms) (c : CodeParts) → c ≡ code_of p → IsCode c → IsCodeOf p c → (r : Result NetParts Memory)
     → IfOk r (λ (net : NetParts). net.net ≡ opened_net c) → IfOk r (λ (net : NetParts). net.code ≡ c) → IfOk r (λ (net : NetParts). net.events ≡ 0)
-    → IfOk r (λ (net : NetParts). Stands (rules_of_group p) net.net (opening p)) → IfOk r (IsBegun p)
-net_begun p c is_code of_program (Err e) opened code events stands = tt
-net_begun p c is_code of_program (Ok net) opened code events stands = record {
+    → IfOk r (λ (net : NetParts). Stands (rules_of_group p) net.net (opening p)) → IfOk r (λ (net : NetParts). RunsCode p net.code net.net) → IfOk r (IsBegun p)
+net_begun p c is is_code of_program (Err e) opened code events stands runs = tt
+net_begun p c is is_code of_program (Ok net) opened code events stands runs = record {
+  code = code ∙ is;
   is_code = subst IsCode (sym code) is_code;
   of_program = subst (IsCodeOf p) (sym code) of_program;
   opened = subst (λ (x : CodeParts). net.net ≡ opened_net x) (sym code) opened;
   events = events;
   stands = stands;
+  runs = runs;
 }
 
 -- the opening of a program's network and its book without an event stand for one solution
-pub begun_stand : OpenedStands → (p : ProgramTerms) → IsProgram p → (net : NetParts) → IsBegun p net → (book : BookKept) → book ≡ begun p → StandForOne book net
-begun_stand law p fine net is book e =
-    let runs : RunsCode p net.code (opened_net net.code) = (law p net.code fine is.is_code is.of_program).1 in
+pub begun_stand : (p : ProgramTerms) (net : NetParts) → IsBegun p net → (book : BookKept) → book ≡ begun p → StandForOne book net
+begun_stand p net is book e =
     let at : StandForOne (begun p) net = record {
       of_program = is.of_program;
       stand = λ n h. subst (Stands (rules_of_group p) net.net) (same_member (opening p) n h) is.stands;
-      runs = subst (RunsCode p net.code) (sym is.opened) runs;
+      runs = is.runs;
       counted = is.events;
     } in
     subst (λ (b : BookKept). StandForOne b net) (sym e) at

@@ -20,10 +20,6 @@ use Rattle.join_top.specs.Text.{IsRefusal, lexical, grammatical, of_the_tree, Is
 use Rattle.join_top.specs.Text.{HasOneOutcome}
 use Rattle.join_top.specs.inside.Text.{NamesRefusal}
 
-pub by_bytes : (text : List ℕ) (e : Front) → NamesFault first_version e text → NamesRefusal text e
-by_bytes text (front.Refused kind place) h = lexical h
-by_bytes text front.Memory h = tt
-
 pub by_tokens : (text : List ℕ) (t : TokensOfText) (e : Front) → AreTokensOf first_version t text → grammar.IsRefusedAs most_levels t.length t.list e → NamesRefusal text e
 by_tokens text t (front.Refused kind place) are h = grammatical t are h
 by_tokens text t front.Memory are h = tt

@@ -9,12 +9,13 @@ use Rattle.join_base.specs.Counts.{Rose}
 use Rattle.join_base.specs.declared.fault.Kind.{Kind}
 use Rattle.chem_model.specs.declared.event.Event.{Event}
 use Rattle.chem_model.specs.declared.numbered.Numbered.{Numbered}
-use Rattle.chem_model.specs.ProgramFacts.{ProgramTerms}
+use Rattle.chem_model.specs.ProgramFacts.{ProgramTerms, IsProgram}
 use Rattle.chem_model.specs.Reduction.{Quiet}
 use Rattle.chem_model.specs.Runs.{IsRun}
 use Rattle.chem_model.specs.Numbered.{erase}
 use Rattle.chem_model.specs.Apply.{replay, states}
 use Rattle.chem_model.specs.Laws.{erase_all}
+use Rattle.guard_compile.specs.Written.{code_of}
 use Rattle.site_runner.specs.Schedule.{ScheduleOf}
 use Rattle.site_runner.specs.Rounds.{RoundsOf}
 use Rattle.site_runner.specs.Free.{IsFree, first_workers}
@@ -147,9 +148,18 @@ pub record Keeps (words : Words) (told : Option (List ℕ)) (ended : Ended) : Ty
 abbrev pub IsMadeBy : By → (workers budget : ℕ) → ProgramTerms → (journal : List Event) → How
     → Type 0
 IsMadeBy Alone workers budget p journal made = ScheduleOf p budget journal × (made ≡ how.Alone)
-IsMadeBy Rounds workers budget p journal made = RoundsOf p budget journal × (made ≡ how.Rounds)
+IsMadeBy Rounds workers budget p journal made =
+    RoundsOf p (code_of p) budget journal × (made ≡ how.Rounds)
 IsMadeBy Run workers budget p journal made =
     IsFree (length p.sites) (first_workers workers) p budget journal made
+
+-- such a command makes one run of a program for each budget, however many workers there are
+abbrev pub MakesOneRun : By → Type 0
+MakesOneRun by =
+    (p : ProgramTerms) → IsProgram p → (workers others budget : ℕ)
+    → (journal other : List Event) (how told : How)
+    → IsMadeBy by workers budget p journal how → IsMadeBy by others budget p other told
+    → journal ≡ other
 
 -- the run that is kept is made by the command that the words ask for
 pub record IsMadeAsAsked (words : Words) (kept : Kept) : Type 0 where

@@ -9,7 +9,7 @@ mod task;
 mod text;
 mod top;
 
-pub use making::begin;
+pub use making::{begin, one_run};
 pub use ring_source::ring_text;
 pub use run::Kept;
 pub use shared_net::{Gate, HoldGate, OpenGate, Phase};

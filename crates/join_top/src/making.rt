@@ -1,19 +1,20 @@
 // The run that is asked for: on one thread, in rounds, or on free threads.
 ghost use Rattle.std.specs.Prelude.{◌≡◌, ◌≤◌, [], IfOk};
+ghost use Rattle.guard_compile.specs.Written.{code_of};
 ghost use Rattle.net_laws.specs.Opened.{opened_net};
 ghost use Rattle.site_runner.specs.Rounds.{StandForOne};
 ghost use Rattle.join_words.specs.Asks.{IsWithin};
 ghost use Rattle.join_words.specs.declared.answer.By.TheVariants as by;
+ghost use Rattle.join_top.specs.RunJoin.{MakesOneRun};
 ghost use Rattle.join_top.specs.inside.Begun.{IsBegun};
 ghost use Rattle.join_top.specs.inside.Ran.{IsRunBy};
 
 use chem_model::{Memory, Program};
 use guard_compile::compile;
 use join_words::{Asked, By};
-use net_core::{Net, rounds_replay};
-use net_laws::opened_stands;
+use net_core::{Net, rounds_replay, schedules_of_rounds_are_one};
 use shared_net::Gate;
-use site_runner::{Done, FreeTeam, Team, alone};
+use site_runner::{Done, FreeTeam, Team, alone, one_schedule};
 use std::alloc::Global;
 use trace_history::Book;
 
@@ -37,6 +38,16 @@ pub fn make<G: Gate, T: Team + FreeTeam<G>>(
     }
 }
 
+/// On one thread, and in rounds, a program has one run for each budget: how many workers there are
+/// makes no difference. It does nothing.
+pub fn one_run()
+    ensures alone { MakesOneRun by.Alone }
+    ensures rounds { MakesOneRun by.Rounds }
+{
+    one_schedule();
+    schedules_of_rounds_are_one();
+}
+
 /// The run on one thread, from the program's book.
 fn on_one_thread(alloc: Global, asked: &Asked, program: &Program) -> Result<Done, Memory>
     ensures { IfOk result (IsRunBy by.Alone asked.now.workers asked.now.budget program.now) }
@@ -49,12 +60,11 @@ fn on_one_thread(alloc: Global, asked: &Asked, program: &Program) -> Result<Done
 /// solution, as the run in rounds needs it.
 pub fn begin(alloc: Global, program: &Program) -> Result<(Net, Book), Memory>
     ensures one { IfOk result (λ begun. StandForOne begun.1 begun.0) }
+    ensures code { IfOk result (λ begun. begun.0.code ≡ code_of program.now) }
     ensures opened { IfOk result (λ begun. begun.0.net ≡ opened_net begun.0.code) }
     ensures book { IfOk result (λ begun.
         begun.1 ≡ record { program = program.now; journal = [] }) }
 {
-    opened_stands();
-    let _tops = &program.tops;
     let book = Book::start(alloc, program)?;
     match net_of(alloc, program) {
         Ok(net) => Ok((net, book)),

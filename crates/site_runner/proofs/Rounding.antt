@@ -574,8 +574,8 @@ module _ (law : StuckIsQuiet) (budget : ℕ) (net end : NetParts) (book after : 
     ends = run_ends;
   }
 
-  pub whole : book.journal ≡ [] → net.net ≡ opened_net net.code → RoundsOf book.program budget after.journal
-  whole empty opened = (net.code, o.is_code, o.of_program, end.net, schedule)
+  pub whole : book.journal ≡ [] → net.net ≡ opened_net net.code → RoundsOf book.program net.code budget after.journal
+  whole empty opened = (o.is_code, o.of_program, end.net, schedule)
     where
       left : budget - length book.journal ≡ budget
       left = let none : length book.journal ≡ 0 = ap length empty in omega arith

@@ -35,7 +35,7 @@ pub record RunsInRounds (net : NetParts) (old : BookKept) (budget : ℕ) (new : 
   pub within : length new.journal ≤ budget
   pub ends : IsStuck new ⊎ (length new.journal ≡ budget)
 
--- the schedule of a program's run in rounds
-abbrev pub RoundsOf : ProgramTerms → ℕ → List Event → Type 0
-RoundsOf p budget journal =
-    (c : CodeParts) × IsCode c × IsCodeOf p c × (end : Net) × ScheduleOfRounds c budget journal end
+-- the schedule of a program's run in rounds, by this code of the program
+abbrev pub RoundsOf : ProgramTerms → CodeParts → ℕ → List Event → Type 0
+RoundsOf p c budget journal =
+    IsCode c × IsCodeOf p c × (end : Net) × ScheduleOfRounds c budget journal end

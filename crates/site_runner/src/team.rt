@@ -43,7 +43,7 @@ pub trait Team {
         requires one { StandForOne book net }
         ensures run { IfOk result (λ done. RunsInRounds net book budget done.book) }
         ensures whole { IfOk result (λ done. book.journal ≡ [] → net.net ≡ opened_net net.code
-            → RoundsOf book.program budget done.book.journal) }
+            → RoundsOf book.program net.code budget done.book.journal) }
         ensures how { IfOk result (λ done. done.how ≡ how.Rounds) }
         ensures left { OnErr result (length book.journal < budget) };
 }

@@ -1,5 +1,5 @@
 use Rattle.std.proofs.Common.{◌≡◌, drop}
-use Rattle.guard_compile.specs.inside.Written.{with_bits, mask_of}
+use Rattle.guard_compile.specs.Written.{with_bits, mask_of}
 use Rattle.guard_compile.proofs.mask.mask.Given as goal
 
 abbrev pub invariant-loop-channel : goal.invariant-loop-channel

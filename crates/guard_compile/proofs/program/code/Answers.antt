@@ -2,7 +2,7 @@ use Rattle.std.proofs.Common.{◌≡◌, rules, sym, subst}
 use Rattle.chem_model.specs.ProgramFacts.{IsProgram}
 use Rattle.env_store.specs.CodeParts.{CodeParts}
 use Rattle.env_store.specs.CodeFacts.{IsCode}
-use Rattle.guard_compile.specs.inside.Written.{code_of}
+use Rattle.guard_compile.specs.Written.{code_of}
 use Rattle.guard_compile.proofs.CodeKept.{code_kept}
 use Rattle.guard_compile.proofs.program.code.Goals as goal
 

@@ -1,5 +1,5 @@
 use Rattle.std.proofs.Common.{◌+◌, ◌++◌, drop, ap, ◌∙◌, subst}
-use Rattle.guard_compile.specs.inside.Written.{write_sites}
+use Rattle.guard_compile.specs.Written.{write_sites}
 use Rattle.guard_compile.specs.inside.Appends.{Appends}
 use Rattle.guard_compile.proofs.Loops.{drop_at, drop_past, coding_none, coding_more, coded_piece, coded_sites}
 use Rattle.guard_compile.proofs.program.write_sites.Goals as goal

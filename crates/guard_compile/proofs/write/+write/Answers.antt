@@ -6,7 +6,7 @@ use Rattle.chem_model.specs.ProcessSize.{process_depth, definition_depth}
 use Rattle.chem_model.specs.Nodes.{process_of, definition_of}
 use Rattle.chem_model.specs.Members.{procs_depth-member, defs_depth-member}
 use Rattle.env_store.specs.Layout.{new_channels, places_order}
-use Rattle.guard_compile.specs.inside.Written.{behind, inside, write_all, write_defs}
+use Rattle.guard_compile.specs.Written.{behind, inside, write_all, write_defs}
 use Rattle.guard_compile.specs.inside.Appends.{Appends, AppendsDefined}
 use Rattle.guard_compile.proofs.Blocks.{block_written, block_instrs, cut_back, take_front, place_within, place_number, place_written, rule_written}
 use Rattle.guard_compile.proofs.Sites.{body_written, body_number}

@@ -1,5 +1,5 @@
 use Rattle.std.proofs.Common.{◌≡◌, IfOk, OnOk, subst}
-use Rattle.guard_compile.specs.inside.Written.{with_body, write}
+use Rattle.guard_compile.specs.Written.{with_body, write}
 use Rattle.guard_compile.specs.inside.Appends.{Appends}
 use Rattle.guard_compile.proofs.write.site_process.Goals as goal
 
