@@ -2,7 +2,7 @@
 ghost use denote.Param.Send.{IsSync};
 
 use crate::lines::{lines, no_lines};
-use crate::outcome::{Outcome, call};
+use crate::outcome::{Made, Outcome, call};
 use crate::refusals::refusals;
 use chem_model::Memory;
 use std::marker::Sync;
@@ -57,6 +57,34 @@ pub fn expect<R: AllocGlobal + Abort + Threads + Wait + Sync>(
     Ok(())
 }
 
+/// That a case ends as it says, run with these words, and so made.
+pub fn expect_made<R: AllocGlobal + Abort + Threads + Wait + Sync>(
+    rt: &R,
+    words: &[&str],
+    case: &Case,
+    made: Made,
+) -> Result<(), Fail>
+    requires { IsSync R.row }
+{
+    let outcome = outcome_of(rt, words, case)?;
+    outcome.expect_case(rt, case);
+    outcome.expect_made(rt, case.events.map(|_| made));
+    Ok(())
+}
+
+/// That each of these cases ends as it says, and is made on one thread.
+fn expect_all_alone<R: AllocGlobal + Abort + Threads + Wait + Sync>(
+    rt: &R,
+    cases: &[Case],
+) -> Result<(), Fail>
+    requires { IsSync R.row }
+{
+    for case in cases {
+        expect_made(rt, case.words, case, Made::Alone)?;
+    }
+    Ok(())
+}
+
 /// That each of these cases ends as it says.
 fn expect_all<R: AllocGlobal + Abort + Threads + Wait + Sync>(
     rt: &R,
@@ -73,7 +101,7 @@ fn expect_all<R: AllocGlobal + Abort + Threads + Wait + Sync>(
 #[test]
 fn worked_texts_alone(rt: HostRuntime) -> Result<(), Fail> {
     for cases in runs() {
-        expect_all(&rt, cases)?;
+        expect_all_alone(&rt, cases)?;
     }
     Ok(())
 }
@@ -118,7 +146,7 @@ fn lines_of_words(rt: HostRuntime) -> Result<(), Fail> {
 #[test]
 fn examples_on_one_thread(rt: HostRuntime) -> Result<(), Fail> {
     for cases in examples() {
-        expect_all(&rt, cases)?;
+        expect_all_alone(&rt, cases)?;
     }
     Ok(())
 }

@@ -180,7 +180,7 @@ fn run_through<R: AllocGlobal + Abort + Threads + Wait + Sync>(
     call_through(rt.alloc(), &words, ends, gate, &team)
 }
 
-/// How such a run was made.
+/// How such a run was made, which ends quiet.
 fn made_through<R: AllocGlobal + Abort + Threads + Wait + Sync>(
     rt: &R,
     gate: &HoldGate,
@@ -189,6 +189,7 @@ fn made_through<R: AllocGlobal + Abort + Threads + Wait + Sync>(
 {
     let mut ends = ends_of(rt.alloc(), two_sites().as_bytes())?;
     let run = run_through(rt, gate, &mut ends)?;
+    run.expect(rt, 0, "quiescent\n", "");
     Ok(run.made)
 }
 

@@ -33,15 +33,6 @@ fn budgets() -> &'static [Case] {
 }
 
 const LOGS: &[Case] = &[
-    // The log in place of the trace.
-    Case {
-        words: &["alone", "--budget", "10", "--log"],
-        text: &[(1, "observe out/0; site s [ none : out() ]")],
-        out: "joinlog 1\nsource 38\nobserve out/0; site s [ none : out() ]\nbudget 10\n\
-            events 0\ntrace 16\nout()\nquiescent\n",
-        events: Some(0),
-        ..QUIET
-    },
     Case {
         words: &["--log", "alone", "--budget", "10"],
         text: &[(1, "observe out/1; site s [ x(u) => out(u) : x(s) ]")],

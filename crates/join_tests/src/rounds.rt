@@ -1,8 +1,8 @@
 // Runs in rounds with several numbers of workers.
 ghost use denote.Param.Send.{IsSync};
 
-use crate::cases::expect;
-use crate::outcome::{Ends, Outcome, call_into, ends_of, expect_bytes, sink_with};
+use crate::cases::expect_made;
+use crate::outcome::{Ends, Made, Outcome, call_into, ends_of, expect_bytes, sink_with};
 use chem_model::Memory;
 use std::alloc::{AllocError, Global};
 use std::marker::Sync;
@@ -50,7 +50,7 @@ fn expect_by<R: AllocGlobal + Abort + Threads + Wait + Sync>(
     requires { IsSync R.row }
 {
     let words = words_by(rt.alloc(), case, "rounds", workers)?;
-    expect(rt, words.as_slice(), case)
+    expect_made(rt, words.as_slice(), case, Made::Rounds)
 }
 
 /// That a case ends in rounds as it does on one thread, with each number of workers.

@@ -33,6 +33,14 @@ const OPENINGS: &[Case] = &[
         out: "out()\nquiescent\n",
         ..QUIET
     },
+    // The log in place of the trace.
+    Case {
+        words: &["alone", "--budget", "10", "--log"],
+        text: &[(1, "observe out/0; site s [ none : out() ]")],
+        out: "joinlog 1\nsource 38\nobserve out/0; site s [ none : out() ]\nbudget 10\n\
+            events 0\ntrace 16\nout()\nquiescent\n",
+        ..QUIET
+    },
     // Endless.
     Case {
         words: &["alone", "--budget", "3"],
