@@ -10,10 +10,15 @@ use std::process::Abort;
 use std::test::Fail;
 
 const RING_OF_1: &[u8] =
-    b"observe out/1;\nsite s0 [ w0() => 0 and m[ k0() => out(s0) : go(s0, k0) ] : w0() | w0() | w0() | w0() | w0() | w0() | w0() | w0() ]\n";
+    b"observe out/1;\nsite s0 [ w0() => 0 and m[ k0() => out(s0) : go(s0, k0) ] : w0() | w0() | \
+        w0() | w0() | w0() | w0() | w0() | w0() ]\n";
 
 const RING_OF_3: &[u8] =
-    b"observe out/1;\nsite s0 [ w0() => 0 and m[ k0() => out(s0) and k1() => out(s1) | go(s2, k2) and k2() => out(s2) | go(s0, k0) : go(s1, k1) ] : w0() | w0() | w0() | w0() | w0() | w0() | w0() | w0() ]\nsite s1 [ w1() => 0 : w1() | w1() | w1() | w1() | w1() | w1() | w1() | w1() ]\nsite s2 [ w2() => 0 : w2() | w2() | w2() | w2() | w2() | w2() | w2() | w2() ]\n";
+    b"observe out/1;\nsite s0 [ w0() => 0 and m[ k0() => out(s0) and k1() => out(s1) | go(s2, \
+        k2) and k2() => out(s2) | go(s0, k0) : go(s1, k1) ] : w0() | w0() | w0() | w0() | w0() \
+        | w0() | w0() | w0() ]\nsite s1 [ w1() => 0 : w1() | w1() | w1() | w1() | w1() | w1() | \
+        w1() | w1() ]\nsite s2 [ w2() => 0 : w2() | w2() | w2() | w2() | w2() | w2() | w2() | \
+        w2() ]\n";
 
 fn expect_text(rt: &impl Abort, alloc: Global, n: u32, want: &[u8]) -> Result<(), Fail>
     requires { (1 ≤ n) × (n ≤ 64) }

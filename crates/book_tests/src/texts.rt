@@ -32,7 +32,8 @@ fn the_texts_of_a_book(rt: HostRuntime) -> Result<(), Fail> {
     let (trace, log) = before_any_event(rt.alloc(), source).or(Err("there is no book"))?;
     expect_bytes(&rt, trace.as_slice(), b"out()\nquiescent\n");
     let want: &[u8] =
-        b"joinlog 1\nsource 38\nobserve out/0; site s [ none : out() ]\nbudget 10\nevents 0\ntrace 14\nout()\nstopped\n";
+        b"joinlog 1\nsource 38\nobserve out/0; site s [ none : out() ]\nbudget 10\nevents 0\n\
+            trace 14\nout()\nstopped\n";
     expect_bytes(&rt, log.as_slice(), want);
     Ok(())
 }
@@ -48,7 +49,8 @@ fn log_without_an_event(alloc: Global) -> Result<Text, Memory> {
 fn a_run_without_an_event(rt: HostRuntime) -> Result<(), Fail> {
     let log = log_without_an_event(rt.alloc())?;
     let want: &[u8] =
-        b"joinlog 1\nsource 38\nobserve out/0; site s [ none : out() ]\nbudget 10\nevents 0\ntrace 16\nout()\nquiescent\n";
+        b"joinlog 1\nsource 38\nobserve out/0; site s [ none : out() ]\nbudget 10\nevents 0\n\
+            trace 16\nout()\nquiescent\n";
     expect_bytes(&rt, log.as_slice(), want);
     Ok(())
 }
@@ -88,8 +90,10 @@ fn log_of_each_kind(alloc: Global) -> Result<Text, Memory> {
 #[test]
 fn an_event_of_each_kind(rt: HostRuntime) -> Result<(), Fail> {
     let log = log_of_each_kind(rt.alloc())?;
-    let want: &[u8] =
-        b"joinlog 1\nsource 0\n\nbudget 1000000\nevents 4\nreact 0.2 0.3 4294967295.18446744073709551615\nmove 4294967295.18446744073709551615\nhalt 10.100\ndetect 7.0\ntrace 8\nstopped\n";
+    let want: &[u8] = b"joinlog 1\nsource 0\n\nbudget 1000000\nevents 4\n\
+            react 0.2 0.3 4294967295.18446744073709551615\n\
+            move 4294967295.18446744073709551615\nhalt 10.100\ndetect 7.0\n\
+            trace 8\nstopped\n";
     expect_bytes(&rt, log.as_slice(), want);
     Ok(())
 }

@@ -87,20 +87,20 @@ module _ (N : Name → Type 0) where
 -- ---- a run
 
 -- a run at the location l of the site s, under an environment, from the number k on
-pub record HasRunFacts (c : CodeParts) (s : ℕ) (l : Loc) (env : List Name) (k : ℕ) (r : Run) : Type 0
-  where
-    -- it draws at most 1,048,576 numbers
-    pub from : k ≤ r.next
-    pub below : r.next ≤ k + 1048576
-    -- what it makes has numbers of the site from k on below the next, each its own
-    pub births : AreBorn s k r.next r.births
-    pub groups : Each (IsLaid c s k r.next) r.groups
-    pub ids : AreNumbered s k r.next r.posts
-    -- no two groups share a channel
-    pub apart : AreApart (all_told (told_by c) r.groups)
-    -- all of it stands at l, at locations that are born, or at homes of channels
-    pub laid_here : Each (λ (g : GroupInst). IsHere l r.births g.loc) r.groups
-    pub placed : Each (IsPlaced (IsHere l r.births)) r.posts
-    -- and all that it names is of the run
-    pub group_names : Each (GroupNames (IsOfRun c env (IsHere l r.births))) r.groups
-    pub post_names : Each (PostNames (IsOfRun c env (IsHere l r.births))) r.posts
+pub record HasRunFacts (c : CodeParts) (s : ℕ) (l : Loc) (env : List Name) (k : ℕ) (r : Run)
+    : Type 0 where
+  -- it draws at most 1,048,576 numbers
+  pub from : k ≤ r.next
+  pub below : r.next ≤ k + 1048576
+  -- what it makes has numbers of the site from k on below the next, each its own
+  pub births : AreBorn s k r.next r.births
+  pub groups : Each (IsLaid c s k r.next) r.groups
+  pub ids : AreNumbered s k r.next r.posts
+  -- no two groups share a channel
+  pub apart : AreApart (all_told (told_by c) r.groups)
+  -- all of it stands at l, at locations that are born, or at homes of channels
+  pub laid_here : Each (λ (g : GroupInst). IsHere l r.births g.loc) r.groups
+  pub placed : Each (IsPlaced (IsHere l r.births)) r.posts
+  -- and all that it names is of the run
+  pub group_names : Each (GroupNames (IsOfRun c env (IsHere l r.births))) r.groups
+  pub post_names : Each (PostNames (IsOfRun c env (IsHere l r.births))) r.posts

@@ -78,7 +78,9 @@ const LONGER_LOGS: &[Case] = &[
             1,
             "site s [ x() => 0 : x() | x() ] site t [ y() => 0 : y() | y() ]",
         )],
-        out: "joinlog 1\nsource 63\nsite s [ x() => 0 : x() | x() ] site t [ y() => 0 : y() | y() ]\nbudget 10\nevents 4\nreact 0.2 0.3\nreact 1.2 1.3\nreact 0.2 0.4\nreact 1.2 1.4\ntrace 10\nquiescent\n",
+        out: "joinlog 1\nsource 63\nsite s [ x() => 0 : x() | x() ] site t [ y() => 0 : y() | y() ]\n\
+            budget 10\nevents 4\nreact 0.2 0.3\nreact 1.2 1.3\nreact 0.2 0.4\nreact 1.2 1.4\n\
+            trace 10\nquiescent\n",
         events: Some(4),
         ..QUIET
     },

@@ -106,7 +106,8 @@ abbrev pub BearsNone : CodeParts → Site → Effects → Type 0
 BearsNone c s e = (q : ProgramTerms) → RunsProgram q c s → e.births ≡ []
 
 pub record MakesHere (c : CodeParts) (t : Tree) (s : Site) (p : Pick) (book : BookKept)
-    (held : PassKept) (made : Made) (new : Site) (after : BookKept) (holds : PassKept) : Type 0 where
+    (held : PassKept) (made : Made) (new : Site) (after : BookKept) (holds : PassKept)
+    : Type 0 where
   pub event : Event
   pub event_is : IsEventOf c s (chosen.Pick p) event
   pub proposes : Proposes book held event made.turn after holds

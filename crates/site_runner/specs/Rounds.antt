@@ -25,7 +25,8 @@ pub record StandForOne (book : BookKept) (net : NetParts) : Type 0 where
 -- at most as many events as the budget leaves, and the network that it leaves stands for the
 -- solution of the book; the journal has at most as many events as the budget, and at the end no
 -- event is possible or it has exactly that many
-pub record RunsInRounds (net : NetParts) (old : BookKept) (budget : ℕ) (new : BookKept) : Type 0 where
+pub record RunsInRounds (net : NetParts) (old : BookKept) (budget : ℕ) (new : BookKept)
+    : Type 0 where
   pub program : new.program ≡ old.program
   pub added : List Event
   pub end : Net

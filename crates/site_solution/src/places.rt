@@ -1,5 +1,6 @@
 // The locations that a site hosts.
-ghost use Rattle.std.specs.Prelude.{◌≡◌, ◌<◌, ◌≤◌, ◌+◌, ◌^◌, ◌∷◌, ◌++◌, [], false, length, OnOk, OnErr};
+ghost use Rattle.std.specs.Prelude.{◌≡◌, ◌<◌, ◌≤◌, ◌+◌, ◌^◌, ◌∷◌, ◌++◌, [], false, length};
+ghost use Rattle.std.specs.Prelude.{OnOk, OnErr};
 ghost use Rattle.net_laws.specs.Net.{among};
 ghost use Rattle.net_laws.specs.Parcels.{locs_but};
 ghost use Rattle.site_solution.specs.inside.Hosted.{locs_of};

@@ -122,7 +122,8 @@ const PRINTED: &[(&[u8], &[u8])] = &[
     ),
     (
         b"site a[m[none:go(b,k)]and d()=>fail(m,d):(0|0)]site b[none:0]",
-        b"site a [ m [ none : go ( b , k ) ] and d ( ) => fail ( m , d ) : ( 0 | 0 ) ] site b [ none : 0 ]\n",
+        b"site a [ m [ none : go ( b , k ) ] and d ( ) => fail ( m , d ) : ( 0 | 0 ) ] site b [ \
+            none : 0 ]\n",
     ),
     (
         b"observe out/255; site s [ none : 0 ]",
@@ -264,10 +265,16 @@ fn lists_of_identifiers(rt: HostRuntime) {
 
 #[test]
 fn an_agent_asks_a_shop_for_a_price(rt: HostRuntime) {
-    let text =
-        b"observe log/2;\n# an agent asks a shop for a price and comes home\nsite home [\n  agent [\n    start() => go(shop, ask) and\n    ask() => price(agent, got) and\n    got(p) => log(shop, p) | go(home, back) and\n    back() => done(agent)\n    : start()\n  ] and\n  done(a) => log(home, a)\n  : 0\n]\nsite shop [\n  cheap() => 0 and\n  price(who, k) => k(cheap)\n  : 0\n]\n";
+    let text = b"observe log/2;\n# an agent asks a shop for a price and comes home\nsite home [\n  \
+            agent [\n    start() => go(shop, ask) and\n    ask() => price(agent, got) and\n    \
+            got(p) => log(shop, p) | go(home, back) and\n    back() => done(agent)\n    : \
+            start()\n  ] and\n  done(a) => log(home, a)\n  : 0\n]\nsite shop [\n  cheap() => 0 \
+            and\n  price(who, k) => k(cheap)\n  : 0\n]\n";
     let printed =
-        b"observe log / 2 ; site home [ agent [ start ( ) => go ( shop , ask ) and ask ( ) => price ( agent , got ) and got ( p ) => log ( shop , p ) | go ( home , back ) and back ( ) => done ( agent ) : start ( ) ] and done ( a ) => log ( home , a ) : 0 ] site shop [ cheap ( ) => 0 and price ( who , k ) => k ( cheap ) : 0 ]\n";
+        b"observe log / 2 ; site home [ agent [ start ( ) => go ( shop , ask ) and ask ( ) => \
+            price ( agent , got ) and got ( p ) => log ( shop , p ) | go ( home , back ) and \
+            back ( ) => done ( agent ) : start ( ) ] and done ( a ) => log ( home , a ) : 0 ] \
+            site shop [ cheap ( ) => 0 and price ( who , k ) => k ( cheap ) : 0 ]\n";
     assert!(rt; is_printed(rt.alloc(), text, printed));
     assert!(rt; is_printed(rt.alloc(), printed, printed));
 }

@@ -32,6 +32,7 @@ abbrev pub IsPicked : List NumberedAtom → List NumberedAtom → AtomId → Typ
 IsPicked atoms few i = (a : NumberedAtom) → atom_at atoms i ≡ Some a → atom_at few i ≡ Some a
 
 -- what is found among the few is found in the list; and for these numbers the other way round
-pub record ArePicked (atoms : List NumberedAtom) (took : List AtomId) (few : List NumberedAtom) : Type 0 where
+pub record ArePicked (atoms : List NumberedAtom) (took : List AtomId) (few : List NumberedAtom)
+    : Type 0 where
   pub right : (i : AtomId) (a : NumberedAtom) → atom_at few i ≡ Some a → atom_at atoms i ≡ Some a
   pub all : Each (IsPicked atoms few) took

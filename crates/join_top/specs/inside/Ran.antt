@@ -42,7 +42,8 @@ ending_of true = Quiescent
 ending_of false = Stopped
 
 -- the whole text of a book's run of this source, which has ended so
-abbrev pub IsWholeOfBook : Asked → (source : List ℕ) → book.BookKept → Ending → (text : List ℕ) → Type 0
+abbrev pub IsWholeOfBook : Asked → (source : List ℕ) → book.BookKept → Ending
+    → (text : List ℕ) → Type 0
 IsWholeOfBook a source b ending text =
     OnItsSolution b (λ n. IsWhole a source b.program b.journal n ending text)
 

@@ -1,5 +1,6 @@
 -- What the parts of a run in rounds leave.
-use Rattle.std.specs.Prelude.{◌≡◌, ℕ, ◌-◌, ◌<◌, ◌^◌, List, [], ◌∷◌, ◌++◌, Option, Some, None, length}
+use Rattle.std.specs.Prelude.{◌≡◌, ℕ, ◌-◌, ◌<◌, ◌^◌, List, [], ◌∷◌, ◌++◌, length}
+use Rattle.std.specs.Prelude.{Option, Some, None}
 use Rattle.chem_model.specs.declared.event.Event.{Event}
 use Rattle.chem_model.specs.declared.numbered.Numbered.{Numbered}
 use Rattle.chem_model.specs.ProgramFacts.{IsProgram}
@@ -39,8 +40,8 @@ pub record AreOne (book : BookKept) (net : NetParts) : Type 0 where
   pub counted : net.events ≡ length book.journal
 
 -- the choice is made, and its event is in the book
-pub record IsMade (old : NetParts) (book : BookKept) (x : Choice) (new : NetParts) (after : BookKept)
-    : Type 0 where
+pub record IsMade (old : NetParts) (book : BookKept) (x : Choice) (new : NetParts)
+    (after : BookKept) : Type 0 where
   pub event : Option Event
   pub acts : Acts old.code old.net x event new.net
   pub falls : Falls old.net event new.net
@@ -50,8 +51,8 @@ pub record IsMade (old : NetParts) (book : BookKept) (x : Choice) (new : NetPart
   pub one : AreOne after new
 
 -- events are made and are in the book; they and the network that they leave are as R says
-pub record HaveRun (R : List Event → Net → Type 0) (old : NetParts) (book : BookKept) (new : NetParts)
-    (after : BookKept) : Type 0 where
+pub record HaveRun (R : List Event → Net → Type 0) (old : NetParts) (book : BookKept)
+    (new : NetParts) (after : BookKept) : Type 0 where
   pub added : List Event
   pub runs : R added new.net
   pub code : new.code ≡ old.code
