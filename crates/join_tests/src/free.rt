@@ -86,7 +86,7 @@ fn run_freely<R: AllocGlobal + Abort + Threads + Wait + Sync>(
 }
 
 /// That a run on free threads ended as the case says, and that the workers made each event.
-fn expect_made(rt: &impl Abort, run: &Outcome, case: &Case) {
+fn expect_freely(rt: &impl Abort, run: &Outcome, case: &Case) {
     run.expect_status(rt, case.status);
     assert!(rt; may_print(run.out.as_slice(), case));
     run.expect_events(rt, case.events);
@@ -103,7 +103,7 @@ fn expect_shared<R: AllocGlobal + Abort + Threads + Wait + Sync>(
     requires { IsSync R.row }
 {
     let run = run_freely(rt, case, workers)?;
-    expect_made(rt, &run, case);
+    expect_freely(rt, &run, case);
     Ok(())
 }
 
@@ -180,7 +180,7 @@ fn run_through<R: AllocGlobal + Abort + Threads + Wait + Sync>(
     call_through(rt.alloc(), &words, ends, gate, &team)
 }
 
-/// How such a run was made, which ends quiet.
+/// How such a run, which ends quiet, was made.
 fn made_through<R: AllocGlobal + Abort + Threads + Wait + Sync>(
     rt: &R,
     gate: &HoldGate,

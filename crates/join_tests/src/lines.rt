@@ -33,6 +33,7 @@ fn budgets() -> &'static [Case] {
 }
 
 const LOGS: &[Case] = &[
+    // The log of an event.
     Case {
         words: &["--log", "alone", "--budget", "10"],
         text: &[(1, "observe out/1; site s [ x(u) => out(u) : x(s) ]")],

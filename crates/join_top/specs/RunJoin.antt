@@ -153,7 +153,8 @@ IsMadeBy Rounds workers budget p journal made =
 IsMadeBy Run workers budget p journal made =
     IsFree (length p.sites) (first_workers workers) p budget journal made
 
--- such a command makes one run of a program for each budget, however many workers there are
+-- such a command makes no two different runs of a program for one budget, however many workers
+-- there are
 abbrev pub MakesOneRun : By → Type 0
 MakesOneRun by =
     (p : ProgramTerms) → IsProgram p → (workers others budget : ℕ)

@@ -38,8 +38,8 @@ pub fn make<G: Gate, T: Team + FreeTeam<G>>(
     }
 }
 
-/// On one thread, and in rounds, a program has one run for each budget: how many workers there are
-/// makes no difference. It does nothing.
+/// On one thread, and in rounds, a program has at most one run for each budget, however many workers
+/// there are. It does nothing.
 pub fn one_run()
     ensures alone { MakesOneRun by.Alone }
     ensures rounds { MakesOneRun by.Rounds }

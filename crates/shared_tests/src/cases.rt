@@ -3,7 +3,7 @@
 
 use crate::counted::Passed;
 use crate::passes::Ended;
-use crate::texts::{FIRST, MOVED, WITHIN};
+use crate::texts::{FIRST, MOVED, SENT, WITHIN};
 use shared_net::Turn;
 
 /// A text, its budget, and the sites of the turns with what each turn answers.
@@ -44,9 +44,6 @@ impl Case {
         }
     }
 }
-
-/// The opening of the first site sends a message to the second.
-const SENT: &str = "observe out/1; site a [ none : x(a) ] site b [ x(u) => out(u) : 0 ]";
 
 const HALTED: &str = "observe out/0; site a [ none : halt() ] \
     site b [ d() => x() : fail(a, d) ] site c [ x() => out() : 0 ]";

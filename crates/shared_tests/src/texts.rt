@@ -14,7 +14,7 @@ pub const MOVED: &str =
 pub const WITHIN: &str = "site a [ m[ k() => 0 : go(a, k) ] and n[ j() => 0 : go(m, j) ] : 0 ]";
 
 /// The opening of the first site sends a message to the second.
-pub const SENT: &str = "site s [ none : y() ] site t [ y() => 0 : 0 ]";
+pub const SENT: &str = "observe out/1; site a [ none : x(a) ] site b [ x(u) => out(u) : 0 ]";
 
 pub fn loc(site: u32, k: u64) -> Loc {
     Loc { site, k }

@@ -554,8 +554,8 @@ fn drop_stuck(stuck: &mut Vec<Waiting>, loc: Loc)
 /// All that a site holds stands at locations that it hosts, a queue holds messages on its channel
 /// with its count, no group could take a stuck message, no two groups share a channel, channels and
 /// rules have numbers of 64 bits, the ids of waiting messages and requests are all different, those
-/// of requests rise, and there are fewer than 2^32 messages, as few locations and as few requests.
-/// It does nothing.
+/// of requests rise, and there are fewer than 2^32 of each: messages, locations and requests. It
+/// does nothing.
 pub fn site_is_kept(site: &Site)
     ensures kept { IsKept site.now }
     ensures numbers { Each HasNumbers (told_in site.now.groups) }
