@@ -1,4 +1,5 @@
--- What is poured or laid in a sound numbered solution is reached by heating, Comm and Out alone.
+-- What is poured or laid in a sound numbered solution is reached by heating, Comm, Out, Add and
+-- Same alone.
 use Rattle.std.proofs.Common.{◌≡◌, ℕ, ◌+◌, ◌<◌, List, [], true, refl, sym, subst, arith, inl, inr}
 use Rattle.std.specs.Prelude.{slice_index}
 use Rattle.chem_model.specs.declared.name.Loc.{Loc}
@@ -15,7 +16,8 @@ use Rattle.chem_model.specs.OnNames.{OnProcess, OnDefinitions, OnSolution}
 use Rattle.chem_model.specs.Reduction.{IsReached}
 use Rattle.chem_model.specs.Numbered.{standing, erase}
 use Rattle.chem_model.specs.Pour.{pour, lay, add_made}
-use Rattle.chem_model.specs.Sound.{IsSound, IsNameOf}
+use Rattle.chem_model.specs.Sound.{IsSound, IsNameOf, MayStand}
+use Rattle.chem_laws.proofs.Stand.{stand_weaker, stand_on}
 use Rattle.chem_laws.proofs.Lists.{Each-weaker, above}
 use Rattle.chem_laws.proofs.Bags.{one_is}
 use Rattle.chem_laws.proofs.Terms.{OnEntries, process_filled, definitions_filled, term_on}
@@ -56,6 +58,8 @@ module _ (naming_is : NamingIs) (block_filled : BlockFilled) where
     name_fits (name.Seen i) h = tt
     name_fits (name.Place a) h = h
     name_fits (name.Chan s k q) h = h.1
+    name_fits (name.Num i) h = tt
+    name_fits (name.Op i) h = absurd h
 
     entries_under : (scope : List ℕ) → Closes (IsNameOf n) scope m → OnEntries (Under site count) m
     entries_under scope c = Each-weaker (λ (e : Named). IsNameOf n e.name) (λ (e : Named). Under site count e.name) (λ e. name_under e.name) m c.names
@@ -95,13 +99,13 @@ module _ (naming_is : NamingIs) (block_filled : BlockFilled) where
       let s = r.site in
       let k = slice_index n.counts s in
       let st = stands n sound m l h.is_live in
-      let on : OnProcess (Under s k) (fill m p) = process_filled (Under s k) m (entries_under n sound m l h.is_live h.scope h.closes) p (term_on (IsNameOf n) (Under s k) (name_under n sound m l h.is_live) h.scope p h.term) in
+      let on : OnProcess (Under s k) (fill m p) = process_filled (Under s k) m (entries_under n sound m l h.is_live h.scope h.closes) p (term_on (MayStand (IsNameOf n)) (Under s k) (stand_on (IsUnder s k) (IsNameOf n) (name_under n sound m l h.is_live)) h.scope p h.term) in
       let fits = name_fits n sound m l h.is_live in
       let a = pour n.seen s r m l k p in
-      let leads = pour_leads n.seen s r naming_is block_filled p (standing n.places) h.scope m l k st (term_weaker (IsNameOf n) (Fits (standing n.places)) fits h.scope p h.term) (closes_weaker (IsNameOf n) (Fits (standing n.places)) fits h.scope m h.closes) h.once on in
+      let leads = pour_leads n.seen s r naming_is block_filled p (standing n.places) h.scope m l k st (term_weaker (MayStand (IsNameOf n)) (MayStand (Fits (standing n.places))) (stand_weaker (IsNameOf n) (Fits (standing n.places)) fits) h.scope p h.term) (closes_weaker (IsNameOf n) (Fits (standing n.places)) fits h.scope m h.closes) h.once on in
       let poured = one coded_located_process (l, fill m p) in
       chain_trans (reached_again n.seen (standing n.places) (d ⊕ (erase n).defs) ((nothing ⊕ d) ⊕ (erase n).defs) ((poured ⊕ q) ⊕ (erase n).procs) ((poured ⊕ q) ⊕ (erase n).procs) n.trace (λ x. omega arith) (λ x. refl))
-      (added n sound m l h.is_live nothing d poured q a others (pour_is s r naming_is n.seen (IsNameOf n) p h.scope m l k h.term h.once st.loc on) (λ x c. absurd (omega arith)) (λ x c. subst (ProcessUnder s k) (one_is coded_located_process (l, fill m p) x c) (st.loc, on)) leads)
+      (added n sound m l h.is_live nothing d poured q a others (pour_is s r naming_is n.seen (MayStand (IsNameOf n)) p h.scope m l k h.term h.once st.loc on) (λ x c. absurd (omega arith)) (λ x c. subst (ProcessUnder s k) (one_is coded_located_process (l, fill m p) x c) (st.loc, on)) leads)
 
   pub lay_reached : LayReached
   lay_reached n m l ds d q sound h others =
@@ -109,7 +113,7 @@ module _ (naming_is : NamingIs) (block_filled : BlockFilled) where
       let s = r.site in
       let k = slice_index n.counts s in
       let st = stands n sound m l h.is_live in
-      let on : OnDefinitions (Under s k) (fill_definitions m ds) = definitions_filled (Under s k) m (entries_under n sound m l h.is_live h.scope h.closes) ds (level_on (IsNameOf n) (Under s k) (name_under n sound m l h.is_live) h.scope ds l m h.sorts h.terms) in
+      let on : OnDefinitions (Under s k) (fill_definitions m ds) = definitions_filled (Under s k) m (entries_under n sound m l h.is_live h.scope h.closes) ds (level_on (MayStand (IsNameOf n)) (Under s k) (stand_on (IsUnder s k) (IsNameOf n) (name_under n sound m l h.is_live)) h.scope ds l m h.sorts h.terms) in
       let fits = name_fits n sound m l h.is_live in
-      let leads = lay_leads n.seen s r naming_is block_filled ds (standing n.places) h.scope m l k st h.levels h.stand (definitions_scope_weaker (IsNameOf n) (Fits (standing n.places)) fits h.scope ds h.terms) (closes_weaker (IsNameOf n) (Fits (standing n.places)) fits h.scope m h.closes) h.once on in
-      added n sound m l h.is_live (rules_left l m ds) d (bodies_left l m ds) q (lay n.seen s r m l k ds) others (lay_is s r naming_is n.seen (IsNameOf n) ds h.scope m l k h.terms h.once st.loc on) (rules_on (IsUnder s k) l m ds st.loc on) (bodies_on (IsUnder s k) l m ds st.loc on) leads
+      let leads = lay_leads n.seen s r naming_is block_filled ds (standing n.places) h.scope m l k st h.levels h.stand (definitions_scope_weaker (MayStand (IsNameOf n)) (MayStand (Fits (standing n.places))) (stand_weaker (IsNameOf n) (Fits (standing n.places)) fits) h.scope ds h.terms) (closes_weaker (IsNameOf n) (Fits (standing n.places)) fits h.scope m h.closes) h.once on in
+      added n sound m l h.is_live (rules_left l m ds) d (bodies_left l m ds) q (lay n.seen s r m l k ds) others (lay_is s r naming_is n.seen (MayStand (IsNameOf n)) ds h.scope m l k h.terms h.once st.loc on) (rules_on (IsUnder s k) l m ds st.loc on) (bodies_on (IsUnder s k) l m ds st.loc on) leads

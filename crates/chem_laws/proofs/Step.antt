@@ -1,5 +1,6 @@
--- An event is one reduction, the one that it names, followed by heating, Comm and Out alone.
-use Rattle.std.proofs.Common.{◌≡◌, ℕ, ◌+◌, ◌<◌, ◌≤◌, List, [], ◌++◌, Option, Some, None, Bool, true, false, cond, refl, sym, ap, ◌∙◌, subst, arith, length, ◌&&◌, is_some, not}
+-- An event is one reduction, the one that it names, followed by heating, Comm, Out, Add and Same
+-- alone.
+use Rattle.std.proofs.Common.{◌≡◌, ℕ, ◌+◌, ◌<◌, ◌≤◌, List, [], ◌++◌, Option, Some, None, Bool, true, false, cond, refl, sym, ap, ◌∙◌, subst, arith, length, ◌&&◌, is_some, not, inl, inr, eqb-true, ◌==◌}
 use Rattle.std.proofs.lemmas.Bool.{and_parts}
 use Rattle.chem_model.specs.declared.name.Loc.{Loc}
 use Rattle.chem_model.specs.declared.name.Name.{Name}
@@ -12,7 +13,7 @@ use Rattle.chem_model.specs.declared.event.Event.{Event}
 use Rattle.chem_model.specs.declared.event.Event.TheVariants as event
 use Rattle.chem_model.specs.Process.{Process, Definition, Msg, Par, Def, Go, Fail, Halt}
 use Rattle.chem_model.specs.Binders.{is_among, times, params_of}
-use Rattle.chem_model.specs.Scope.{IsInScope}
+use Rattle.chem_model.specs.Scope.{Position, names_message, IsInScope}
 use Rattle.chem_model.specs.Bag.{one, bag, ◌⊕◌, nothing}
 use Rattle.chem_model.specs.Each.{Each}
 use Rattle.chem_model.specs.Fill.{Naming, fill_ref, fill}
@@ -25,11 +26,12 @@ use Rattle.chem_model.specs.declared.numbered.Numbered.{Numbered}
 use Rattle.chem_model.specs.Numbered.{standing, erase, procs_of, atom_pairs}
 use Rattle.chem_model.specs.Pour.{pour_at}
 use Rattle.chem_model.specs.Opening.{root_of}
-use Rattle.chem_model.specs.Apply.{rule_at, atom_at, without, without_all, received_all, react_received, react_rule, with_hosts, with_marks, can_go, can_detect, at_location, move_to, move_atom, halt_atom, detect_of, detect_atom, with_atom, apply}
-use Rattle.chem_model.specs.Sound.{IsSound, IsNameOf, IsKnown, IsSettled, IsAtom, IsRule, IsRoot}
+use Rattle.chem_model.specs.Apply.{rule_at, atom_at, without, without_all, received_all, react_received, react_rule, with_hosts, with_marks, can_go, can_fall, falls, can_detect, at_location, move_to, move_atom, halt_atom, detect_of, detect_atom, with_atom, apply}
+use Rattle.chem_model.specs.Sound.{IsSound, IsNameOf, MayStand, IsKnown, IsSettled, IsAtom, IsRule, IsRoot}
 use Rattle.chem_model.specs.Laws.{IsReduction, EventIsAReduction}
 use Rattle.chem_laws.proofs.Lists.{Each-weaker, append_nil, has_some}
 use Rattle.chem_laws.proofs.Within.{same_loc_is}
+use Rattle.chem_laws.proofs.Stand.{may_stand}
 use Rattle.chem_laws.proofs.Parts.{is_named, IsPourable, PourSound, PourReached, beside}
 use Rattle.chem_laws.proofs.Places.{live_parts, root_is, known_weaker, place_pair_found}
 use Rattle.chem_laws.proofs.Taking.{atom_found, rule_found, rule_stands, bag-without, Each-without, pairs-without, Each-without_all, pairs-without_all, named_once, apart, all_received, received_names, ids_differ, gathered}
@@ -74,16 +76,16 @@ module _ (pour_sound : PourSound) (pour_reached : PourReached) where
       }) in
       subst (λ (t : Solution). IsReached n.seen t (one_process n l (fill m p))) (beside_nothing (pour_at n m l p)) (subst (IsReached n.seen (beside (pour_at n m l p) nothing nothing)) (beside_one n l (fill m p)) reached)
 
-  known_in_scope : (Q : Name → Type 0) (k : Ref) → IsKnown Q k → IsInScope Q [] k
-  known_in_scope Q (Binder b) h = absurd h
-  known_in_scope Q (Known x) h = h
+  known_in_scope : (Q : Name → Type 0) → ((i : ℕ) → Q (name.Op i) → ⊥) → (p : Position) (k : Ref) → IsKnown Q k → IsInScope (MayStand Q p) [] k
+  known_in_scope Q apart p (Binder b) h = absurd h
+  known_in_scope Q apart p (Known x) h = may_stand Q apart p x h
 
   -- a continuation can be poured at a live location
   continues : (n : Numbered) (l : Loc) (k : Ref) → live (standing n.places) l ≡ true → IsKnown (IsNameOf n) k → IsPourable n [] l (continuation k)
   continues n l k lives h = record {
     scope = [];
     is_live = lives;
-    term = (known_in_scope (IsNameOf n) k h, tt, omega arith);
+    term = (known_in_scope (IsNameOf n) (λ i v. v) (names_message 0) k h, tt, omega arith);
     closes = record { covers = λ b e. cc; names = tt };
     once = λ b. omega arith;
   }
@@ -92,9 +94,9 @@ module _ (pour_sound : PourSound) (pour_reached : PourReached) where
     abbrev pl : Places
     pl = standing n.places
 
-    -- one reduction that leads to m, with the same declared counts
+    -- one reduction that leads to m, with the same declared counts and version
     abbrev pub Stepped : Event → Numbered → Type 0
-    Stepped e m = IsReduction e n m × (m.seen ≡ n.seen)
+    Stepped e m = IsReduction e n m × (m.seen ≡ n.seen) × (m.version ≡ n.version)
 
     -- the same locations, and fewer atoms
     fewer_sound : (atoms : List NumberedAtom) → Each (IsAtom n) atoms → ((p : Pair) → bag coded_pair (atom_pairs atoms) p ≤ bag coded_pair (atom_pairs n.atoms) p) → IsSound (record n { atoms = atoms })
@@ -127,6 +129,7 @@ module _ (pour_sound : PourSound) (pour_reached : PourReached) where
             reached = poured new m r.loc r.body new_sound pourable;
           },
           refl,
+          refl,
         )
 
     react_step : (i : RuleId) (took : List AtomId) (m : Numbered) → apply n (event.React i took) ≡ Some m → Stepped (event.React i took) m
@@ -157,7 +160,14 @@ module _ (pour_sound : PourSound) (pour_reached : PourReached) where
     none_is None e = refl
     none_is (Some h) e = cc
 
-    -- ---- Go
+    -- ---- Go and Fall
+
+    -- a location that has a host is no root
+    roots_stay : (l b h : Loc) → host_of (pl l) ≡ Some h → (j : ℕ) → j < length n.counts → (t : Bool) → same_loc l (root_of j) ≡ t → host_of (cond t (with_host b (pl (root_of j))) (pl (root_of j))) ≡ None
+    roots_stay l b h e j g true d =
+        let hosted : host_of (pl (root_of j)) ≡ Some h = ap (λ q. host_of (pl q)) (sym (same_loc_is l (root_of j) d)) ∙ e in
+        let free = (sound.roots j g).1 in cc
+    roots_stay l b h e j g false d = (sound.roots j g).1
 
     moved : (i : AtomId) (a : NumberedAtom) (b : Loc) (k : Ref) → atom_at n.atoms i ≡ Some a → a.term ≡ Go (Known (name.Place b)) k → can_go n a.loc b ≡ true
         → Stepped (event.Move i) (pour_at (record n { places = with_hosts a.loc b n.places; atoms = without i n.atoms }) [] a.loc (continuation k))
@@ -179,31 +189,73 @@ module _ (pour_sound : PourSound) (pour_reached : PourReached) where
           record {
             sound = pour_sound new [] l (continuation k) new_sound pourable;
             middle = one_process new l (fill [] (continuation k));
-            acts = record { loc = l; host = host.0; target = b; cont = k; rest = bag coded_located_process (procs_of new.atoms); is_live = from.0; hosted = host.1; target_live = to.0; target_root = no_host; there = request_there i a (Go (Known (name.Place b)) k) c term; after = λ j. record { places = map_is j; defs = (erase n).defs; procs = one coded_located_process (l, Msg (fill_none k j) []) ⊕ bag coded_located_process (procs_of new.atoms); trace = n.trace } };
+            acts = inl (record { loc = l; host = host.0; target = b; cont = k; rest = bag coded_located_process (procs_of new.atoms); is_live = from.0; hosted = host.1; target_live = to.0; target_root = no_host; there = request_there i a (Go (Known (name.Place b)) k) c term; after = λ j. record { places = map_is j; defs = (erase n).defs; procs = one coded_located_process (l, Msg (fill_none k j) []) ⊕ bag coded_located_process (procs_of new.atoms); trace = n.trace } });
             reached = poured new [] l (continuation k) new_sound pourable;
           },
           refl,
+          refl,
         )
-      where
-        -- a location that has a host is no root
-        roots_stay : (l b h : Loc) → host_of (pl l) ≡ Some h → (j : ℕ) → j < length n.counts → (t : Bool) → same_loc l (root_of j) ≡ t → host_of (cond t (with_host b (pl (root_of j))) (pl (root_of j))) ≡ None
-        roots_stay l b h e j g true d =
-            let hosted : host_of (pl (root_of j)) ≡ Some h = ap (λ q. host_of (pl q)) (sym (same_loc_is l (root_of j) d)) ∙ e in
-            let free = (sound.roots j g).1 in cc
-        roots_stay l b h e j g false d = (sound.roots j g).1
+
+    -- what a request to go to a dead root does
+    abbrev fell_to : AtomId → Loc → Loc → Numbered
+    fell_to i l b = record n { places = with_hosts l b n.places; atoms = without i n.atoms }
+
+    fell : (i : AtomId) (a : NumberedAtom) (b : Loc) (k : Ref) → atom_at n.atoms i ≡ Some a → a.term ≡ Go (Known (name.Place b)) k → falls n a.loc b ≡ true → Stepped (event.Move i) (fell_to i a.loc b)
+    fell i a b k c term can =
+        let l = a.loc in
+        let new = fell_to i l b in
+        let both = and_parts (n.version == 2) (can_fall n l b) can in
+        let sides = and_parts (live pl l && is_some (host_of (pl l))) ((is_there (pl b) && dead pl b) && not (is_some (host_of (pl b)))) both.1 in
+        let from = and_parts (live pl l) (is_some (host_of (pl l))) sides.0 in
+        let to = and_parts (is_there (pl b) && dead pl b) (not (is_some (host_of (pl b)))) sides.1 in
+        let target = and_parts (is_there (pl b)) (dead pl b) to.0 in
+        let host = has_some (host_of (pl l)) from.1 in
+        let no_host = none_is (host_of (pl b)) to.1 in
+        let map_is : standing new.places ≡ rehosted pl l b = λ j x. standing_hosts n.places l b x j in
+        let there : (x : Loc) → is_there (standing new.places x) ≡ is_there (pl x) = λ x. ap is_there (standing_hosts n.places l b x) ∙ host_there (pl x) b (same_loc l x) in
+        let root_b : IsRoot n b = subst (λ o. IsRoot n (or_itself o b)) no_host (root_is n sound b target.0).0 in (
+          record {
+            sound = left_sound n sound new.places new.atoms there (pairs_hosts n.places l b) (λ j h. ap host_of (standing_hosts n.places l b (root_of j)) ∙ roots_stay l b host.0 host.1 j h (same_loc l (root_of j)) refl) (hosted_hosts n n.places l b root_b sound.hosted) (Each-without (IsAtom n) i n.atoms sound.atoms) (pairs-without i n.atoms);
+            middle = erase new;
+            acts = inr (record {
+              second = eqb-true n.version 2 both.0;
+              loc = l;
+              host = host.0;
+              target = b;
+              cont = k;
+              rest = bag coded_located_process (procs_of new.atoms);
+              is_live = from.0;
+              hosted = host.1;
+              target_there = target.0;
+              target_dead = target.1;
+              target_root = no_host;
+              there = request_there i a (Go (Known (name.Place b)) k) c term;
+              after = λ j. record { places = map_is j; defs = (erase n).defs; procs = bag coded_located_process (procs_of new.atoms); trace = n.trace };
+            });
+            reached = stays;
+          },
+          refl,
+          refl,
+        )
 
     move_step : (i : AtomId) (m : Numbered) → apply n (event.Move i) ≡ Some m → Stepped (event.Move i) m
     move_step i m e = at_atom (atom_at n.atoms i) refl e
       where
-        goes : (a : NumberedAtom) (b : Loc) (k : Ref) → atom_at n.atoms i ≡ Some a → a.term ≡ Go (Known (name.Place b)) k → (t : Bool) → can_go n a.loc b ≡ t → cond t (Some (pour_at (record n { places = with_hosts a.loc b n.places; atoms = without i n.atoms }) [] a.loc (continuation k))) None ≡ Some m → Stepped (event.Move i) m
-        goes a b k c d true can e' = let same_m : pour_at (record n { places = with_hosts a.loc b n.places; atoms = without i n.atoms }) [] a.loc (continuation k) ≡ m = cc in subst (Stepped (event.Move i)) same_m (moved i a b k c d can)
-        goes a b k c d false can e' = cc
+        sinks : (a : NumberedAtom) (b : Loc) (k : Ref) → atom_at n.atoms i ≡ Some a → a.term ≡ Go (Known (name.Place b)) k → (t : Bool) → falls n a.loc b ≡ t → cond t (Some (fell_to i a.loc b)) None ≡ Some m → Stepped (event.Move i) m
+        sinks a b k c d true can e' = let same_m : fell_to i a.loc b ≡ m = cc in subst (Stepped (event.Move i)) same_m (fell i a b k c d can)
+        sinks a b k c d false can e' = cc
+
+        goes : (a : NumberedAtom) (b : Loc) (k : Ref) → atom_at n.atoms i ≡ Some a → a.term ≡ Go (Known (name.Place b)) k → (t : Bool) → can_go n a.loc b ≡ t → cond t (Some (pour_at (fell_to i a.loc b) [] a.loc (continuation k))) (cond (falls n a.loc b) (Some (fell_to i a.loc b)) None) ≡ Some m → Stepped (event.Move i) m
+        goes a b k c d true can e' = let same_m : pour_at (fell_to i a.loc b) [] a.loc (continuation k) ≡ m = cc in subst (Stepped (event.Move i)) same_m (moved i a b k c d can)
+        goes a b k c d false can e' = sinks a b k c d (falls n a.loc b) refl e'
 
         at_target : (a : NumberedAtom) (b k : Ref) → atom_at n.atoms i ≡ Some a → a.term ≡ Go b k → at_location b (move_to n i a.loc k) ≡ Some m → Stepped (event.Move i) m
         at_target a (Binder b) k c d e' = cc
         at_target a (Known (name.Seen b)) k c d e' = cc
         at_target a (Known (name.Place b)) k c d e' = goes a b k c d (can_go n a.loc b) refl e'
         at_target a (Known (name.Chan s j h)) k c d e' = cc
+        at_target a (Known (name.Num j)) k c d e' = cc
+        at_target a (Known (name.Op j)) k c d e' = cc
 
         at_term : (a : NumberedAtom) (p : Process) → atom_at n.atoms i ≡ Some a → a.term ≡ p → move_atom n i a.loc p ≡ Some m → Stepped (event.Move i) m
         at_term a (Go b k) c d e' = at_target a b k c d e'
@@ -231,6 +283,7 @@ module _ (pour_sound : PourSound) (pour_reached : PourReached) where
             acts = record { loc = l; rest = bag coded_located_process (procs_of new.atoms); is_live = lives; there = request_there i a Halt c term; after = λ j. record { places = map_is j; defs = (erase n).defs; procs = bag coded_located_process (procs_of new.atoms); trace = n.trace } };
             reached = stays;
           },
+          refl,
           refl,
         )
 
@@ -272,6 +325,7 @@ module _ (pour_sound : PourSound) (pour_reached : PourReached) where
             reached = poured new [] l (continuation k) new_sound pourable;
           },
           refl,
+          refl,
         )
 
     detect_step : (i : AtomId) (m : Numbered) → apply n (event.Detect i) ≡ Some m → Stepped (event.Detect i) m
@@ -286,6 +340,8 @@ module _ (pour_sound : PourSound) (pour_reached : PourReached) where
         at_target a (Known (name.Seen b)) k c d e' = cc
         at_target a (Known (name.Place b)) k c d e' = detects a b k c d (can_detect n a.loc b) refl e'
         at_target a (Known (name.Chan s j h)) k c d e' = cc
+        at_target a (Known (name.Num j)) k c d e' = cc
+        at_target a (Known (name.Op j)) k c d e' = cc
 
         at_term : (a : NumberedAtom) (p : Process) → atom_at n.atoms i ≡ Some a → a.term ≡ p → detect_atom n i a.loc p ≡ Some m → Stepped (event.Detect i) m
         at_term a (Fail b k) c d e' = at_target a b k c d e'
@@ -301,7 +357,7 @@ module _ (pour_sound : PourSound) (pour_reached : PourReached) where
 
   -- ---- each event
 
-  pub event_step : (n m : Numbered) (e : Event) → IsSound n → apply n e ≡ Some m → IsReduction e n m × (m.seen ≡ n.seen)
+  pub event_step : (n m : Numbered) (e : Event) → IsSound n → apply n e ≡ Some m → IsReduction e n m × (m.seen ≡ n.seen) × (m.version ≡ n.version)
   event_step n m (event.React i took) sound e = react_step n sound i took m e
   event_step n m (event.Move i) sound e = move_step n sound i m e
   event_step n m (event.Halt i) sound e = halt_step n sound i m e

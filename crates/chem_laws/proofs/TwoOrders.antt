@@ -148,6 +148,8 @@ one_site : (s t : ℕ) (x : Name) → IsOfSite s x → IsOfSite t x → s ≡ t
 one_site s t (name.Seen i) h g = absurd h
 one_site s t (name.Place a) h g = sym h ∙ g
 one_site s t (name.Chan u k l) h g = sym h ∙ g
+one_site s t (name.Num n) h g = absurd h
+one_site s t (name.Op i) h g = absurd h
 
 binder_swap : (s t : ℕ) (ns bs cs : Naming) (x : Name) → s ≢ t → AreOfSite s bs → AreOfSite t cs → binder_in ((ns ++ bs) ++ cs) x ≡ binder_in ((ns ++ cs) ++ bs) x
 binder_swap s t ns bs cs x away hb hc =
@@ -225,6 +227,7 @@ module _ (law : EventIsAReduction) where
           f_follows = e_then_f;
           e_follows = f_then_e;
           same = record {
+            version = refl;
             seen = refl;
             counts = set_swap n.counts (home r).site (home q).site a.next b.next apart_rq;
             places = λ l. standing_swap n.places a.births b.births l (λ there. new_places one sound_one n.places a.births b.births refl l there);

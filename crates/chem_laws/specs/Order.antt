@@ -36,9 +36,10 @@ root_above n l = root (standing n.places) l
 
 -- ---- the same solution, whatever the order in which its parts were made
 
--- the same counts, the same maps of locations and of binders, and the same multisets of rules and
--- atoms: all but the trace
+-- the same version and counts, the same maps of locations and of binders, and the same multisets of
+-- rules and atoms: all but the trace
 pub record HasSameParts (n m : Numbered) : Type 0 where
+  pub version : n.version ≡ m.version
   pub seen : n.seen ≡ m.seen
   pub counts : n.counts ≡ m.counts
   pub places : (l : Loc) → standing n.places l ≡ standing m.places l

@@ -1,3 +1,4 @@
+// The laws of the numbered solution, each on a function that does nothing.
 ghost use Rattle.chem_model.specs.Laws.{OpeningIsAStart, EventIsAReduction, StuckIsQuiet};
 ghost use Rattle.chem_model.specs.Laws.{ReplayIsARun};
 ghost use Rattle.chem_laws.specs.Within.{DeadIsWithin};
@@ -5,7 +6,7 @@ ghost use Rattle.chem_laws.specs.Hosts.{RunsKeepRoots};
 ghost use Rattle.chem_laws.specs.Order.{ReactionsCommute, ReactionsTakeAndMake};
 ghost use Rattle.chem_laws.specs.Order.{ReactionsStayAtHome, ReactionsAreLocal, SitesAtOnce};
 ghost use Rattle.chem_laws.specs.Twice.{NothingIsTakenTwice};
-ghost use Rattle.chem_laws.specs.Declared.{DeclaredCountsStay};
+ghost use Rattle.chem_laws.specs.Declared.{DeclaredCountsStay, VersionStays};
 
 /// A location is dead exactly where it is within a marked location. It does nothing.
 pub fn dead_is_within()
@@ -19,14 +20,14 @@ pub fn hosts_are_roots()
 {}
 
 /// The opening of each program is sound, and what it stands for is reached from a start of the
-/// program by heating, Comm and Out alone. It does nothing.
+/// program by heating, Comm, Out, Add and Same alone. It does nothing.
 pub fn opening_is_a_start()
     ensures { OpeningIsAStart }
 {}
 
 /// Where a sound numbered solution has an event's effect, that is sound, and what the two stand for
-/// are one React, Go, Halt or Detect apart, as the event names it, followed by heating, Comm and
-/// Out alone. It does nothing.
+/// are one React, Go, Fall, Halt or Detect apart, as the event names it (a move is Go or Fall),
+/// followed by heating, Comm, Out, Add and Same alone. It does nothing.
 pub fn event_is_a_reduction()
     ensures { EventIsAReduction }
 {}
@@ -47,6 +48,11 @@ pub fn replay_is_a_run()
 /// does nothing.
 pub fn declared_counts_stay()
     ensures { DeclaredCountsStay }
+{}
+
+/// A solution of a run has the version of its program. It does nothing.
+pub fn version_stays()
+    ensures { VersionStays }
 {}
 
 /// In a sound numbered solution two reactions of rules under different roots can be made in either

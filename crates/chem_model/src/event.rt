@@ -1,3 +1,4 @@
+// The ids of atoms and rules, the events of a run, and its observables.
 ghost use Rattle.std.specs.Prelude.{◌≡◌, IfOk};
 
 use crate::items::Items;

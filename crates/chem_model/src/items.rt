@@ -1,5 +1,7 @@
+// The one list type, of fewer than 2^32 members.
 ghost use Rattle.std.specs.Prelude.{◌≡◌, [], ◌∷◌, ◌++◌, ◌<◌, ◌+◌, ◌^◌, length, take, drop};
-ghost use Rattle.std.specs.Prelude.{slice_set, IfOk, OnOk, OnErr, IsTrue, ◌↔◌};
+ghost use Rattle.std.specs.Prelude.{reverse as reversed, slice_set, IfOk, OnOk, OnErr, IsTrue};
+ghost use Rattle.std.specs.Prelude.{MatchOption, ◌↔◌};
 
 use crate::memory::Memory;
 use std::alloc::Global;
@@ -40,6 +42,14 @@ impl<T> Items<T> {
         ensures { result ≡ items.items }
     {
         Items { items }
+    }
+
+    /// The vector of the members, in order.
+    pub fn into_vec(self) -> Vec<T>
+        ensures members { result.items ≡ self }
+        ensures short { length result.items < 2 ^ 32 }
+    {
+        self.items
     }
 
     /// The members in order.
@@ -98,6 +108,21 @@ impl<T: Drop> Items<T> {
         ensures { self.new ≡ take count self.old }
     {
         self.items.truncate(count);
+    }
+
+    /// Takes the last member out. None comes exactly where there is none.
+    pub fn pop(&mut self) -> Option<T>
+        ensures { MatchOption result ((self.old ≡ []) × (self.new ≡ []))
+            (λ member. self.old ≡ self.new ++ member ∷ []) }
+    {
+        self.items.pop()
+    }
+
+    /// Turns the members round: the last one is the first then.
+    pub fn reverse(&mut self)
+        ensures { self.new ≡ reversed self.old }
+    {
+        self.items.reverse();
     }
 
     /// Takes the member at this index out. The later ones move down.

@@ -1,3 +1,4 @@
+// The answer for want of memory.
 use std::alloc::{AllocError, AllocFailed};
 use std::fmt;
 

@@ -1,3 +1,4 @@
+// Locations, names, their occurrences in terms, and patterns.
 ghost use Rattle.std.specs.Prelude.{◌≡◌, IfOk};
 
 use crate::items::Items;
@@ -20,6 +21,10 @@ pub enum Name {
     Place(Loc),
     /// A channel: the site that made it, its number there, and the location whose rules define it.
     Chan { site: u32, k: u64, home: Loc },
+    /// A number.
+    Num(u64),
+    /// An operation: 0 adds two numbers, 1 compares them.
+    Op(u32),
 }
 
 /// A name's occurrence in a term.

@@ -1,3 +1,4 @@
+// The types of the numbered solution, and look-ups in it.
 ghost use Rattle.std.specs.Prelude.{◌≡◌, IfOk, slice_index};
 ghost use Rattle.chem_model.specs.Solution.{same_loc, host_of, is_there, is_marked, root, dead};
 ghost use Rattle.chem_model.specs.Solution.{live};
@@ -54,11 +55,13 @@ pub type NumberedRules = Items<NumberedRule>;
 
 pub type NumberedAtoms = Items<NumberedAtom>;
 
-/// A numbered solution: the declared counts of observed names, one count of made numbers a site,
-/// and in the order in which they were made the locations, the names given to binders (of each
-/// location and channel that was made), the rules, the messages and requests, and the observables.
+/// A numbered solution: the version of its program, the declared counts of observed names, one
+/// count of made numbers a site, and in the order in which they were made the locations, the names
+/// given to binders (of each location and channel that was made), the rules, the messages and
+/// requests, and the observables.
 #[derive(Drop)]
 pub struct Numbered {
+    pub version: u32,
     pub seen: Nums,
     pub counts: Counts,
     pub places: PlacedList,
@@ -198,6 +201,8 @@ pub fn same_name(one: Name, other: Name) -> bool
                 home: other_home,
             },
         ) => site == other_site && k == other_k && same_loc(home, other_home),
+        (Name::Num(number), Name::Num(other_number)) => number == other_number,
+        (Name::Op(op), Name::Op(other_op)) => op == other_op,
         _ => false,
     }
 }
@@ -239,6 +244,7 @@ impl Numbered {
         let atoms = self.atoms.copy(alloc)?;
         let trace = self.trace.copy(alloc)?;
         Ok(Numbered {
+            version: self.version,
             seen,
             counts,
             places,

@@ -1,3 +1,4 @@
+// Programs: declarations, sites, and the facts that a program keeps.
 ghost use Rattle.std.specs.Prelude.{◌≡◌, IfOk};
 
 use crate::items::Items;
@@ -27,13 +28,15 @@ pub type SeenDecls = Items<SeenDecl>;
 
 pub type SiteTerms = Items<SiteTerm>;
 
-/// A program: the declarations of observed names, the sites, the number of site-level binders (the
-/// names that sites define, which are numbered first), and the spelling of each binder.
+/// A program: the version of its text (1 or 2), the declarations of observed names, the sites, the
+/// number of site-level binders (the names that sites define, which are numbered first), and the
+/// spelling of each binder.
 ///
 /// Each program keeps the facts of `IsProgram`. Whoever writes one proves them, and whoever reads a
 /// field knows them.
 #[derive(Drop)]
 pub struct Program {
+    pub version: u32,
     pub seen: SeenDecls,
     pub sites: SiteTerms,
     pub tops: u32,
@@ -48,10 +51,21 @@ impl Model for Program {
 
     ghost coded = { program_code };
 
-    ghost view = { λ p. record { seen = p.seen; sites = p.sites; tops = p.tops; spell = p.spell } };
+    ghost view = { λ p. record {
+      version = p.version;
+      seen = p.seen;
+      sites = p.sites;
+      tops = p.tops;
+      spell = p.spell;
+    } };
 
-    ghost invariant = { λ p.
-        IsProgram (record { seen = p.seen; sites = p.sites; tops = p.tops; spell = p.spell }) };
+    ghost invariant = { λ p. IsProgram (record {
+      version = p.version;
+      seen = p.seen;
+      sites = p.sites;
+      tops = p.tops;
+      spell = p.spell;
+    }) };
 }
 
 impl SeenDecl {
@@ -117,6 +131,7 @@ impl Program {
         let sites = self.sites.copy(alloc)?;
         let spell = self.spell.copy(alloc)?;
         Ok(Program {
+            version: self.version,
             seen,
             sites,
             tops: self.tops,

@@ -1,3 +1,4 @@
+// Processes and definitions as trees.
 ghost use Rattle.std.specs.Prelude.{◌≡◌, IfOk};
 ghost use Rattle.chem_model.specs.Process.{processes, definitions};
 
