@@ -26,3 +26,6 @@ pub mod Joined
 pub mod Holding
 pub mod Sending
 pub mod Alike
+pub mod LeftLaws
+pub mod CausesLaws
+pub mod AtomsLaws

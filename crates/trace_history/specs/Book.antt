@@ -26,7 +26,7 @@ abbrev pub OnItsSolution : BookKept → (Numbered → Type 0) → Type 0
 OnItsSolution b P = (n : Numbered) → solution b ≡ Some n → P n
 
 -- the book stands for a start of its program: its solution is sound, and is reached from a start by
--- heating, Comm and Out alone
+-- heating, Comm, Out, Add and Same alone
 abbrev pub IsAStart : BookKept → Type 0
 IsAStart b = OnItsSolution b (λ n. IsSound n × IsOpened b.program (erase n))
 
@@ -43,7 +43,7 @@ IsStuck b = (e : Event) → is_enabled b e ≡ false
 
 -- the machine is quiet on what the solution stands for
 abbrev pub IsQuiet : BookKept → Type 0
-IsQuiet b = OnItsSolution b (λ n. Quiet n.seen (erase n))
+IsQuiet b = OnItsSolution b (λ n. Quiet n.version n.seen (erase n))
 
 -- the first event, where one is possible
 abbrev pub Finds : BookKept → ℕ → Option Found → Type 0

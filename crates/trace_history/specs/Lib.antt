@@ -2,4 +2,5 @@ pub mod Kept
 pub mod First
 pub mod Book
 pub mod Crosses
+pub mod Left
 pub mod inside

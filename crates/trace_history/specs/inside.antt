@@ -6,3 +6,4 @@ pub mod Table
 pub mod Heard
 pub mod Walk
 pub mod Older
+pub mod Causes

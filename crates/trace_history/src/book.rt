@@ -10,15 +10,21 @@ ghost use Rattle.chem_model.specs.Opening.{opening};
 ghost use Rattle.trace_history.specs.Kept.{is_enabled};
 ghost use Rattle.trace_history.specs.inside.Waiting.{AreFiled};
 ghost use Rattle.trace_history.specs.Book.{Commits, IsAStart, IsAReduction, OnItsSolution};
+ghost use Rattle.trace_history.specs.Left.{IsLeftAt, AreLeft, AreAtomsOf};
 ghost use Rattle.trace_history.specs.Book.{IsStuck, IsQuiet, Finds, Replays};
 
+use crate::all_causes::{all_left, ids_of};
+use crate::causes::left_at;
 use crate::older::{Older, ready};
 use crate::possible::is_possible;
 use crate::search::{first_event, is_stuck};
 use crate::waiting::{Waiting, file};
+use chem_causes::{Left, Lefts};
 use chem_commit::{Guesses, make_event, note};
 use chem_laws::{event_is_a_reduction, opening_is_a_start, replay_is_a_run, stuck_is_quiet};
-use chem_model::{Event, Items, Journal, Memory, Name, Naming, Numbered, Outs, Program};
+use chem_model::{
+    AtomId, Atoms, Event, Items, Journal, Memory, Name, Naming, Numbered, Outs, Program,
+};
 use chem_plain::opening;
 use std::alloc::Global;
 use std::marker::Model;
@@ -248,6 +254,31 @@ impl Book {
         ensures { OnItsSolution self.now (λ n. result.now ≡ n.named) }
     {
         &self.solution.named
+    }
+
+    /// The message or request with this number: where it is left, and why. None where there is no
+    /// such one. It takes no memory.
+    pub fn cause(&self, atom: &AtomId) -> Option<Left>
+        ensures { OnItsSolution self.now (λ n. IsLeftAt n atom.now result) }
+    {
+        self.is_sound();
+        left_at(&self.solution, &self.guesses, &self.older, *atom)
+    }
+
+    /// Every message and request, by rising number, and why it is left.
+    pub fn causes(&self, alloc: Global) -> Result<Lefts, Memory>
+        ensures { IfOk result (λ lefts. OnItsSolution self.now (λ n. AreLeft n lefts)) }
+    {
+        self.is_sound();
+        all_left(alloc, &self.solution, &self.guesses, &self.older)
+    }
+
+    /// The numbers of all messages and requests, by rising number.
+    pub fn atoms(&self, alloc: Global) -> Result<Atoms, Memory>
+        ensures { IfOk result (λ ids. OnItsSolution self.now (λ n. AreAtomsOf n ids)) }
+    {
+        let lefts = self.causes(alloc)?;
+        ids_of(alloc, lefts.as_slice())
     }
 
     /// The program, and the events since its opening.

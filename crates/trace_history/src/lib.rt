@@ -1,7 +1,9 @@
 //! The book of a run: a program, and the events since its opening.
 #![tactic(auto)]
 
+mod all_causes;
 mod book;
+mod causes;
 mod crossing;
 mod heard;
 mod keys;

@@ -9,7 +9,11 @@ use chem_model::{AtomId, Atoms, Event, Loc, Numbered, NumberedAtom, Pats};
 use chem_plain::{atom_at, can_be_told, can_halt, can_move, meets, rule_at};
 
 /// The message or request with this number.
-fn atom_of<'a>(numbered: &'a Numbered, older: &'a Older, id: AtomId) -> Option<&'a NumberedAtom>
+pub(crate) fn atom_of<'a>(
+    numbered: &'a Numbered,
+    older: &'a Older,
+    id: AtomId,
+) -> Option<&'a NumberedAtom>
     ensures { option_copied result ≡ atom_at (older.now.table ++ numbered.now.atoms) id }
 {
     match older.table.get(id) {

@@ -20,7 +20,7 @@ use crate::book::Found;
 use crate::heard::{hear_all, hear_older, may_be_met};
 use crate::older::{Older, first_older};
 use crate::waiting::{Waiting, is_same_slot, slot_of_number, slot_of_term};
-use chem_commit::{Guesses, can_detect, can_go, is_live, root_of};
+use chem_commit::{Guesses, can_detect, can_go, falls, is_live, root_of};
 use chem_model::{
     AtomId, Atoms, Event, Items, Loc, Memory, Numbered, NumberedAtom, NumberedRule, Pat, Pats,
     Proc, ProcNode,
@@ -156,7 +156,12 @@ fn is_met(numbered: &Numbered, older: &Older, at: Loc, pat: &Pat) -> bool
 }
 
 /// Whether a rule stands at a live location and each of its patterns receives a message.
-fn is_ready(numbered: &Numbered, guesses: &Guesses, older: &Older, rule: &NumberedRule) -> bool
+pub(crate) fn is_ready(
+    numbered: &Numbered,
+    guesses: &Guesses,
+    older: &Older,
+    rule: &NumberedRule,
+) -> bool
     requires sound { IsSound numbered.now }
     requires queued { AreQueued older.now.table older.now.keys.keys }
     ensures { result ≡ is_ready (whole older.now.table numbered.now) rule.now }
@@ -600,13 +605,15 @@ fn first_rule<'a>(
 }
 
 /// Whether this is a request that can be met.
-fn can_act(numbered: &Numbered, guesses: &Guesses, atom: &NumberedAtom) -> bool
+pub(crate) fn can_act(numbered: &Numbered, guesses: &Guesses, atom: &NumberedAtom) -> bool
     requires { IsSound numbered.now }
     ensures { result ≡ can_act numbered.now atom.now }
 {
     match atom.term.node() {
         ProcNode::Go { target, .. } => match location_of(*target) {
-            Some(to) => can_go(numbered, guesses, atom.loc, to),
+            Some(to) => {
+                can_go(numbered, guesses, atom.loc, to) || falls(numbered, guesses, atom.loc, to)
+            }
             None => false,
         },
         ProcNode::Halt => is_live(numbered, guesses, atom.loc),

@@ -2,6 +2,7 @@
 // each number finds.
 ghost use Rattle.std.specs.Prelude.{◌≡◌, [], None, OnOk, OnErr};
 ghost use Rattle.std.specs.Option.{option_copied};
+ghost use Rattle.std.specs.Map.Iter.{ShowsInOrder, deref};
 ghost use Rattle.chem_model.specs.Apply.{atom_at, without};
 ghost use Rattle.chem_commit.specs.inside.Differ.{AtomsDiffer};
 ghost use Rattle.trace_history.specs.inside.Table.{Adds};
@@ -9,6 +10,7 @@ ghost use Rattle.trace_history.specs.inside.Table.{Adds};
 use chem_model::{AtomId, Memory, NumberedAtom};
 use std::alloc::Global;
 use std::collections::BTreeMap;
+use std::collections::btree_map::Values;
 use std::marker::Model;
 
 /// Messages by number.
@@ -49,6 +51,14 @@ impl AtomTable {
         ensures { option_copied result ≡ atom_at self.now id }
     {
         self.map.get(&(id.site, id.k))
+    }
+
+    /// All of them.
+    pub(crate) fn values(&self) -> Values<'_, (u32, u64), NumberedAtom>
+        ensures rest { result ≡ self.now }
+        ensures runs { ShowsInOrder (deref {X = NumberedAtom}) }
+    {
+        self.map.values()
     }
 
     /// Adds one whose number isn't there. On want of memory nothing changes.
