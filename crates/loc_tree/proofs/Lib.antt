@@ -5,3 +5,4 @@ pub mod Follows
 pub mod Newest
 pub mod Keeps
 pub mod Sound
+pub mod Away

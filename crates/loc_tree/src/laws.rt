@@ -1,6 +1,7 @@
+// The laws that tie the tree to a numbered solution, each on a function that does nothing.
 ghost use Rattle.loc_tree.specs.Places.{IsTree};
 ghost use Rattle.loc_tree.specs.Laws.{HoldsWhatIsThere, AliveIsLive, NumberIsOfRoot};
-ghost use Rattle.loc_tree.specs.Laws.{MovesAsGoNeeds, DiesAsDetectNeeds};
+ghost use Rattle.loc_tree.specs.Laws.{MovesAsGoNeeds, FallsAsFallNeeds, DiesAsDetectNeeds};
 ghost use Rattle.loc_tree.specs.Laws.{RootsAreOpened, BirthFollows, MoveFollows, MarkFollows};
 ghost use Rattle.loc_tree.specs.Laws.{SoundHasTree, RootsAreSites};
 
@@ -24,6 +25,12 @@ pub fn number_is_of_root()
 /// the target is a live root. It does nothing.
 pub fn moves_as_go_needs()
     ensures { MovesAsGoNeeds }
+{}
+
+/// A location can fall exactly where the rule Fall has what it needs, save for the version: it is
+/// live and has a host, and the target is a dead root. It does nothing.
+pub fn falls_as_fall_needs()
+    ensures { FallsAsFallNeeds }
 {}
 
 /// Death is that of the machine: the rule Detect has what it needs exactly where the one location

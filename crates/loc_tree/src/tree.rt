@@ -1,3 +1,4 @@
+// Where locations are: the number of the site that hosts each, and its mark.
 ghost use Rattle.std.specs.Prelude.{◌≡◌, ◌≢◌, ◌<◌, ◌≤◌, ◌↔◌, ◌+◌, max, ℕ, List, [], ◌∷◌, ◌++◌};
 ghost use Rattle.std.specs.Prelude.{Some, None, true, length, slice_index, IfOk, OnOk, OnErr};
 ghost use Rattle.std.specs.Prelude.{IsTrue, IsOk, IsSome, is_some};
@@ -10,11 +11,11 @@ ghost use Rattle.chem_model.specs.declared.program.SiteTerm.{SiteTerm};
 ghost use Rattle.chem_model.specs.Solution.{is_there, root, live};
 ghost use Rattle.chem_model.specs.Numbered.{standing};
 ghost use Rattle.chem_model.specs.Opening.{root_of, roots as opened_roots};
-ghost use Rattle.chem_model.specs.Apply.{can_go, with_hosts, with_marks};
+ghost use Rattle.chem_model.specs.Apply.{can_go, can_fall as falls_in, with_hosts, with_marks};
 ghost use Rattle.loc_tree.specs.Tree.{spot, number_in, has_mark, is_root, is_alive, can_move};
 ghost use Rattle.loc_tree.specs.Tree.{is_pair_of, change_spot, marked, renumbered, unmarked};
 ghost use Rattle.loc_tree.specs.Tree.{IsFresh, unmarked_roots, with_room, with_birth};
-ghost use Rattle.loc_tree.specs.Tree.{with_number, with_mark};
+ghost use Rattle.loc_tree.specs.Tree.{with_number, with_mark, can_fall, can_leave};
 ghost use Rattle.loc_tree.specs.Places.{IsTree, IsTreeOf};
 ghost use Rattle.loc_tree.specs.Laws.{born_under};
 ghost use Rattle.loc_tree.specs.inside.Stored.{is_below};
@@ -253,9 +254,22 @@ impl LocTree {
         self.alive(loc) && !self.is_root(loc) && self.alive(target) && self.is_root(target)
     }
 
-    /// Moves the location under the target: its number becomes that of the target.
+    /// Whether the rule Fall takes the location down with the target, in a text of version 2: it is
+    /// alive and no root, and the target is a root that is dead.
+    pub fn can_fall(&self, loc: &Loc, target: &Loc) -> bool
+        requires loc { IsSome (spot self.now loc.now) }
+        requires target { IsSome (spot self.now target.now) }
+        ensures tree { result ≡ can_fall self.now loc.now target.now }
+        ensures fall { (n : Numbered) → IsTreeOf self.now n.places
+            → result ≡ falls_in n loc.now target.now }
+    {
+        self.alive(loc) && !self.is_root(loc) && !self.alive(target) && self.is_root(target)
+    }
+
+    /// Moves the location under the target, be it alive or dead: its number becomes that of the
+    /// target.
     pub fn rehost(&mut self, loc: &Loc, target: &Loc)
-        requires { IsTrue (can_move self.old loc.now target.now) }
+        requires { IsTrue (can_leave self.old loc.now target.now) }
         ensures tree { self.new ≡ with_number self.old loc.now target.now.site }
         ensures number { number_in (spot self.new loc.now) ≡ number_in (spot self.old target.now) }
         ensures placed { (placed : List Placed) → IsTreeOf self.old placed

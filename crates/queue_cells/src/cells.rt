@@ -1,3 +1,4 @@
+// Queues as linked cells of one slab.
 ghost use Rattle.std.specs.Prelude.{◌≡◌, ◌≢◌, ◌+◌, ◌<◌, ◌≤◌, ℕ, Some};
 ghost use Rattle.slab.specs.Slab.{get, HasRoomFor, slab_len};
 ghost use Rattle.queue_cells.specs.declared.cells.Cell.{Cell};

@@ -1,3 +1,4 @@
+// Groups of queues, over one slab of cells.
 ghost use Rattle.std.specs.Prelude.{◌≡◌, ◌≤◌, ◌<◌, ◌+◌, ◌∷◌, ◌++◌, ◌↔◌, [], length, Some};
 ghost use Rattle.std.specs.Prelude.{slice_get, remove, option_copied, IsOk, IsTrue, OnOk, OnErr};
 ghost use Rattle.queue_cells.specs.Grouped.{lists_at, queue_in, with_queue, with_last, waiting};

@@ -1,3 +1,4 @@
+// What is told of a group, and the ends of its queues.
 ghost use Rattle.std.specs.Prelude.{◌≡◌, ◌<◌, map, length, slice_set, IfOk};
 ghost use Rattle.queue_cells.specs.Grouped.{ForGroup};
 ghost use Rattle.queue_cells.specs.inside.Rows.{is_held};

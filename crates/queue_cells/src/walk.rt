@@ -1,3 +1,4 @@
+// A walk over the messages of a queue.
 ghost use Rattle.std.specs.Prelude.{◌≡◌};
 ghost use Rattle.queue_cells.specs.inside.Walk.{IsQueue, messages};
 ghost use Rattle.std.specs.Iterator.{YieldsFirstBy, item_count};

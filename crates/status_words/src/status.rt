@@ -1,3 +1,4 @@
+// Sets of small numbers, in words of 64 bits.
 ghost use Rattle.std.specs.Prelude.{◌≡◌, ◌<◌, ◌↔◌, true, false};
 ghost use Rattle.std.specs.Prelude.{length, slice_set, replicate, IfOk, IsTrue};
 ghost use Rattle.status_words.specs.Words.{number_of_words, Covers};

@@ -5,15 +5,15 @@ use Rattle.chem_model.specs.declared.event.RuleId.{RuleId}
 use Rattle.chem_model.specs.declared.name.Loc.{Loc}
 use Rattle.chem_model.specs.declared.name.Name.{Name}
 use Rattle.chem_model.specs.declared.name.Name.TheVariants as name
-use Rattle.wire_packet.specs.declared.packet.GroupInst.{GroupInst}
+use Rattle.wire_packet.specs.GroupFacts.{GroupParts, RequestParts}
 use Rattle.wire_packet.specs.declared.packet.Waiting.{Waiting}
-use Rattle.wire_packet.specs.declared.packet.Request.{Request}
 use Rattle.wire_packet.specs.ParcelFacts.{ParcelParts}
 use Rattle.wire_packet.specs.declared.fault.Fault.{Fault}
 use Rattle.wire_packet.specs.declared.fault.Fault.TheVariants as fault
 use Rattle.wire_packet.specs.declared.reading.Draft.{Draft}
 use Rattle.wire_packet.specs.Format.{Format, field, four, eight}
 use Rattle.wire_packet.specs.Packets.{any, numbers, may_site, may_k, names, group_list}
+use Rattle.wire_packet.specs.Packets.{is_operation}
 use Rattle.wire_packet.specs.Packets.{waiting_list, request_list}
 use Rattle.wire_packet.specs.Reading.{read}
 
@@ -59,6 +59,20 @@ one_home home next =
 abbrev pub one_channel : {A : Type 0} → Option Loc → (Name → Format A) → Format A
 one_channel home next = numbers (λ s k. one_home home (λ l. next (name.Chan s k l)))
 
+abbrev pub one_number : {A : Type 0} → (Name → Format A) → Format A
+one_number next = field eight any (λ n. next (name.Num n))
+
+abbrev pub one_operation : {A : Type 0} → (Name → Format A) → Format A
+one_operation next = field four is_operation (λ i. next (name.Op i))
+
+-- the place of a name's tag in the table
+abbrev pub tag_of : Name → ℕ
+tag_of (name.Seen i) = 0
+tag_of (name.Place a) = 1
+tag_of (name.Chan s k h) = 2
+tag_of (name.Num n) = 3
+tag_of (name.Op i) = 4
+
 -- what stands before the environment of a group: its level, and its two ids
 abbrev pub group_head : {A : Type 0} → (ℕ × AtomId × RuleId → Format A) → Format A
 group_head next =
@@ -71,11 +85,12 @@ abbrev pub all_names : {A : Type 0} → (List Name → Format A) → Format A
 all_names next = field four any (λ n. names n next)
 
 -- the lists of a parcel, each behind its length
-abbrev pub all_groups : {A : Type 0} → Loc → (List GroupInst → Format A) → Format A
+abbrev pub all_groups : {A : Type 0} → Loc → (List GroupParts → Format A) → Format A
 all_groups l next = field four any (λ n. group_list l n next)
 
 abbrev pub all_waiting : {A : Type 0} → Loc → (List Waiting → Format A) → Format A
 all_waiting l next = field four any (λ n. waiting_list l n next)
 
-abbrev pub all_requests : {A : Type 0} → Loc → (ℕ → ℕ → Bool) → (List Request → Format A) → Format A
+abbrev pub all_requests :
+    {A : Type 0} → Loc → (ℕ → ℕ → Bool) → (List RequestParts → Format A) → Format A
 all_requests l taken next = field four any (λ n. request_list l taken n next)
