@@ -1,7 +1,8 @@
+// Whether a request to detect a failure finds its location dead.
 ghost use Rattle.std.specs.Prelude.{◌≡◌, List, Some, true, IsSome, is_some};
 ghost use Rattle.chem_model.specs.declared.event.Event.TheVariants as event;
 ghost use Rattle.chem_model.specs.declared.numbered.NumberedRule.{NumberedRule};
-ghost use Rattle.wire_packet.specs.declared.packet.GroupInst.{GroupInst};
+ghost use Rattle.wire_packet.specs.GroupFacts.{GroupParts};
 ghost use Rattle.site_solution.specs.InTree.{name_stands, is_in_tree};
 ghost use Rattle.site_solution.specs.inside.InTree.{request_stands};
 ghost use Rattle.loc_tree.specs.Tree.{spot};
@@ -20,7 +21,7 @@ fn has_died(tree: &LocTree, name: Name) -> bool
 {
     match name {
         Name::Place(loc) => !tree.alive(&loc),
-        Name::Seen(_) | Name::Chan { .. } => false,
+        Name::Seen(_) | Name::Chan { .. } | Name::Num(_) | Name::Op(_) => false,
     }
 }
 
@@ -43,7 +44,7 @@ fn sees_death(tree: &LocTree, request: &Request) -> bool
 pub fn dead_for(site: &Site, tree: &LocTree, atom: &AtomId) -> Option<Event>
     requires { is_in_tree tree.now site.now ≡ true }
     ensures exact { result ≡ dead_for tree.now atom.now site.now }
-    ensures possible { (rules_of : GroupInst → List NumberedRule)
+    ensures possible { (rules_of : GroupParts → List NumberedRule)
         → Foretells rules_of tree.now site.now atom.now (event.Detect atom.now) (is_some result) }
 {
     site_is_kept(site);

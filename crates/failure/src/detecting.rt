@@ -1,8 +1,10 @@
+// Requests to detect a failure, as they are met.
 ghost use Rattle.std.specs.Prelude.{◌≡◌, ◌≢◌, List, true, is_some, IfOk, OnErr};
 ghost use Rattle.chem_model.specs.declared.name.Name.{Name};
 ghost use Rattle.chem_model.specs.declared.numbered.NumberedRule.{NumberedRule};
 ghost use Rattle.wire_packet.specs.declared.packet.Ask.TheVariants as request;
-ghost use Rattle.wire_packet.specs.declared.packet.GroupInst.{GroupInst};
+ghost use Rattle.wire_packet.specs.GroupFacts.{GroupParts, IsAskKept};
+ghost use Rattle.wire_packet.specs.Operations.{IsPlain};
 ghost use Rattle.env_store.specs.CodeParts.{CodeParts};
 ghost use Rattle.site_solution.specs.InTree.{is_in_tree};
 ghost use Rattle.site_solution.specs.InCode.{is_in_code};
@@ -20,7 +22,8 @@ use wire_packet::Ask;
 // The continuation of a request that has one.
 fn continuation(ask: Ask) -> Name
     requires { ask ≢ request.Halt }
-    ensures { (target cont : Name) → ask ≡ request.Fail target cont → result ≡ cont }
+    ensures cont { (target cont : Name) → ask ≡ request.Fail target cont → result ≡ cont }
+    ensures plain { IsAskKept ask → IsPlain result }
 {
     match ask {
         Ask::Go { target: _, cont } | Ask::Fail { target: _, cont } => cont,
@@ -43,7 +46,7 @@ pub fn detect(
     requires dead { is_some (dead_for tree.now atom.now site.old) ≡ true }
     ensures ok { IfOk result (λ e.
         IsDetection counts.now atom.now tree.now site.old site.new e) }
-    ensures one_event { IfOk result (λ e. (rules_of : GroupInst → List NumberedRule)
+    ensures one_event { IfOk result (λ e. (rules_of : GroupParts → List NumberedRule)
         → IsOneDetection rules_of counts.now atom.now tree.now site.old site.new e) }
     ensures keeps { IfOk result (λ _. HasEmitted tree.now site.new) }
     ensures in_code { IfOk result (λ _. (code : CodeParts)

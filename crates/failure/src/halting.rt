@@ -1,7 +1,8 @@
+// Requests to halt: whether one may be met, and meeting it.
 ghost use Rattle.std.specs.Prelude.{◌≡◌, List, Some, true, IsSome};
 ghost use Rattle.chem_model.specs.declared.event.Event.TheVariants as event;
 ghost use Rattle.chem_model.specs.declared.numbered.NumberedRule.{NumberedRule};
-ghost use Rattle.wire_packet.specs.declared.packet.GroupInst.{GroupInst};
+ghost use Rattle.wire_packet.specs.GroupFacts.{GroupParts};
 ghost use Rattle.env_store.specs.CodeParts.{CodeParts};
 ghost use Rattle.loc_tree.specs.Tree.{spot};
 ghost use Rattle.site_solution.specs.InTree.{is_in_tree};
@@ -30,7 +31,7 @@ fn is_ready(tree: &LocTree, request: &Request) -> bool
 pub fn halt_ready(site: &Site, tree: &LocTree, atom: &AtomId) -> bool
     requires { is_in_tree tree.now site.now ≡ true }
     ensures exact { result ≡ can_halt tree.now atom.now site.now }
-    ensures possible { (rules_of : GroupInst → List NumberedRule)
+    ensures possible { (rules_of : GroupParts → List NumberedRule)
         → Foretells rules_of tree.now site.now atom.now (event.Halt atom.now) result }
 {
     site_is_kept(site);
@@ -48,7 +49,7 @@ pub fn halt(tree: &mut LocTree, site: &mut Site, atom: &AtomId) -> Event
     requires ready { can_halt tree.old atom.now site.old ≡ true }
     ensures event { result ≡ event.Halt atom.now }
     ensures halt { IsHalt atom.now tree.old site.old tree.new site.new }
-    ensures one_event { (rules_of : GroupInst → List NumberedRule)
+    ensures one_event { (rules_of : GroupParts → List NumberedRule)
         → IsOneHalt rules_of atom.now tree.old site.old site.new }
     ensures in_tree { is_in_tree tree.new site.new ≡ true }
     ensures in_code { (code : CodeParts) → is_in_code code tree.old site.old ≡ true

@@ -1,6 +1,6 @@
 -- What both sites and all others keep of a move from one site to another.
 use Rattle.std.proofs.Common.{◌≡◌, ℕ, ◌<◌, ◌++◌, Bool, true, false, cond, List, [], ◌∷◌, Some, refl, sym, ap, subst, ◌∙◌, arith}
-use Rattle.std.specs.Prelude.{◌&&◌, not, is_some}
+use Rattle.std.specs.Prelude.{◌&&◌, is_some}
 use Rattle.std.specs.List.{list_all}
 use Rattle.std.proofs.lemmas.Bool.{and_parts, and_from, not-true}
 use Rattle.std.proofs.lemmas.Bool.Decides.{nat_tests}
@@ -12,9 +12,9 @@ use Rattle.chem_model.specs.Opening.{root_of}
 use Rattle.chem_model.specs.Solution.{same_loc}
 use Rattle.wire_packet.specs.MessageFacts.{MessageParts}
 use Rattle.wire_packet.specs.declared.packet.Waiting.{Waiting}
-use Rattle.wire_packet.specs.declared.packet.Request.{Request}
+use Rattle.wire_packet.specs.GroupFacts.{RequestParts}
 use Rattle.env_store.specs.CodeParts.{CodeParts}
-use Rattle.loc_tree.specs.Tree.{Tree, spot, number_in, is_root, is_alive, can_move, with_number}
+use Rattle.loc_tree.specs.Tree.{Tree, spot, number_in, is_root, can_leave, with_number}
 use Rattle.loc_tree.specs.Places.{IsTree}
 use Rattle.loc_tree.proofs.Spots.{same_loc_is}
 use Rattle.net_laws.specs.Site.{Told, Group, told_in, Site}
@@ -30,6 +30,7 @@ use Rattle.site_solution.proofs.AllHold.{group_holds, all-both}
 use Rattle.site_solution.proofs.Together.{in_tree_parts, in_tree_from, drop_in_tree, number_here}
 use Rattle.site_solution.proofs.Staying.{number_agrees, number_moved, others_fit, load_more}
 use Rattle.router.proofs.Sending.{asked_here}
+use Rattle.migration.proofs.Within.{leaves}
 
 -- ---- what holds of all that a site holds, holds of what is packed
 
@@ -64,7 +65,7 @@ module _ (l : Loc) where
       go true one rest = and_from (p w) (list_all p (stuck_at l ws)) one rest
       go false one rest = rest
 
-  all_requests_at : (p : Request → Bool) (qs : List Request) → list_all p qs ≡ true → list_all p (requests_at l qs) ≡ true
+  all_requests_at : (p : RequestParts → Bool) (qs : List RequestParts) → list_all p qs ≡ true → list_all p (requests_at l qs) ≡ true
   all_requests_at p [] h = refl
   all_requests_at p (q ∷ qs) h =
       let both = and_parts (p q) (list_all p qs) h in
@@ -122,13 +123,15 @@ pub name_there : (t u : Tree) → ((x : Loc) → is_some (spot t x) ≡ is_some 
 name_there t u same (name.Seen j) h = refl
 name_there t u same (name.Place a) h = sym (same a) ∙ h
 name_there t u same (name.Chan s j a) h = sym (same a) ∙ h
+name_there t u same (name.Num n) h = refl
+name_there t u same (name.Op i) h = refl
 
 -- ---- the location that moves
 
 is_root_of : (t : Tree) (n : ℕ) → n < t.roots → is_root t (root_of n) ≡ true
 is_root_of t n below = grind (arith, nat_tests)
 
-module _ (t : Tree) (from into : Site) (i : AtomId) (q : Request) (b : Loc) (there : request_with i from.requests ≡ Some q) (can : can_move t q.loc b ≡ true) (kept_from : IsKept from) (from_tree : is_in_tree t from ≡ true) (tree : IsTree t)
+module _ (t : Tree) (from into : Site) (i : AtomId) (q : RequestParts) (b : Loc) (there : request_with i from.requests ≡ Some q) (can : can_leave t q.loc b ≡ true) (kept_from : IsKept from) (from_tree : is_in_tree t from ≡ true) (tree : IsTree t)
     (number : b.site ≡ into.number) (moved : Tree) (moves : moved ≡ with_number t q.loc b.site) where
   at : number_in (spot t q.loc) ≡ Some from.number
   at = number_here t from.number from.locs q.loc (in_tree_parts t from from_tree).hosted (asked_here from i q kept_from there)
@@ -143,7 +146,7 @@ module _ (t : Tree) (from into : Site) (i : AtomId) (q : Request) (b : Loc) (the
       go false e = refl
       go true e =
           let root : is_root t q.loc ≡ true = ap (is_root t) (same_loc_is q.loc (root_of from.number) e) ∙ is_root_of t from.number (tree.below q.loc from.number at) in
-          let other : is_root t q.loc ≡ false = not-true (is_root t q.loc) (and_parts (is_alive t q.loc) (not (is_root t q.loc)) (and_parts (is_alive t q.loc && not (is_root t q.loc)) (is_alive t b && is_root t b) can).0).1 in
+          let other : is_root t q.loc ≡ false = not-true (is_root t q.loc) (leaves t q.loc b can).no_root in
           absurd (cc)
 
   pub others_keep : (c : CodeParts) (s : Site) → (s.number ≡ from.number → ⊥) → StillFits c t s moved s

@@ -4,5 +4,6 @@ pub mod Without
 pub mod Between
 pub mod Across
 pub mod Sent
+pub mod Arrivals
 pub mod Joining
 pub mod Keeping

@@ -18,7 +18,8 @@ fn place_of(requests: &[Request], atom: AtomId) -> usize
         ≡ without_request atom requests.now }
 {
     for index in 0..requests.len() {
-        if is_same(requests[index].id, atom) {
+        let request = &requests[index];
+        if is_same(request.id, atom) {
             return index;
         }
     }

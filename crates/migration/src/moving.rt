@@ -1,8 +1,10 @@
+// Moves within a site.
 ghost use Rattle.std.specs.Prelude.{◌≡◌, List, true, IfOk, OnErr};
 ghost use Rattle.chem_model.specs.declared.name.Name.TheVariants as name;
 ghost use Rattle.chem_model.specs.declared.numbered.NumberedRule.{NumberedRule};
 ghost use Rattle.wire_packet.specs.declared.packet.Ask.TheVariants as request;
-ghost use Rattle.wire_packet.specs.declared.packet.GroupInst.{GroupInst};
+ghost use Rattle.wire_packet.specs.GroupFacts.{GroupParts, IsAskKept};
+ghost use Rattle.wire_packet.specs.Operations.{IsPlain};
 ghost use Rattle.env_store.specs.CodeParts.{CodeParts};
 ghost use Rattle.net_laws.specs.Site.{Site as site_of_net};
 ghost use Rattle.site_solution.specs.InTree.{is_in_tree};
@@ -23,7 +25,8 @@ use wire_packet::Ask;
 // The location to which a request asks to go, and its continuation.
 pub(crate) fn goal_of(ask: Ask) -> (Loc, Name)
     requires { has_goal ask ≡ true }
-    ensures { ask ≡ request.Go (name.Place result.0) result.1 }
+    ensures asks { ask ≡ request.Go (name.Place result.0) result.1 }
+    ensures plain { IsAskKept ask → IsPlain result.1 }
 {
     match ask {
         Ask::Go {
@@ -35,8 +38,10 @@ pub(crate) fn goal_of(ask: Ask) -> (Loc, Name)
 }
 
 /// Meets a request to go to a location that its own site hosts: the request goes, and its
-/// continuation is poured where it stood. Where there is no memory, nothing changes. What the tests
-/// say of other sites they say still.
+/// continuation is poured where it stood. The target is alive then, since a location that falls
+/// goes to another site. It is one event of each solution of which the site is a part, beside any
+/// others, where the solution's version allows it. Where there is no memory, nothing changes. What
+/// the tests say of other sites they say still.
 pub fn move_within(
     alloc: Global,
     site: &mut Site,
@@ -46,11 +51,11 @@ pub fn move_within(
 ) -> Result<Effects, Memory>
     requires in_tree { is_in_tree tree.old site.old ≡ true }
     requires can_draw { CanDraw tree.old site.old }
-    requires ready { can_go tree.old atom.now site.old ≡ true }
+    requires ready { can_go 2 tree.old atom.now site.old ≡ true }
     requires hosted { leads_into atom.now site.old site.old ≡ true }
     ensures ok { IfOk result (λ e.
         IsMoveWithin counts.now atom.now tree.old site.old tree.new site.new e) }
-    ensures one_event { IfOk result (λ e. (rules_of : GroupInst → List NumberedRule)
+    ensures one_event { IfOk result (λ e. (rules_of : GroupParts → List NumberedRule)
         → IsOneMove rules_of counts.now atom.now tree.old site.old tree.new site.new e) }
     ensures keeps { IfOk result (λ _. HasEmitted tree.new site.new) }
     ensures in_code { IfOk result (λ _. (code : CodeParts)

@@ -1,12 +1,11 @@
+// Whether a request to go may be met, and to which site it leads.
 ghost use Rattle.std.specs.Prelude.{◌≡◌, List, Some, true, IsSome};
-ghost use Rattle.chem_model.specs.declared.event.Event.TheVariants as event;
 ghost use Rattle.chem_model.specs.declared.numbered.NumberedRule.{NumberedRule};
-ghost use Rattle.wire_packet.specs.declared.packet.GroupInst.{GroupInst};
+ghost use Rattle.wire_packet.specs.GroupFacts.{GroupParts};
 ghost use Rattle.loc_tree.specs.Tree.{spot};
 ghost use Rattle.site_solution.specs.inside.InTree.{request_stands};
 ghost use Rattle.site_solution.specs.InTree.{is_in_tree};
-ghost use Rattle.site_solution.specs.Possible.{Foretells};
-ghost use Rattle.migration.specs.Moves.{is_ready, can_go};
+ghost use Rattle.migration.specs.Moves.{is_ready, can_go, ForetellsMove};
 ghost use Rattle.migration.specs.Within.{leads_into};
 
 use chem_model::{AtomId, Name};
@@ -14,32 +13,37 @@ use loc_tree::LocTree;
 use site_solution::{Site, site_is_kept};
 use wire_packet::{Ask, Request};
 
-// Whether the request is one to go, where the rule Go lets its location move to the target.
-fn is_ready(tree: &LocTree, request: &Request) -> bool
+// Whether the request is one to go, where the rule Go lets its location move to the target, or in
+// version 2 the rule Fall.
+fn is_ready(tree: &LocTree, version: u32, request: &Request) -> bool
     requires loc { IsSome (spot tree.now request.now.loc) }
     requires names { request_stands tree.now request.now ≡ true }
-    ensures { result ≡ is_ready tree.now (Some request.now) }
+    ensures { result ≡ is_ready version tree.now (Some request.now) }
 {
     match request.ask {
         Ask::Go {
             target: Name::Place(target),
             cont: _,
-        } => tree.can_move(&request.loc, &target),
+        } => {
+            tree.can_move(&request.loc, &target)
+                || version == 2 && tree.can_fall(&request.loc, &target)
+        }
         _ => false,
     }
 }
 
-/// Whether this is a request of the site to go, which the rule Go allows: exactly where that event
-/// is possible, whatever stands beside the site.
-pub fn move_ready(site: &Site, tree: &LocTree, atom: &AtomId) -> bool
+/// Whether this is a request of the site to go, which the rule Go allows, or in version 2 the rule
+/// Fall: exactly where that event is possible in a solution of this version, whatever stands beside
+/// the site.
+pub fn move_ready(site: &Site, tree: &LocTree, version: u32, atom: &AtomId) -> bool
     requires { is_in_tree tree.now site.now ≡ true }
-    ensures exact { result ≡ can_go tree.now atom.now site.now }
-    ensures possible { (rules_of : GroupInst → List NumberedRule)
-        → Foretells rules_of tree.now site.now atom.now (event.Move atom.now) result }
+    ensures exact { result ≡ can_go version tree.now atom.now site.now }
+    ensures possible { (rules_of : GroupParts → List NumberedRule)
+        → ForetellsMove rules_of version tree.now site.now atom.now result }
 {
     site_is_kept(site);
     match site.request(atom) {
-        Some(request) => is_ready(tree, request),
+        Some(request) => is_ready(tree, version, request),
         None => false,
     }
 }

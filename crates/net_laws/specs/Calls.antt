@@ -11,12 +11,12 @@ use Rattle.chem_model.specs.Reduction.{continuation}
 use Rattle.chem_model.specs.Opening.{root_of}
 use Rattle.chem_model.specs.Pour.{pour}
 use Rattle.wire_packet.specs.MessageFacts.{MessageParts}
-use Rattle.wire_packet.specs.declared.packet.GroupInst.{GroupInst}
-use Rattle.wire_packet.specs.declared.packet.Request.{Request}
-use Rattle.loc_tree.specs.Tree.{Tree, spot, number_in, is_alive, is_dead, can_move, with_number}
+use Rattle.wire_packet.specs.GroupFacts.{GroupParts, RequestParts}
+use Rattle.loc_tree.specs.Tree.{Tree, spot, number_in, is_alive, is_dead, with_number}
 use Rattle.net_laws.specs.Site.{Told, Group, Site, told_in, coded_atom, message_atom}
 use Rattle.net_laws.specs.Net.{IsOnItsWay, among}
 use Rattle.net_laws.specs.Changes.{IsGuard, Takes, Alters, given_all}
+use Rattle.net_laws.specs.Moves.{may_go, moved_made}
 use Rattle.net_laws.specs.Kept.{IsKept}
 use Rattle.net_laws.specs.Holding.{put, request_with, drop_request}
 use Rattle.net_laws.specs.Posting.{Outcome, Posted, pour_here, with_queues}
@@ -33,7 +33,7 @@ pub record Keeps (count : ℕ) (s : Site) (ds : List Told) (o : Outcome) : Type 
   pub told : told_in o.site.groups ≡ told_in s.groups ++ ds
   pub sent : Each (IsOnItsWay count) o.sends
 
-module _ (rules_of : GroupInst → List NumberedRule) where
+module _ (rules_of : GroupParts → List NumberedRule) where
   -- the fronts of a guard's queues are taken, and a run of its body is poured
   abbrev pub ReactCall : Type 0
   ReactCall =
@@ -53,7 +53,7 @@ module _ (rules_of : GroupInst → List NumberedRule) where
   -- a request is dropped, and a run of its continuation is poured
   abbrev pub DetectCall : Type 0
   DetectCall =
-      (seen : List ℕ) (count : ℕ) (t : Tree) (i : ℕ) (s : Site) (q : Request) (target : Loc)
+      (seen : List ℕ) (count : ℕ) (t : Tree) (i : ℕ) (s : Site) (q : RequestParts) (target : Loc)
       (cont : Name) (next : ℕ) (births : List Loc) (ds : List Told) (ps : List Posted)
       (outs : List Out)
       → IsKept s → request_with q.id s.requests ≡ Some q
@@ -67,43 +67,45 @@ module _ (rules_of : GroupInst → List NumberedRule) where
 
   abbrev pub HaltCall : Type 0
   HaltCall =
-      (t : Tree) (s : Site) (q : Request)
+      (t : Tree) (s : Site) (q : RequestParts)
       → IsKept s → request_with q.id s.requests ≡ Some q → q.ask ≡ request.Halt
       → is_alive t q.loc ≡ true
       → HaltsHere rules_of t s q (drop_request q.id s) × IsKept (drop_request q.id s)
 
   abbrev pub MoveWithinCall : Type 0
   MoveWithinCall =
-      (seen : List ℕ) (count : ℕ) (t : Tree) (i : ℕ) (s : Site) (q : Request) (target : Loc)
-      (cont : Name) (next : ℕ) (births : List Loc) (ds : List Told) (ps : List Posted)
-      (outs : List Out)
+      (version : ℕ) (seen : List ℕ) (count : ℕ) (t : Tree) (i : ℕ) (s : Site) (q : RequestParts)
+      (target : Loc) (cont : Name) (next : ℕ) (births : List Loc) (ds : List Told)
+      (ps : List Posted) (outs : List Out)
       → IsKept s → request_with q.id s.requests ≡ Some q
       → q.ask ≡ request.Go (name.Place target) cont
-      → can_move t q.loc target ≡ true → number_in (spot t q.loc) ≡ Some i → target.site ≡ i
+      → may_go version t q.loc target ≡ true → number_in (spot t q.loc) ≡ Some i → target.site ≡ i
       → Runs rules_of count t i (drop_request q.id s)
-      (pour seen i (root_of i) [] q.loc s.made (continuation (Known cont)))
+      (moved_made (is_alive t target) seen i q.loc s.made cont)
       next births ds ps outs
       → let o = pour_here t next births ds ps (drop_request q.id s) in
-      StaysHere rules_of seen t i s q o.site (effects o outs births) × Keeps count s ds o
+      StaysHere rules_of version seen t i s q o.site (effects o outs births) × Keeps count s ds o
 
   -- the location with all that stands there but the request is removed from the one site and taken
   -- in at the other, which doesn't host it yet; and a run of the continuation is poured there
   abbrev pub MoveBetweenCall : Type 0
   MoveBetweenCall =
-      (seen : List ℕ) (count : ℕ) (t : Tree) (i j : ℕ) (from into : Site) (q : Request)
-      (target : Loc) (cont : Name) (next : ℕ) (ps : List Posted) (outs : List Out)
+      (version : ℕ) (seen : List ℕ) (count : ℕ) (t : Tree) (i j : ℕ) (from into : Site)
+      (q : RequestParts) (target : Loc) (cont : Name) (next : ℕ) (ps : List Posted)
+      (outs : List Out)
       → (among into.locs q.loc ≡ true → ⊥)
       → IsKept from → IsKept into → request_with q.id from.requests ≡ Some q
       → q.ask ≡ request.Go (name.Place target) cont
-      → can_move t q.loc target ≡ true → number_in (spot t q.loc) ≡ Some i → target.site ≡ j
+      → may_go version t q.loc target ≡ true → number_in (spot t q.loc) ≡ Some i → target.site ≡ j
       → let left = drop_request q.id from in
       let load = pack q.loc left in
       let moved = with_number t q.loc j in
       Runs rules_of count moved j (take_in load into)
-      (pour seen j (root_of j) [] q.loc into.made (continuation (Known cont)))
+      (moved_made (is_alive t target) seen j q.loc into.made cont)
       next [] [] ps outs
       → let o = pour_here moved next [] [] ps (take_in load into) in
-      MovesHere rules_of seen t i j from into q (remove q.loc left) o.site (effects o outs [])
+      MovesHere rules_of version seen t i j from into q (remove q.loc left) o.site
+      (effects o outs [])
       × IsKept (remove q.loc left) × Keeps count into load.groups o
 
   -- a message is put at its home

@@ -16,15 +16,15 @@ use Rattle.chem_model.specs.Reduction.{continuation}
 use Rattle.chem_model.specs.Opening.{root_of}
 use Rattle.chem_model.specs.Pour.{pour}
 use Rattle.wire_packet.specs.MessageFacts.{MessageParts}
-use Rattle.wire_packet.specs.declared.packet.GroupInst.{GroupInst}
-use Rattle.wire_packet.specs.declared.packet.Request.{Request}
+use Rattle.wire_packet.specs.GroupFacts.{GroupParts, RequestParts}
 use Rattle.net_laws.specs.Site.{Told, Group, Site}
-use Rattle.loc_tree.specs.Tree.{spot, number_in, is_alive, is_dead, can_move, with_number}
+use Rattle.loc_tree.specs.Tree.{spot, number_in, is_alive, is_dead, with_number}
 use Rattle.loc_tree.specs.Tree.{with_mark, Tree}
 use Rattle.net_laws.specs.Net.{Addressed, Net, Effects, Stands, among, with_effects, with_site}
 use Rattle.net_laws.specs.Net.{without_packet, address}
 use Rattle.net_laws.specs.Changes.{given_all, ids, IsGuard, Takes}
 use Rattle.chem_model.specs.Apply.{apply}
+use Rattle.net_laws.specs.Moves.{may_go, moved_made}
 use Rattle.net_laws.specs.Kept.{HasGuards, IsNet}
 use Rattle.net_laws.specs.Holding.{put, request_with, drop_request}
 use Rattle.net_laws.specs.Posting.{Posted, Outcome, Gives, MayPour, pour_here, with_queues}
@@ -57,7 +57,7 @@ moved_between net i j l from into next ps outs =
     with_effects (record net { tree = t })
     (slice_set (slice_set net.sites i (remove l from)) j o.site) j (effects o outs [])
 
-module _ (rules_of : GroupInst → List NumberedRule) where
+module _ (rules_of : GroupParts → List NumberedRule) where
   -- a run gives what is poured, and may be laid and posted at the site
   pub record Runs (count : ℕ) (t : Tree) (i : ℕ) (s : Site) (a : Made) (next : ℕ)
       (births : List Loc) (ds : List Told) (ps : List Posted) (outs : List Out) : Type 0 where
@@ -85,7 +85,7 @@ module _ (rules_of : GroupInst → List NumberedRule) where
         (pour_here net.tree next births ds ps (with_queues s j g left)) outs births)
     -- Detect: a request goes, and its continuation is poured
     detect :
-        (i : ℕ) (s : Site) (q : Request) (target : Loc) (cont : Name)
+        (i : ℕ) (s : Site) (q : RequestParts) (target : Loc) (cont : Name)
         (next : ℕ) (births : List Loc) (ds : List Told) (ps : List Posted) (outs : List Out)
         → slice_get net.sites i ≡ Some s → request_with q.id s.requests ≡ Some q
         → q.ask ≡ request.Fail (name.Place target) cont
@@ -99,7 +99,7 @@ module _ (rules_of : GroupInst → List NumberedRule) where
         (pour_here net.tree next births ds ps (drop_request q.id s)) outs births)
     -- Halt: a request goes, and its location is marked
     halt :
-        (i : ℕ) (s : Site) (q : Request)
+        (i : ℕ) (s : Site) (q : RequestParts)
         → slice_get net.sites i ≡ Some s → request_with q.id s.requests ≡ Some q
         → q.ask ≡ request.Halt
         → is_alive net.tree q.loc ≡ true
@@ -108,33 +108,34 @@ module _ (rules_of : GroupInst → List NumberedRule) where
           sites = slice_set net.sites i (drop_request q.id s);
           tree = with_mark net.tree q.loc;
         })
-    -- Go, to the present host: a request goes, and its continuation is poured
+    -- Go or Fall, to the present host: a request goes, and where the target is alive its
+    -- continuation is poured
     move_within :
-        (i : ℕ) (s : Site) (q : Request) (target : Loc) (cont : Name)
+        (i : ℕ) (s : Site) (q : RequestParts) (target : Loc) (cont : Name)
         (next : ℕ) (births : List Loc) (ds : List Told) (ps : List Posted) (outs : List Out)
         → slice_get net.sites i ≡ Some s → request_with q.id s.requests ≡ Some q
         → q.ask ≡ request.Go (name.Place target) cont
-        → can_move net.tree q.loc target ≡ true
+        → may_go net.version net.tree q.loc target ≡ true
         → number_in (spot net.tree q.loc) ≡ Some i → target.site ≡ i
         → Runs (length net.sites) net.tree i (drop_request q.id s)
-        (pour net.seen i (root_of i) [] q.loc s.made (continuation (Known cont)))
+        (moved_made (is_alive net.tree target) net.seen i q.loc s.made cont)
         next births ds ps outs
         → Works net (to_meet q.id) (Some (event.Move q.id))
         (with_outcome (record net { tree = with_number net.tree q.loc i }) i
         (pour_here net.tree next births ds ps (drop_request q.id s)) outs births)
-    -- Go, to another site: a location leaves with all that stands there but the request, is taken
-    -- in at the other site, and the continuation is poured there
+    -- Go or Fall, to another site: a location leaves with all that stands there but the request, is
+    -- taken in at the other site, and where the target is alive the continuation is poured there
     move_between :
-        (i j : ℕ) (from into : Site) (q : Request) (target : Loc) (cont : Name)
+        (i j : ℕ) (from into : Site) (q : RequestParts) (target : Loc) (cont : Name)
         (next : ℕ) (ps : List Posted) (outs : List Out)
         → (i ≡ j → ⊥) → slice_get net.sites i ≡ Some from → slice_get net.sites j ≡ Some into
         → request_with q.id from.requests ≡ Some q
         → q.ask ≡ request.Go (name.Place target) cont
-        → can_move net.tree q.loc target ≡ true
+        → may_go net.version net.tree q.loc target ≡ true
         → number_in (spot net.tree q.loc) ≡ Some i → target.site ≡ j
         → Runs (length net.sites) (with_number net.tree q.loc j) j
         (take_in (pack q.loc (drop_request q.id from)) into)
-        (pour net.seen j (root_of j) [] q.loc into.made (continuation (Known cont)))
+        (moved_made (is_alive net.tree target) net.seen j q.loc into.made cont)
         next [] [] ps outs
         → Works net (to_meet q.id) (Some (event.Move q.id))
         (moved_between net i j q.loc (drop_request q.id from) into next ps outs)

@@ -12,7 +12,7 @@ use Rattle.chem_model.specs.Solution.{same_loc}
 use Rattle.chem_model.specs.Opening.{root_of}
 use Rattle.chem_model.specs.Sound.{IsSound}
 use Rattle.wire_packet.specs.MessageFacts.{MessageParts}
-use Rattle.wire_packet.specs.declared.packet.GroupInst.{GroupInst}
+use Rattle.wire_packet.specs.GroupFacts.{GroupParts}
 use Rattle.loc_tree.specs.Tree.{Tree, spot, number_in, with_birth}
 use Rattle.loc_tree.specs.Places.{IsTreeOf}
 use Rattle.net_laws.specs.Site.{Site, coded_rule, coded_atom, message_atom, atoms_of, rules_held}
@@ -25,9 +25,10 @@ pub record Addressed : Type 0 where
   pub target : ℕ
   pub msg : MessageParts
 
--- how many observed names of each declaration there are, the sites by their numbers, where
--- locations are, the observables so far, and the messages under way
+-- the version of the program, how many arguments each declared observed name has, the sites by
+-- their numbers, where locations are, the observables so far, and the messages under way
 pub record Net : Type 0 where
+  pub version : ℕ
   pub seen : List ℕ
   pub sites : List Site
   pub tree : Tree
@@ -39,11 +40,15 @@ abbrev pub home_or : Loc → Name → Loc
 home_or l (name.Seen i) = l
 home_or l (name.Place a) = l
 home_or l (name.Chan s k h) = h
+home_or l (name.Num n) = l
+home_or l (name.Op i) = l
 
 abbrev pub IsChannel : Name → Type 0
 IsChannel (name.Seen i) = ⊥
 IsChannel (name.Place a) = ⊥
 IsChannel (name.Chan s k h) = Unit {0}
+IsChannel (name.Num n) = ⊥
+IsChannel (name.Op i) = ⊥
 
 -- what is under way is a message on a channel, to one of so many sites
 abbrev pub IsOnItsWay : ℕ → Addressed → Type 0
@@ -86,16 +91,17 @@ pub record Hosts (t : Tree) (i : ℕ) (s : Site) : Type 0 where
 abbrev pub AllHost : Tree → List Site → Type 0
 AllHost t sites = (i : ℕ) (s : Site) → slice_get sites i ≡ Some s → Hosts t i s
 
-module _ (rules_of : GroupInst → List NumberedRule) where
+module _ (rules_of : GroupParts → List NumberedRule) where
   abbrev pub all_rules : List Site → Bag NumberedRule
   all_rules [] = nothing
   all_rules (s ∷ ss) = rules_held rules_of s ⊕ all_rules ss
 
   -- ---- a network and a numbered solution
 
-  -- tree, counts and trace are those of the solution; its rules are those of all sites, and its
-  -- atoms those of all sites together with the messages under way, each counted once
+  -- version, tree, counts and trace are those of the solution; its rules are those of all sites,
+  -- and its atoms those of all sites together with the messages under way, each counted once
   pub record Agrees (net : Net) (n : Numbered) : Type 0 where
+    pub version : n.version ≡ net.version
     pub seen : n.seen ≡ net.seen
     pub counts : n.counts ≡ made_of net.sites
     pub tree : IsTreeOf net.tree n.places
@@ -134,6 +140,7 @@ without_packet (suc f) (p ∷ ps) = p ∷ without_packet f ps
 -- the network with these sites, and what the site i hands out
 abbrev pub with_effects : Net → List Site → ℕ → Effects → Net
 with_effects net sites i e = record {
+  version = net.version;
   seen = net.seen;
   sites = sites;
   tree = with_births net.tree i e.births;

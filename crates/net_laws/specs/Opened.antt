@@ -44,8 +44,9 @@ with_tops t [] = t
 with_tops t (l ∷ ls) = with_tops (with_top (spot t l) t l) ls
 
 -- before any site is opened the tree has all site-level locations
-abbrev pub unopened : CodeParts → Net
-unopened c = record {
+abbrev pub unopened : ℕ → CodeParts → Net
+unopened version c = record {
+  version = version;
   seen = c.seen;
   sites = [];
   tree = with_tops (unmarked_roots (length c.sites)) c.tops;
@@ -59,6 +60,7 @@ with_opened c i site net =
     let a = site_made c i site in
     let o = opened_by c net.tree i site in
     record {
+      version = net.version;
       seen = net.seen;
       sites = net.sites ++ o.site ∷ [];
       tree = with_births net.tree i (not_in net.tree a.births);
@@ -72,8 +74,8 @@ all_opened c i [] net = net
 all_opened c i (site ∷ sites) net = all_opened c (i + 1) sites (with_opened c i site net)
 
 -- the network of the opening
-abbrev pub opened_net : CodeParts → Net
-opened_net c = all_opened c 0 c.sites (unopened c)
+abbrev pub opened_net : ℕ → CodeParts → Net
+opened_net version c = all_opened c 0 c.sites (unopened version c)
 
 -- ---- what holds of it
 
@@ -84,6 +86,7 @@ AreDrawn counts d = d.inst.chans.k + length d.counts ≤ slice_index counts d.in
 -- a network of sites that run the code of a program: beside what every network keeps, its groups
 -- are the program's, and their channels are drawn
 pub record RunsCode (p : ProgramTerms) (c : CodeParts) (net : Net) : Type 0 where
+  pub version : net.version ≡ p.version
   pub seen : net.seen ≡ counts_of p.seen
   pub keeps : IsNet (rules_of_group p) net
   pub of_code : Each (λ (s : Site). Each (IsOfCode p c) (told_in s.groups)) net.sites
@@ -94,8 +97,9 @@ pub record RunsCode (p : ProgramTerms) (c : CodeParts) (net : Net) : Type 0 wher
 abbrev pub OpenedStands : Type 0
 OpenedStands =
     (p : ProgramTerms) (c : CodeParts) → IsProgram p → IsCode c → IsCodeOf p c
-    → Stands (rules_of_group p) (opened_net c) (opening p) × RunsCode p c (opened_net c)
-    × Each (λ (s : Site). s.made ≤ 1048576) (opened_net c).sites
+    → Stands (rules_of_group p) (opened_net p.version c) (opening p)
+    × RunsCode p c (opened_net p.version c)
+    × Each (λ (s : Site). s.made ≤ 1048576) (opened_net p.version c).sites
 
 -- each site-level location is of one of the sites
 abbrev pub TopsAreOfSites : Type 0
@@ -120,4 +124,4 @@ BearNew c i (site ∷ sites) net =
 abbrev pub OpeningsBearNew : Type 0
 OpeningsBearNew =
     (p : ProgramTerms) (c : CodeParts) → IsProgram p → IsCode c → IsCodeOf p c
-    → BearNew c 0 c.sites (unopened c)
+    → BearNew c 0 c.sites (unopened p.version c)

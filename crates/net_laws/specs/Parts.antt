@@ -15,21 +15,21 @@ use Rattle.chem_model.specs.Pour.{pour}
 use Rattle.chem_model.specs.Apply.{apply}
 use Rattle.chem_model.specs.Sound.{IsSound}
 use Rattle.wire_packet.specs.MessageFacts.{MessageParts}
-use Rattle.wire_packet.specs.declared.packet.GroupInst.{GroupInst}
-use Rattle.wire_packet.specs.declared.packet.Request.{Request}
+use Rattle.wire_packet.specs.GroupFacts.{GroupParts, RequestParts}
 use Rattle.net_laws.specs.Site.{Group, Site, coded_rule, coded_atom, message_atom, messages_at}
 use Rattle.net_laws.specs.Site.{request_atom, request_atoms, atoms_of, rules_held}
-use Rattle.loc_tree.specs.Tree.{spot, Tree, number_in, is_alive, is_dead, with_mark, can_move}
+use Rattle.loc_tree.specs.Tree.{spot, Tree, number_in, is_alive, is_dead, with_mark}
 use Rattle.loc_tree.specs.Tree.{with_number}
 use Rattle.loc_tree.specs.Places.{IsTreeOf}
 use Rattle.net_laws.specs.Net.{Effects, with_births, under_way}
+use Rattle.net_laws.specs.Moves.{may_go, moved_made}
 use Rattle.net_laws.specs.Changes.{given_all, ids, AreQueues, IsGuard, Takes, Pours, Alters}
 use Rattle.net_laws.specs.Changes.{Changes, Leaves}
 use Rattle.chem_model.specs.declared.name.Name.TheVariants as name
 use Rattle.chem_model.specs.declared.event.Event.TheVariants as event
 use Rattle.wire_packet.specs.declared.packet.Ask.TheVariants as request
 
-module _ (rules_of : GroupInst → List NumberedRule) where
+module _ (rules_of : GroupParts → List NumberedRule) where
   -- the site is the solution's part with this number: beside it stand other rules and other atoms
   pub record IsPart (seen : List ℕ) (t : Tree) (i : ℕ) (s : Site) (rules : Bag NumberedRule)
       (atoms : Bag NumberedAtom) (n : Numbered) : Type 0 where
@@ -84,7 +84,7 @@ module _ (rules_of : GroupInst → List NumberedRule) where
   -- ---- Detect
 
   -- a request to detect the failure of a dead location goes, and its continuation is poured
-  pub record DetectsHere (seen : List ℕ) (t : Tree) (i : ℕ) (s : Site) (q : Request)
+  pub record DetectsHere (seen : List ℕ) (t : Tree) (i : ℕ) (s : Site) (q : RequestParts)
       (new : Site) (e : Effects) : Type 0 where
     pub target : Loc
     pub cont : Name
@@ -98,20 +98,20 @@ module _ (rules_of : GroupInst → List NumberedRule) where
 
   abbrev pub DetectionOfAPart : Type 0
   DetectionOfAPart =
-      (seen : List ℕ) (t : Tree) (i : ℕ) (s new : Site) (q : Request) (e : Effects)
+      (seen : List ℕ) (t : Tree) (i : ℕ) (s new : Site) (q : RequestParts) (e : Effects)
       (rules : Bag NumberedRule) (atoms : Bag NumberedAtom) (n : Numbered)
       → IsPart seen t i s rules atoms n → DetectsHere seen t i s q new e
       → GoesOn seen t i new e rules atoms n (event.Detect q.id)
 
   -- ---- Halt: nothing is poured, and the tree has one mark more
 
-  pub record HaltsHere (t : Tree) (s : Site) (q : Request) (new : Site) : Type 0 where
+  pub record HaltsHere (t : Tree) (s : Site) (q : RequestParts) (new : Site) : Type 0 where
     pub is : q.ask ≡ request.Halt
     pub held : 0 < request_atoms s.requests (request_atom q)
     pub alive : is_alive t q.loc ≡ true
     pub alters : Alters rules_of (one coded_atom (request_atom q)) nothing s new
 
-  pub record HaltOf (seen : List ℕ) (t : Tree) (i : ℕ) (q : Request) (new : Site)
+  pub record HaltOf (seen : List ℕ) (t : Tree) (i : ℕ) (q : RequestParts) (new : Site)
       (rules : Bag NumberedRule) (atoms : Bag NumberedAtom) (n : Numbered) : Type 0 where
     pub after : Numbered
     pub applies : apply n (event.Halt q.id) ≡ Some after
@@ -121,31 +121,31 @@ module _ (rules_of : GroupInst → List NumberedRule) where
 
   abbrev pub HaltOfAPart : Type 0
   HaltOfAPart =
-      (seen : List ℕ) (t : Tree) (i : ℕ) (s new : Site) (q : Request)
+      (seen : List ℕ) (t : Tree) (i : ℕ) (s new : Site) (q : RequestParts)
       (rules : Bag NumberedRule) (atoms : Bag NumberedAtom) (n : Numbered)
       → IsPart seen t i s rules atoms n → HaltsHere t s q new
       → HaltOf seen t i q new rules atoms n
 
-  -- ---- Go, to the site that hosts the location already
+  -- ---- Go or Fall, to the site that hosts the location already
 
-  pub record StaysHere (seen : List ℕ) (t : Tree) (i : ℕ) (s : Site) (q : Request)
-      (new : Site) (e : Effects) : Type 0 where
+  pub record StaysHere (version : ℕ) (seen : List ℕ) (t : Tree) (i : ℕ) (s : Site)
+      (q : RequestParts) (new : Site) (e : Effects) : Type 0 where
     pub target : Loc
     pub cont : Name
     pub is : q.ask ≡ request.Go (name.Place target) cont
     pub held : 0 < request_atoms s.requests (request_atom q)
-    pub can : can_move t q.loc target ≡ true
+    pub can : may_go version t q.loc target ≡ true
     pub hosted : number_in (spot t q.loc) ≡ Some i
     pub target_site : target.site ≡ i
     pub pours :
         Pours rules_of i (one coded_atom (request_atom q))
-        (pour seen i (root_of i) [] q.loc s.made (continuation (Known cont))) s new e
+        (moved_made (is_alive t target) seen i q.loc s.made cont) s new e
 
   abbrev pub MoveOfAPart : Type 0
   MoveOfAPart =
-      (seen : List ℕ) (t : Tree) (i : ℕ) (s new : Site) (q : Request) (e : Effects)
+      (seen : List ℕ) (t : Tree) (i : ℕ) (s new : Site) (q : RequestParts) (e : Effects)
       (rules : Bag NumberedRule) (atoms : Bag NumberedAtom) (n : Numbered)
-      → IsPart seen t i s rules atoms n → StaysHere seen t i s q new e
+      → IsPart seen t i s rules atoms n → StaysHere n.version seen t i s q new e
       → GoesOn seen (with_number t q.loc i) i new e rules atoms n (event.Move q.id)
 
   -- ---- a delivery is no event: a message that stood beside the site is now a part of it
@@ -158,7 +158,7 @@ module _ (rules_of : GroupInst → List NumberedRule) where
       → Alters rules_of nothing (one coded_atom (message_atom home m)) s new
       → IsPart seen t i new rules atoms n
 
-  -- ---- Go, from one site to another
+  -- ---- Go or Fall, from one site to another
 
   -- two sites are the solution's parts with these numbers
   pub record AreParts (seen : List ℕ) (t : Tree) (i j : ℕ) (first second : Site)
@@ -179,25 +179,25 @@ module _ (rules_of : GroupInst → List NumberedRule) where
         → bag coded_atom n.atoms x ≡ atoms_of first x + atoms_of second x + atoms x
 
   -- the location leaves the one with all that stands there, and comes to the other, where its
-  -- continuation is poured
-  pub record MovesHere (seen : List ℕ) (t : Tree) (i j : ℕ) (from into : Site) (q : Request)
-      (left new : Site) (e : Effects) : Type 0 where
+  -- continuation is poured if the target is alive
+  pub record MovesHere (version : ℕ) (seen : List ℕ) (t : Tree) (i j : ℕ) (from into : Site)
+      (q : RequestParts) (left new : Site) (e : Effects) : Type 0 where
     pub target : Loc
     pub cont : Name
     pub with_it : Bag NumberedRule
     pub at_it : Bag NumberedAtom
     pub is : q.ask ≡ request.Go (name.Place target) cont
     pub held : 0 < request_atoms from.requests (request_atom q)
-    pub can : can_move t q.loc target ≡ true
+    pub can : may_go version t q.loc target ≡ true
     pub hosted : number_in (spot t q.loc) ≡ Some i
     pub target_site : target.site ≡ j
     pub leaves :
         Leaves rules_of q.loc with_it (one coded_atom (request_atom q) ⊕ at_it) from left
     pub comes :
         Changes rules_of j nothing (q.loc ∷ []) with_it at_it
-        (pour seen j (root_of j) [] q.loc into.made (continuation (Known cont))) into new e
+        (moved_made (is_alive t target) seen j q.loc into.made cont) into new e
 
-  pub record MoveOf (seen : List ℕ) (t : Tree) (i j : ℕ) (q : Request) (left new : Site)
+  pub record MoveOf (seen : List ℕ) (t : Tree) (i j : ℕ) (q : RequestParts) (left new : Site)
       (e : Effects) (rules : Bag NumberedRule) (atoms : Bag NumberedAtom)
       (n : Numbered) : Type 0 where
     pub after : Numbered
@@ -210,8 +210,8 @@ module _ (rules_of : GroupInst → List NumberedRule) where
 
   abbrev pub MoveOfTwoParts : Type 0
   MoveOfTwoParts =
-      (seen : List ℕ) (t : Tree) (i j : ℕ) (from into left new : Site) (q : Request)
+      (seen : List ℕ) (t : Tree) (i j : ℕ) (from into left new : Site) (q : RequestParts)
       (e : Effects) (rules : Bag NumberedRule) (atoms : Bag NumberedAtom) (n : Numbered)
       → (i ≡ j → ⊥) → AreParts seen t i j from into rules atoms n
-      → MovesHere seen t i j from into q left new e
+      → MovesHere n.version seen t i j from into q left new e
       → MoveOf seen t i j q left new e rules atoms n

@@ -15,7 +15,7 @@ use Rattle.chem_model.specs.Reduction.{Quiet}
 use Rattle.chem_model.specs.Numbered.{erase}
 use Rattle.chem_model.specs.Runs.{IsRun}
 use Rattle.chem_model.specs.Laws.{erase_all}
-use Rattle.wire_packet.specs.declared.packet.GroupInst.{GroupInst}
+use Rattle.wire_packet.specs.GroupFacts.{GroupParts}
 use Rattle.net_laws.specs.Site.{Told, Site}
 use Rattle.net_laws.specs.Net.{Net, Stands}
 use Rattle.net_laws.specs.Posting.{Posted, pour_here}
@@ -24,7 +24,7 @@ use Rattle.net_laws.specs.Opening.{IsBare, site_opened}
 use Rattle.net_laws.specs.Choices.{with_outcome, Choice, Runs, Works}
 use Rattle.net_laws.specs.Kept.{IsNet}
 
-module _ (rules_of : GroupInst → List NumberedRule) where
+module _ (rules_of : GroupParts → List NumberedRule) where
   -- the sites run their openings, one after another
   pub data OpensHere (m : Naming) : ℕ → List SiteTerm → Net → Net → Type 0 where
     opened : (i : ℕ) (net : Net) → OpensHere m i [] net net
@@ -60,14 +60,15 @@ module _ (rules_of : GroupInst → List NumberedRule) where
     pub stands : Stands rules_of net after
     pub keeps : IsNet rules_of net
     pub quiet_if_none :
-        (Enabled rules_of net → ⊥) → (net.packets ≡ []) × Quiet after.seen (erase after)
+        (Enabled rules_of net → ⊥)
+        → (net.packets ≡ []) × Quiet after.version after.seen (erase after)
     pub none_if_quiet :
-        net.packets ≡ [] → Quiet after.seen (erase after) → Enabled rules_of net → ⊥
+        net.packets ≡ [] → Quiet after.version after.seen (erase after) → Enabled rules_of net → ⊥
 
   abbrev pub NetworkRuns : Type 0
   NetworkRuns =
       (p : ProgramTerms) (first start end : Net) (choices : List Choice) (es : List Event)
-      → IsProgram p → IsBare first (named_sites (counts_of p.seen) p.sites)
+      → IsProgram p → IsBare first (named_sites p.version (counts_of p.seen) p.sites)
       → OpensHere (site_names p.sites) 0 p.sites first start
       → WorksAll start choices es end
       → IsNetworkRun p es end

@@ -1,7 +1,8 @@
+// Where a message goes that comes to a site: into it, or on to another one.
 ghost use Rattle.std.specs.Prelude.{◌≡◌, List, true, IfOk, IfErr, OnErr, IsSome};
 ghost use Rattle.chem_model.specs.declared.name.Loc.{Loc};
 ghost use Rattle.chem_model.specs.declared.numbered.NumberedRule.{NumberedRule};
-ghost use Rattle.wire_packet.specs.declared.packet.GroupInst.{GroupInst};
+ghost use Rattle.wire_packet.specs.GroupFacts.{GroupParts};
 ghost use Rattle.env_store.specs.CodeParts.{CodeParts};
 ghost use Rattle.loc_tree.specs.Tree.{spot};
 ghost use Rattle.net_laws.specs.Net.{home_or, address};
@@ -62,7 +63,7 @@ fn home_of(on: Name) -> Loc
             k: _,
             home,
         } => home,
-        Name::Seen(_) | Name::Place(_) => unreachable!(),
+        Name::Seen(_) | Name::Place(_) | Name::Num(_) | Name::Op(_) => unreachable!(),
     }
 }
 
@@ -85,7 +86,7 @@ pub fn can_deliver(site: &Site, tree: &LocTree, msg: &Msg) -> bool
 pub fn deliver(site: &mut Site, tree: &LocTree, msg: Msg) -> Result<Delivery, (Msg, Memory)>
     requires { can_deliver tree.now site.old msg ≡ true }
     ensures ok { IfOk result (λ delivery. IsDelivery tree.now site.old msg delivery site.new) }
-    ensures no_event { IfOk result (λ delivery. (rules_of : GroupInst → List NumberedRule)
+    ensures no_event { IfOk result (λ delivery. (rules_of : GroupParts → List NumberedRule)
         → IsNoEvent rules_of tree.now site.old msg delivery site.new) }
     ensures in_tree { is_in_tree tree.now site.old ≡ true → is_in_tree tree.now site.new ≡ true }
     ensures in_code { (code : CodeParts) → is_in_code code tree.now site.old ≡ true

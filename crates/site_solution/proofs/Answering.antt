@@ -35,16 +35,15 @@ run-answers c t s new a r e is h =
     let at : Answers (pour_here t a.next a.births (all_told (told_by c) a.groups) (all_posted (posts_of (posted_of a.atoms))) s) a.outs a.births new e = subst (λ (x : Run). Answers (pour_here t x.next x.births (all_told (told_by c) x.groups) (all_posted x.posts) s) x.outs x.births new e) is h in
     subst (λ (ps : List Posted). Answers (pour_here t a.next a.births (all_told (told_by c) a.groups) ps s) a.outs a.births new e) (posted_back (posted_of a.atoms)) at
 
-pub sent-answers : (t : Tree) (s new : Site) (a : Made) (r : Run) (fs : List Flight) → r ≡ run_of (atom_ran a) → IsLeft (pour_here t r.next r.births [] (all_posted r.posts) (taken_at 0 [] s)) new fs → Answers (sent_here t a s) a.outs [] new (record { sends = fs; outs = r.outs; births = r.births })
-sent-answers t s new a r fs is h =
-    let left : IsLeft (pour_here t r.next r.births [] (all_posted r.posts) s) new fs = subst (λ (x : Site). IsLeft (pour_here t r.next r.births [] (all_posted r.posts) x) new fs) (taken-nothing 0 s) h in
-    let whole = left-answers (pour_here t r.next r.births [] (all_posted r.posts) s) new fs r.outs r.births left in
+pub sent-answers : (t : Tree) (s new : Site) (a : Made) (r : Run) (e : Effects) → r ≡ run_of (atom_ran a) → Answers (pour_here t r.next r.births [] (all_posted r.posts) (taken_at 0 [] s)) r.outs r.births new e → Answers (sent_here t a s) a.outs [] new e
+sent-answers t s new a r e is h =
+    let whole : Answers (pour_here t r.next r.births [] (all_posted r.posts) s) r.outs r.births new e = subst (λ (x : Site). Answers (pour_here t r.next r.births [] (all_posted r.posts) x) r.outs r.births new e) (taken-nothing 0 s) h in
     let o : pour_here t r.next r.births [] (all_posted r.posts) s ≡ sent_here t a s = ap (λ (x : Run). pour_here t x.next x.births [] (all_posted x.posts) s) is ∙ ap (λ ps. pour_here t a.next [] [] ps s) (posted_back (posted_of a.atoms)) in
     record {
       site = whole.site ∙ ap (λ (x : Outcome). x.site) o;
-      sends = subst (λ (x : Outcome). AreFlights x.sends fs) o whole.sends;
-      outs = ap (λ (x : Run). x.outs) is;
-      births = ap (λ (x : Run). x.births) is;
+      sends = subst (λ (x : Outcome). AreFlights x.sends e.sends) o whole.sends;
+      outs = whole.outs ∙ ap (λ (x : Run). x.outs) is;
+      births = whole.births ∙ ap (λ (x : Run). x.births) is;
     }
 
 pub nothing-taken : (c : CodeParts) (t : Tree) (s new : Site) (a : Ran) (e : Effects) → Answers (run_here c t a (taken_at 0 [] s)) a.outs a.births new e → Answers (run_here c t a s) a.outs a.births new e

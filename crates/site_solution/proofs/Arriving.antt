@@ -1,6 +1,7 @@
 -- What the tests of a site say after a location has come to it, and a continuation with it.
-use Rattle.std.proofs.Common.{◌≡◌, ℕ, ◌+◌, ◌≤◌, ◌++◌, Bool, true, false, cond, List, [], ◌∷◌, length, Option, Some, None, Result, Ok, Err, refl, sym, ap, subst, ◌∙◌, arith}
-use Rattle.std.specs.Prelude.{◌&&◌, ◌||◌, is_some, slice_get, OnOk}
+use Rattle.site_solution.proofs.Dropping.{operated_none}
+use Rattle.std.proofs.Common.{◌≡◌, ℕ, ◌+◌, ◌≤◌, ◌++◌, Bool, true, false, cond, List, [], ◌∷◌, length, Option, Result, Ok, Err, refl, sym, ap, subst, ◌∙◌, arith}
+use Rattle.std.specs.Prelude.{◌&&◌, is_some, slice_get, OnOk}
 use Rattle.std.specs.List.{list_all}
 use Rattle.std.proofs.lemmas.Bool.{and_parts, and_from, or_left}
 use Rattle.std.proofs.lemmas.Bool.Decides.{nat_tests}
@@ -11,22 +12,23 @@ use Rattle.chem_model.specs.declared.name.Ref.TheVariants.{Known}
 use Rattle.chem_model.specs.declared.numbered.Made.{Made}
 use Rattle.chem_model.specs.Process.{Msg}
 use Rattle.chem_model.specs.Opening.{root_of}
-use Rattle.chem_model.specs.Pour.{is_count, atom_made, out_made}
+use Rattle.chem_model.specs.Pour.{is_count, atom_made, out_made, operated_made}
+use Rattle.chem_model.specs.declared.operation.Became.{Became}
 use Rattle.chem_model.specs.Solution.{same_loc}
 use Rattle.wire_packet.specs.MessageFacts.{MessageParts}
 use Rattle.wire_packet.specs.declared.packet.Waiting.{Waiting}
-use Rattle.wire_packet.specs.declared.packet.Request.{Request}
+use Rattle.wire_packet.specs.GroupFacts.{RequestParts}
 use Rattle.wire_packet.specs.ParcelFacts.{ParcelParts}
 use Rattle.env_store.specs.CodeParts.{CodeParts}
-use Rattle.loc_tree.specs.Tree.{Tree, spot, number_in, IsFresh}
+use Rattle.loc_tree.specs.Tree.{Tree, spot, IsFresh}
 use Rattle.loc_tree.proofs.Spots.{same_loc_is}
-use Rattle.net_laws.specs.Site.{Told, Group, told_in, Site}
+use Rattle.net_laws.specs.Site.{Told, told_in, Site}
 use Rattle.net_laws.specs.Net.{among}
 use Rattle.net_laws.specs.Kept.{IsKept}
 use Rattle.net_laws.specs.ByCode.{told_by}
 use Rattle.net_laws.specs.Parcels.{Load, all_told, load_of}
 use Rattle.net_laws.specs.Posting.{posted_of}
-use Rattle.net_laws.specs.Meeting.{continuation_made}
+use Rattle.net_laws.specs.Moves.{continuation_made}
 use Rattle.net_laws.proofs.Posting.{among_append}
 use Rattle.site_solution.specs.declared.more.More.{More}
 use Rattle.site_solution.specs.Named.{name_in, names_in, message_in, request_in, in_tree}
@@ -39,7 +41,7 @@ use Rattle.site_solution.specs.Held.{taken_at}
 use Rattle.site_solution.specs.inside.More.{CanAdd, added}
 use Rattle.site_solution.specs.inside.Carried.{IsCarried, IsBeside}
 use Rattle.site_solution.specs.Staying.{AgreeBut, StillFits, HasReceived}
-use Rattle.site_solution.specs.Arriving.{load_in, load_drawn, FitsInto}
+use Rattle.site_solution.specs.Arriving.{FitsInto}
 use Rattle.site_solution.proofs.Fronts.{taken-nothing}
 use Rattle.site_solution.proofs.Adding.{HasCome, come-is, may-come}
 use Rattle.site_solution.proofs.AllHold.{AllHold, all-both, all-weaker, holds-weaker, come-holds}
@@ -67,7 +69,7 @@ told_later i k n d later drawn =
 
 -- it is in the tree with the number of the site, all that comes names what is there, and is of the
 -- code's levels, and what the site made of it has numbers below the next one
-pub record Fit (c : CodeParts) (u : Tree) (i next : ℕ) (l : Loc) (ds : List Told) (ws : List Waiting) (qs : List Request) : Type 0 where
+pub record Fit (c : CodeParts) (u : Tree) (i next : ℕ) (l : Loc) (ds : List Told) (ws : List Waiting) (qs : List RequestParts) : Type 0 where
   pub hosted : has_number u i l ≡ true
   pub told : list_all (is_told_by c) ds ≡ true
   pub envs : list_all (λ (d : Told). names_in (in_tree u) d.inst.env) ds ≡ true
@@ -76,9 +78,9 @@ pub record Fit (c : CodeParts) (u : Tree) (i next : ℕ) (l : Loc) (ds : List To
   pub loc_drawn : is_drawn i next l.site l.k ≡ true
   pub told_drawn : list_all (told_drawn i next) ds ≡ true
   pub messages_drawn : list_all (λ (w : Waiting). message_drawn i next w.msg) ws ≡ true
-  pub asks_drawn : list_all (λ (q : Request). is_drawn i next q.id.site q.id.k) qs ≡ true
+  pub asks_drawn : list_all (λ (q : RequestParts). is_drawn i next q.id.site q.id.k) qs ≡ true
 
-module _ (c : CodeParts) (t u : Tree) (l : Loc) (agree : AgreeBut l t u) (next : ℕ) (ds : List Told) (ws : List Waiting) (qs : List Request) (s new : Site) (come : HasCome next (l ∷ []) ds ws qs s new) (fit : Fit c u s.number next l ds ws qs) where
+module _ (c : CodeParts) (t u : Tree) (l : Loc) (agree : AgreeBut l t u) (next : ℕ) (ds : List Told) (ws : List Waiting) (qs : List RequestParts) (s new : Site) (come : HasCome next (l ∷ []) ds ws qs s new) (fit : Fit c u s.number next l ds ws qs) where
   hosted_too : (ls : List Loc) → list_all (has_number t s.number) ls ≡ true → list_all (has_number u s.number) ls ≡ true
   hosted_too [] h = refl
   hosted_too (x ∷ ls) h =
@@ -114,10 +116,10 @@ module _ (c : CodeParts) (t u : Tree) (l : Loc) (agree : AgreeBut l t u) (next :
   come_drawn later h =
       let i = s.number in
       let old = drawn_parts s h in
-      let was : AllHold (message_drawn i s.made) (told_drawn i s.made) (λ (q : Request). is_drawn i s.made q.id.site q.id.k) s = record { groups = old.groups; stuck = old.stuck; requests = old.requests } in
-      let held = holds-weaker (message_drawn i s.made) (message_drawn i next) (told_drawn i s.made) (told_drawn i next) (λ (q : Request). is_drawn i s.made q.id.site q.id.k) (λ (q : Request). is_drawn i next q.id.site q.id.k) s
+      let was : AllHold (message_drawn i s.made) (told_drawn i s.made) (λ (q : RequestParts). is_drawn i s.made q.id.site q.id.k) s = record { groups = old.groups; stuck = old.stuck; requests = old.requests } in
+      let held = holds-weaker (message_drawn i s.made) (message_drawn i next) (told_drawn i s.made) (told_drawn i next) (λ (q : RequestParts). is_drawn i s.made q.id.site q.id.k) (λ (q : RequestParts). is_drawn i next q.id.site q.id.k) s
       (λ m e. drawn-later i s.made next m.id.site m.id.k later e) (λ d e. told_later i s.made next d later e) (λ q e. drawn-later i s.made next q.id.site q.id.k later e) was in
-      let all = come-holds (message_drawn i next) (told_drawn i next) (λ (q : Request). is_drawn i next q.id.site q.id.k) next (l ∷ []) ds ws qs s new come held fit.told_drawn fit.messages_drawn fit.asks_drawn in
+      let all = come-holds (message_drawn i next) (told_drawn i next) (λ (q : RequestParts). is_drawn i next q.id.site q.id.k) next (l ∷ []) ds ws qs s new come held fit.told_drawn fit.messages_drawn fit.asks_drawn in
       let locs : list_all (λ (x : Loc). is_drawn i next x.site x.k) (s.locs ++ l ∷ []) ≡ true = all-both (λ (x : Loc). is_drawn i next x.site x.k) s.locs (l ∷ []) (all-weaker (λ (x : Loc). is_drawn i s.made x.site x.k) (λ (x : Loc). is_drawn i next x.site x.k) s.locs (λ x e. drawn-later i s.made next x.site x.k later e) old.locs) (and_from (is_drawn i next l.site l.k) true fit.loc_drawn refl) in
       let at : all_drawn (record new { number = i; made = next }) ≡ true = drawn_from (record new { number = i; made = next }) (record { locs = ap (list_all (λ (x : Loc). is_drawn i next x.site x.k)) come.locs ∙ locs; groups = all.groups; stuck = all.stuck; requests = all.requests }) in
       subst (λ (j : ℕ). all_drawn (record new { number = j; made = new.made }) ≡ true) (sym come.number) (subst (λ (n : ℕ). all_drawn (record new { number = i; made = n }) ≡ true) (sym come.made) at)
@@ -148,7 +150,7 @@ load_fits c u p s next later h =
     let names' = and_parts (list_all (λ (w : Waiting). message_in (in_tree u) w.msg) p.waiting) (list_all (request_in (in_tree u)) p.requests) names.1 in
     let groups = list_all (told_drawn i k) p.groups in
     let waits = list_all (λ (w : Waiting). message_drawn i k w.msg) p.waiting in
-    let asks = list_all (λ (q : Request). is_drawn i k q.id.site q.id.k) p.requests in
+    let asks = list_all (λ (q : RequestParts). is_drawn i k q.id.site q.id.k) p.requests in
     let first = and_parts (is_drawn i k p.loc.site p.loc.k) (groups && (waits && asks)) h.drawn in
     let second = and_parts groups (waits && asks) first.1 in
     let third = and_parts waits asks second.1 in
@@ -161,7 +163,7 @@ load_fits c u p s next later h =
       loc_drawn = drawn-later i k next p.loc.site p.loc.k later first.0;
       told_drawn = all-weaker (told_drawn i k) (told_drawn i next) p.groups (λ d e. told_later i k next d later e) second.0;
       messages_drawn = all-weaker (λ (w : Waiting). message_drawn i k w.msg) (λ (w : Waiting). message_drawn i next w.msg) p.waiting (λ w e. drawn-later i k next w.msg.id.site w.msg.id.k later e) third.0;
-      asks_drawn = all-weaker (λ (q : Request). is_drawn i k q.id.site q.id.k) (λ (q : Request). is_drawn i next q.id.site q.id.k) p.requests (λ q e. drawn-later i k next q.id.site q.id.k later e) third.1;
+      asks_drawn = all-weaker (λ (q : RequestParts). is_drawn i k q.id.site q.id.k) (λ (q : RequestParts). is_drawn i next q.id.site q.id.k) p.requests (λ q e. drawn-later i k next q.id.site q.id.k later e) third.1;
     }
 
 -- ---- a continuation
@@ -188,6 +190,9 @@ module _ (P : MessageParts → Bool) (i k : ℕ) (ls : List Loc) where
       go false = continues_one l (name.Seen j)
   continues seen l (name.Place a) = continues_one l (name.Place a)
   continues seen l (name.Chan s j h) = continues_one h (name.Chan s j h)
+  continues seen l (name.Num n) = continues_one l (name.Num n)
+  continues seen l (name.Op n) =
+      subst (λ (o : Option Became). Continues P i k (name.Op n) ls (operated_made seen i l k n [] o)) (sym (operated_none n)) (continues_one l (name.Op n))
 
 own_drawn : (i k n : ℕ) → n ≡ k + 1 → is_drawn i n i k ≡ true
 own_drawn i k n is = grind (arith, nat_tests)
@@ -212,7 +217,7 @@ cont_fits c u p s seen l cont ls h named =
       loc_drawn = fit.loc_drawn;
       told_drawn = fit.told_drawn;
       messages_drawn = all-both (λ (w : Waiting). message_drawn i a.next w.msg) p.waiting (waits_in ls (posted_of a.atoms)) fit.messages_drawn (drawn.holds (λ is. own_drawn i k a.next is));
-      asks_drawn = all-both (λ (q : Request). is_drawn i a.next q.id.site q.id.k) p.requests (asked_in (posted_of a.atoms)) fit.asks_drawn (ap (list_all (λ (q : Request). is_drawn i a.next q.id.site q.id.k)) none);
+      asks_drawn = all-both (λ (q : RequestParts). is_drawn i a.next q.id.site q.id.k) p.requests (asked_in (posted_of a.atoms)) fit.asks_drawn (ap (list_all (λ (q : RequestParts). is_drawn i a.next q.id.site q.id.k)) none);
     }
 
 -- ---- the clauses of the calls
@@ -230,7 +235,7 @@ taken_fits c p m s new can kept is was t u agree fits =
     subst (λ (n : ℕ). Fit c u s.number n p.loc (told_of_new m.groups.items) m.waiting.items m.requests.items) (sym is.next_is)
     (subst (λ (ds : List Told). Fit c u s.number s.made p.loc ds m.waiting.items m.requests.items) (sym is.told)
     (subst (λ (ws : List Waiting). Fit c u s.number s.made p.loc (all_told (told_by c) p.groups) ws m.requests.items) (sym is.waiting_are)
-    (subst (λ (qs : List Request). Fit c u s.number s.made p.loc (all_told (told_by c) p.groups) p.waiting qs) (sym is.requests_are) fit))) in
+    (subst (λ (qs : List RequestParts). Fit c u s.number s.made p.loc (all_told (told_by c) p.groups) p.waiting qs) (sym is.requests_are) fit))) in
     come_fits c t u p.loc agree m.next (told_of_new m.groups.items) m.waiting.items m.requests.items s new come fit' is.next_is
 
 pub received_fits : (c : CodeParts) (p : ParcelParts) (l : Loc) (seen : List ℕ) (cont : Name) (before m : More) (s new : Site) (ls : List Loc) → p.loc ≡ l → CanAdd (l ∷ []) m s → IsKept s → new ≡ added (l ∷ []) m (taken_at 0 [] s)
@@ -248,7 +253,7 @@ received_fits c p l seen cont before m s new ls at can kept was is more t u agre
     subst (λ (n : ℕ). Fit c u s.number n p.loc (told_of_new m.groups.items) m.waiting.items m.requests.items) (sym next)
     (subst (λ (ds : List Told). Fit c u s.number a.next p.loc ds m.waiting.items m.requests.items) (sym told)
     (subst (λ (ws : List Waiting). Fit c u s.number a.next p.loc (all_told (told_by c) p.groups) ws m.requests.items) (sym waiting)
-    (subst (λ (qs : List Request). Fit c u s.number a.next p.loc (all_told (told_by c) p.groups) (p.waiting ++ waits_in ls (posted_of a.atoms)) qs) (sym asks) fit))) in
+    (subst (λ (qs : List RequestParts). Fit c u s.number a.next p.loc (all_told (told_by c) p.groups) (p.waiting ++ waits_in ls (posted_of a.atoms)) qs) (sym asks) fit))) in
     let fit_at : Fit c u s.number m.next l (told_of_new m.groups.items) m.waiting.items m.requests.items = subst (λ (x : Loc). Fit c u s.number m.next x (told_of_new m.groups.items) m.waiting.items m.requests.items) at fit' in
     let later : s.made ≤ m.next = let from = (continues (message_in (in_tree u)) s.number s.made ls seen l cont).from in omega (arith, from, next) in
     come_received c t u l agree m.next (told_of_new m.groups.items) m.waiting.items m.requests.items s new come fit_at later there coded draws

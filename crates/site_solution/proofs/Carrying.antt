@@ -1,27 +1,25 @@
 -- What a parcel brings may come to a site, and is taken in.
-use Rattle.std.proofs.Common.{◌≡◌, ℕ, ◌+◌, ◌≤◌, Bool, true, false, List, [], ◌∷◌, ◌++◌, refl, sym, ap, ◌∙◌, subst, arith}
+use Rattle.std.proofs.Common.{◌≡◌, ℕ, Bool, true, false, List, [], ◌∷◌, ◌++◌, refl, sym, ap, ◌∙◌, subst, arith}
 use Rattle.std.specs.Prelude.{◌||◌}
 use Rattle.chem_model.specs.declared.name.Loc.{Loc}
 use Rattle.chem_model.specs.declared.name.Name.{Name}
 use Rattle.chem_model.specs.declared.name.Name.TheVariants as name
-use Rattle.chem_model.specs.declared.event.AtomId.{AtomId}
 use Rattle.chem_model.specs.Each.{Each}
 use Rattle.chem_model.specs.Solution.{same_loc}
 use Rattle.chem_laws.proofs.Within.{same_loc_refl}
-use Rattle.wire_packet.specs.declared.packet.GroupInst.{GroupInst}
+use Rattle.wire_packet.specs.GroupFacts.{GroupParts, RequestParts}
 use Rattle.wire_packet.specs.declared.packet.Waiting.{Waiting}
-use Rattle.wire_packet.specs.declared.packet.Request.{Request}
 use Rattle.wire_packet.specs.ParcelFacts.{ParcelParts, IsAtHome, IsParcel}
 use Rattle.env_store.specs.CodeParts.{CodeParts}
 use Rattle.net_laws.specs.Site.{Told, Site, told_in}
 use Rattle.net_laws.specs.Net.{among, home_or}
 use Rattle.net_laws.specs.Kept.{AreApart}
 use Rattle.net_laws.specs.ByCode.{told_by}
-use Rattle.net_laws.specs.Parcels.{Load, all_told, load_of, take_in}
+use Rattle.net_laws.specs.Parcels.{all_told, load_of, take_in}
 use Rattle.site_solution.specs.declared.more.More.{More}
 use Rattle.site_solution.specs.CanLay.{HasNumbers}
 use Rattle.site_solution.specs.Held.{taken_at}
-use Rattle.site_solution.specs.Counted.{over_stuck, id_of, over_requests, times}
+use Rattle.site_solution.specs.Counted.{over_stuck, id_of, over_requests}
 use Rattle.site_solution.specs.inside.New.{told_of_new}
 use Rattle.site_solution.specs.inside.Split.{with_more}
 use Rattle.site_solution.specs.inside.More.{CanAdd, IsAt, added}
@@ -44,8 +42,10 @@ home-at : (l : Loc) (n : Name) → IsAtHome l n → home_or l n ≡ l
 home-at l (name.Seen i) home = refl
 home-at l (name.Place a) home = refl
 home-at l (name.Chan s k h) home = home
+home-at l (name.Num n) home = refl
+home-at l (name.Op i) home = refl
 
-told-here : (c : CodeParts) (xs : List Loc) (l : Loc) (gs : List GroupInst) → Each (λ (g : GroupInst). g.loc ≡ l) gs → Each (λ (d : Told). among (xs ++ l ∷ []) d.inst.loc ≡ true) (all_told (told_by c) gs)
+told-here : (c : CodeParts) (xs : List Loc) (l : Loc) (gs : List GroupParts) → Each (λ (g : GroupParts). g.loc ≡ l) gs → Each (λ (d : Told). among (xs ++ l ∷ []) d.inst.loc ≡ true) (all_told (told_by c) gs)
 told-here c xs l [] here = tt
 told-here c xs l (g ∷ gs) here = (among-at xs l g.loc here.0, told-here c xs l gs here.1)
 
@@ -53,7 +53,7 @@ waiting-here : (xs : List Loc) (l : Loc) (ws : List Waiting) → Each (λ (w : W
 waiting-here xs l [] here home = tt
 waiting-here xs l (w ∷ ws) here home = ((among-at xs l w.loc here.0, subst (λ (a : Loc). home_or a w.msg.on ≡ a) (sym here.0) (home-at l w.msg.on home.0)), waiting-here xs l ws here.1 home.1)
 
-requests-here : (xs : List Loc) (l : Loc) (qs : List Request) → Each (λ (q : Request). q.loc ≡ l) qs → Each (λ (q : Request). among (xs ++ l ∷ []) q.loc ≡ true) qs
+requests-here : (xs : List Loc) (l : Loc) (qs : List RequestParts) → Each (λ (q : RequestParts). q.loc ≡ l) qs → Each (λ (q : RequestParts). among (xs ++ l ∷ []) q.loc ≡ true) qs
 requests-here xs l [] here = tt
 requests-here xs l (q ∷ qs) here = (among-at xs l q.loc here.0, requests-here xs l qs here.1)
 
@@ -65,7 +65,7 @@ carried-can c p next m s parcel can is = record {
   apart = subst (λ (ds : List Told). AreApart (told_in s.groups ++ ds)) (sym is.told) can.apart;
   numbers = subst (λ (ds : List Told). Each HasNumbers ds) (sym is.told) can.numbers;
   waiting = subst (λ (ws : List Waiting). Each (IsAt (s.locs ++ p.loc ∷ [])) ws) (sym is.waiting_are) (waiting-here s.locs p.loc p.waiting parcel.waiting_here parcel.waiting_at_home);
-  requests = subst (λ (qs : List Request). Each (λ (q : Request). among (s.locs ++ p.loc ∷ []) q.loc ≡ true) qs) (sym is.requests_are) (requests-here s.locs p.loc p.requests parcel.requests_here);
+  requests = subst (λ (qs : List RequestParts). Each (λ (q : RequestParts). among (s.locs ++ p.loc ∷ []) q.loc ≡ true) qs) (sym is.requests_are) (requests-here s.locs p.loc p.requests parcel.requests_here);
   once = λ i. let o = can.once i in omega (arith, ap (over_stuck (id_of i)) is.waiting_are, ap (over_requests i) is.requests_are);
 }
 

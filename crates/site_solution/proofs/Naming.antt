@@ -1,5 +1,5 @@
 -- The index of the groups with one more.
-use Rattle.std.proofs.Common.{◌≡◌, ℕ, suc, ◌+◌, ◌-◌, Bool, true, false, cond, List, [], ◌∷◌, ◌++◌, length, Option, Some, None, Result, Ok, Err, refl, sym, ap, subst, ◌∙◌, arith}
+use Rattle.std.proofs.Common.{◌≡◌, ℕ, ◌+◌, ◌-◌, Bool, true, false, cond, List, [], ◌∷◌, ◌++◌, length, Option, Some, None, Result, Ok, Err, refl, sym, ap, subst, ◌∙◌, arith}
 use Rattle.std.specs.Prelude.{IsOk, OnOk}
 use Rattle.std.specs.HashMap.{get}
 use Rattle.std.proofs.lemmas.List.{length-append}
@@ -8,7 +8,7 @@ use Rattle.chem_model.specs.declared.name.Loc.{Loc}
 use Rattle.chem_model.specs.declared.event.AtomId.{AtomId}
 use Rattle.chem_model.specs.Each.{Each}
 use Rattle.chem_laws.proofs.Lists.{Each-append}
-use Rattle.wire_packet.specs.declared.packet.GroupInst.{GroupInst}
+use Rattle.wire_packet.specs.GroupFacts.{GroupParts}
 use Rattle.net_laws.specs.Site.{Told, Group, told_in}
 use Rattle.net_laws.specs.Changes.{AreQueues}
 use Rattle.net_laws.specs.Kept.{AreApart}
@@ -47,7 +47,7 @@ named-more first_site first home n serial site k at before old new put was = by_
         let test : is_one_of first_site first (n + 1) home site k at ≡ is_one_of first_site first n home site k at = one-more first_site first n site k home at ∙ ap (λ b. cond b true (is_one_of first_site first n home site k at)) other in
         rw test (here ∙ was)
 
-empty-are : (i : GroupInst) (k : ℕ) (ns : List ℕ) → AreQueues i k ns (empty_queues ns)
+empty-are : (i : GroupParts) (k : ℕ) (ns : List ℕ) → AreQueues i k ns (empty_queues ns)
 empty-are i k [] = tt
 empty-are i k (n ∷ ns) = (tt, empty-are i (k + 1) ns)
 

@@ -1,5 +1,5 @@
 -- What is packed at a location is a parcel.
-use Rattle.std.proofs.Common.{◌≡◌, ◌≢◌, ℕ, suc, ◌+◌, ◌<◌, ◌≤◌, ◌^◌, ◌⊎◌, Bool, true, false, cond, List, [], ◌∷◌, ◌++◌, map, length, refl, sym, ap, subst, ◌∙◌, inl, inr, arith, eqb-true}
+use Rattle.std.proofs.Common.{◌≡◌, ◌≢◌, ℕ, suc, ◌+◌, ◌<◌, ◌≤◌, ◌^◌, Bool, true, false, cond, List, [], ◌∷◌, ◌++◌, length, refl, sym, ap, subst, ◌∙◌, inl, inr, arith, eqb-true}
 use Rattle.std.specs.Prelude.{nat_lt, ◌==◌, ◌&&◌, ◌||◌}
 use Rattle.std.proofs.lemmas.Bool.{and_parts}
 use Rattle.std.proofs.lemmas.Bool.Decides.{nat_tests}
@@ -13,13 +13,12 @@ use Rattle.chem_model.specs.Solution.{same_loc}
 use Rattle.chem_laws.proofs.Lists.{Each-append, Each-weaker}
 use Rattle.chem_laws.proofs.Within.{same_loc_is}
 use Rattle.wire_packet.specs.MessageFacts.{MessageParts}
-use Rattle.wire_packet.specs.declared.packet.GroupInst.{GroupInst}
+use Rattle.wire_packet.specs.GroupFacts.{GroupParts, RequestParts}
 use Rattle.wire_packet.specs.declared.packet.Waiting.{Waiting}
-use Rattle.wire_packet.specs.declared.packet.Request.{Request}
 use Rattle.wire_packet.specs.ParcelFacts.{EachPair, Precedes, waiting_ids, request_ids, IsAtHome, IsParcel}
-use Rattle.net_laws.specs.Site.{Told, Group, told_in, Site}
+use Rattle.net_laws.specs.Site.{Group, told_in, Site}
 use Rattle.net_laws.specs.Net.{home_or}
-use Rattle.net_laws.specs.Changes.{channel_of, IsQueued, AreQueues}
+use Rattle.net_laws.specs.Changes.{IsQueued, AreQueues}
 use Rattle.net_laws.specs.Kept.{IsKept}
 use Rattle.net_laws.specs.Holding.{precedes}
 use Rattle.net_laws.specs.Parcels.{groups_at, stuck_at, requests_at, in_queue, in_queues, in_all_queues, insts_in, pack, parcel_of}
@@ -62,7 +61,7 @@ module _ (f : MessageParts → ℕ) where
       by_test true rest = omega arith
       by_test false rest = omega arith
 
-over-requests_at : (i : AtomId) (l : Loc) (qs : List Request) → over_requests i (requests_at l qs) ≤ over_requests i qs
+over-requests_at : (i : AtomId) (l : Loc) (qs : List RequestParts) → over_requests i (requests_at l qs) ≤ over_requests i qs
 over-requests_at i l [] = omega arith
 over-requests_at i l (q ∷ qs) = by_test (same_loc l q.loc) (over-requests_at i l qs)
   where
@@ -101,11 +100,11 @@ all-differ : (js : List AtomId) → ((i : AtomId) → occurs i js ≤ 1) → Eac
 all-differ [] once = tt
 all-differ (j ∷ js) once = (none-same j js (let o = once j in let s = occurs-self j in omega arith), all-differ js (λ i. let o = once i in omega arith))
 
-occurs-requests : (i : AtomId) (qs : List Request) → occurs i (request_ids qs) ≡ over_requests i qs
+occurs-requests : (i : AtomId) (qs : List RequestParts) → occurs i (request_ids qs) ≡ over_requests i qs
 occurs-requests i [] = refl
 occurs-requests i (q ∷ qs) = ap (λ n. is_id i q.id + n) (occurs-requests i qs)
 
-occurs-all : (i : AtomId) (ws : List Waiting) (qs : List Request) → occurs i (waiting_ids ws ++ request_ids qs) ≡ over_stuck (id_of i) ws + over_requests i qs
+occurs-all : (i : AtomId) (ws : List Waiting) (qs : List RequestParts) → occurs i (waiting_ids ws ++ request_ids qs) ≡ over_stuck (id_of i) ws + over_requests i qs
 occurs-all i [] qs = occurs-requests i qs ∙ (omega arith)
 occurs-all i (w ∷ ws) qs = omega (arith, occurs-all i ws qs)
 
@@ -123,7 +122,7 @@ precedes-is a b before = by_site (nat_lt a.site b.site) refl before
         let parts = and_parts (a.site == b.site) (nat_lt a.k b.k) e in
         inr (eqb-true a.site b.site parts.0, lt-of a.k b.k parts.1)
 
-after-left : (i : AtomId) (l : Loc) (qs : List Request) → AllAfter i qs → Each (Precedes i) (request_ids (requests_at l qs))
+after-left : (i : AtomId) (l : Loc) (qs : List RequestParts) → AllAfter i qs → Each (Precedes i) (request_ids (requests_at l qs))
 after-left i l [] all = tt
 after-left i l (q ∷ qs) all = by_test (same_loc l q.loc) (after-left i l qs all.1)
   where
@@ -131,7 +130,7 @@ after-left i l (q ∷ qs) all = by_test (same_loc l q.loc) (after-left i l qs al
     by_test true rest = (precedes-is i q.id all.0, rest)
     by_test false rest = rest
 
-rising-left : (l : Loc) (qs : List Request) → Rising qs → EachPair Precedes (request_ids (requests_at l qs))
+rising-left : (l : Loc) (qs : List RequestParts) → Rising qs → EachPair Precedes (request_ids (requests_at l qs))
 rising-left l [] rising = tt
 rising-left l (q ∷ qs) rising = by_test (same_loc l q.loc) (rising-left l qs rising.1)
   where
@@ -145,16 +144,18 @@ at-home : (l : Loc) (n : Name) → home_or l n ≡ l → IsAtHome l n
 at-home l (name.Seen i) home = tt
 at-home l (name.Place a) home = tt
 at-home l (name.Chan s k h) home = home
+at-home l (name.Num n) home = tt
+at-home l (name.Op i) home = tt
 
 -- it stands at the location, and a message on a channel at its home
 abbrev pub StandsAt : Loc → Waiting → Type 0
 StandsAt l w = (w.loc ≡ l) × IsAtHome l w.msg.on
 
-queue-stands : (l : Loc) (i : GroupInst) (c n : ℕ) (q : List MessageParts) → i.loc ≡ l → Each (IsQueued i c n) q → Each (StandsAt l) (in_queue i.loc q)
+queue-stands : (l : Loc) (i : GroupParts) (c n : ℕ) (q : List MessageParts) → i.loc ≡ l → Each (IsQueued i c n) q → Each (StandsAt l) (in_queue i.loc q)
 queue-stands l i c n [] at all = tt
 queue-stands l i c n (m ∷ ms) at all = ((at, subst (IsAtHome l) (sym all.0.0) at), queue-stands l i c n ms at all.1)
 
-queues-stand : (l : Loc) (i : GroupInst) (c : ℕ) (ns : List ℕ) (qs : List (List MessageParts)) → i.loc ≡ l → AreQueues i c ns qs → Each (StandsAt l) (in_queues i.loc qs)
+queues-stand : (l : Loc) (i : GroupParts) (c : ℕ) (ns : List ℕ) (qs : List (List MessageParts)) → i.loc ≡ l → AreQueues i c ns qs → Each (StandsAt l) (in_queues i.loc qs)
 queues-stand l i c [] [] at are = tt
 queues-stand l i c [] (q ∷ qs) at are = absurd are
 queues-stand l i c (n ∷ ns) [] at are = absurd are
@@ -178,19 +179,19 @@ stuck-stands l (w ∷ ws) home = by_test (same_loc l w.loc) refl (stuck-stands l
         ((sym at, at-home l w.msg.on (subst (λ k. home_or k w.msg.on ≡ k) (sym at) home.0)), rest)
     by_test false here rest = rest
 
-insts-stand : (l : Loc) (gs : List Group) → Each (λ (i : GroupInst). i.loc ≡ l) (insts_in (told_in (groups_at l gs)))
+insts-stand : (l : Loc) (gs : List Group) → Each (λ (i : GroupParts). i.loc ≡ l) (insts_in (told_in (groups_at l gs)))
 insts-stand l [] = tt
 insts-stand l (g ∷ gs) = by_test (same_loc l g.told.inst.loc) refl (insts-stand l gs)
   where
-    by_test : (b : Bool) → same_loc l g.told.inst.loc ≡ b → Each (λ (i : GroupInst). i.loc ≡ l) (insts_in (told_in (groups_at l gs))) → Each (λ (i : GroupInst). i.loc ≡ l) (insts_in (told_in (cond b (g ∷ groups_at l gs) (groups_at l gs))))
+    by_test : (b : Bool) → same_loc l g.told.inst.loc ≡ b → Each (λ (i : GroupParts). i.loc ≡ l) (insts_in (told_in (groups_at l gs))) → Each (λ (i : GroupParts). i.loc ≡ l) (insts_in (told_in (cond b (g ∷ groups_at l gs) (groups_at l gs))))
     by_test true here rest = (sym (same_loc_is l g.told.inst.loc here), rest)
     by_test false here rest = rest
 
-requests-stand : (l : Loc) (qs : List Request) → Each (λ (q : Request). q.loc ≡ l) (requests_at l qs)
+requests-stand : (l : Loc) (qs : List RequestParts) → Each (λ (q : RequestParts). q.loc ≡ l) (requests_at l qs)
 requests-stand l [] = tt
 requests-stand l (q ∷ qs) = by_test (same_loc l q.loc) refl (requests-stand l qs)
   where
-    by_test : (b : Bool) → same_loc l q.loc ≡ b → Each (λ (r : Request). r.loc ≡ l) (requests_at l qs) → Each (λ (r : Request). r.loc ≡ l) (cond b (q ∷ requests_at l qs) (requests_at l qs))
+    by_test : (b : Bool) → same_loc l q.loc ≡ b → Each (λ (r : RequestParts). r.loc ≡ l) (requests_at l qs) → Each (λ (r : RequestParts). r.loc ≡ l) (cond b (q ∷ requests_at l qs) (requests_at l qs))
     by_test true here rest = (sym (same_loc_is l q.loc here), rest)
     by_test false here rest = rest
 
@@ -200,7 +201,7 @@ pub record AreFew (l : Loc) (s : Site) : Type 0 where
   pub waiting : length (in_all_queues (groups_at l s.groups) ++ stuck_at l s.stuck) < 2 ^ 32
   pub names : Each HasFewNames (insts_in (told_in (groups_at l s.groups)))
 
-length-requests_at : (l : Loc) (qs : List Request) → length (requests_at l qs) ≤ length qs
+length-requests_at : (l : Loc) (qs : List RequestParts) → length (requests_at l qs) ≤ length qs
 length-requests_at l [] = omega arith
 length-requests_at l (q ∷ qs) = by_test (same_loc l q.loc) (length-requests_at l qs)
   where

@@ -5,10 +5,9 @@ use Rattle.std.specs.List.{list_all}
 use Rattle.chem_model.specs.declared.name.Loc.{Loc}
 use Rattle.chem_model.specs.declared.event.AtomId.{AtomId}
 use Rattle.chem_model.specs.Solution.{same_loc}
-use Rattle.chem_laws.proofs.Within.{same_loc_is}
 use Rattle.wire_packet.specs.MessageFacts.{MessageParts}
 use Rattle.wire_packet.specs.declared.packet.Waiting.{Waiting}
-use Rattle.wire_packet.specs.declared.packet.Request.{Request}
+use Rattle.wire_packet.specs.GroupFacts.{RequestParts}
 use Rattle.queue_cells.specs.Grouped.{Queued}
 use Rattle.net_laws.specs.Site.{Told, Group, Site, told_in}
 use Rattle.net_laws.specs.Parcels.{groups_at, stuck_at, requests_at, in_queue, in_queues, in_all_queues, pack}
@@ -68,11 +67,11 @@ module _ (s : Site) (but : AtomId) (l : Loc) where
       by_test true rest = ap (λ b. atom_apart s but w.msg.id && b) rest
       by_test false rest = rest
 
-  pub all-requests : (qs : List Request) → list_all (request_parted s but l) qs ≡ list_all (λ (q : Request). atom_apart s but q.id) (requests_at l qs)
+  pub all-requests : (qs : List RequestParts) → list_all (request_parted s but l) qs ≡ list_all (λ (q : RequestParts). atom_apart s but q.id) (requests_at l qs)
   all-requests [] = refl
   all-requests (q ∷ qs) = by_test (same_loc l q.loc) (all-requests qs)
     where
-      by_test : (b : Bool) → list_all (request_parted s but l) qs ≡ list_all (λ (r : Request). atom_apart s but r.id) (requests_at l qs) → (not b || atom_apart s but q.id) && list_all (request_parted s but l) qs ≡ list_all (λ (r : Request). atom_apart s but r.id) (cond b (q ∷ requests_at l qs) (requests_at l qs))
+      by_test : (b : Bool) → list_all (request_parted s but l) qs ≡ list_all (λ (r : RequestParts). atom_apart s but r.id) (requests_at l qs) → (not b || atom_apart s but q.id) && list_all (request_parted s but l) qs ≡ list_all (λ (r : RequestParts). atom_apart s but r.id) (cond b (q ∷ requests_at l qs) (requests_at l qs))
       by_test true rest = ap (λ b. atom_apart s but q.id && b) rest
       by_test false rest = rest
 
@@ -83,7 +82,7 @@ parted-is s from but l =
     let told = list_all (told_apart s) (pack l from).groups in
     let queued = list_all (λ (v : Waiting). atom_apart s but v.msg.id) (in_all_queues (groups_at l from.groups)) in
     let stuck = list_all (λ (v : Waiting). atom_apart s but v.msg.id) (stuck_at l from.stuck) in
-    let requests = list_all (λ (x : Request). atom_apart s but x.id) (pack l from).requests in
+    let requests = list_all (λ (x : RequestParts). atom_apart s but x.id) (pack l from).requests in
     ap (λ b. here && (b && (list_all (queues_parted s but l) from.groups && (list_all (stuck_parted s but l) from.stuck && list_all (request_parted s but l) from.requests)))) (all-told s but l from.groups)
     ∙ ap (λ b. here && (told && (b && (list_all (stuck_parted s but l) from.stuck && list_all (request_parted s but l) from.requests)))) (all-queued s but l from.groups)
     ∙ ap (λ b. here && (told && (queued && (b && list_all (request_parted s but l) from.requests)))) (all-stuck s but l from.stuck)

@@ -14,7 +14,7 @@ use Rattle.chem_laws.proofs.Lists.{true_both, Each-weaker, Each-right, is_false}
 use Rattle.chem_laws.proofs.Taking.{same_name_refl}
 use Rattle.chem_laws.proofs.Within.{same_loc_is, same_loc_refl}
 use Rattle.wire_packet.specs.MessageFacts.{MessageParts}
-use Rattle.wire_packet.specs.declared.packet.GroupInst.{GroupInst}
+use Rattle.wire_packet.specs.GroupFacts.{GroupParts}
 use Rattle.queue_cells.specs.Grouped.{Queued, lists_at, with_last}
 use Rattle.net_laws.specs.Site.{Told, Group, told_in}
 use Rattle.net_laws.specs.Changes.{channel_of, AreQueues}
@@ -27,7 +27,7 @@ use Rattle.site_solution.specs.declared.told.Mark.{Mark}
 use Rattle.site_solution.specs.declared.told.Spots.{Spots}
 use Rattle.site_solution.specs.Held.{queues_of}
 use Rattle.site_solution.proofs.Marks.{located-at, located-none}
-use Rattle.site_solution.specs.inside.Index.{Rows, same_key, key_of, groups_of, told_of}
+use Rattle.site_solution.specs.inside.Index.{Rows, same_key, groups_of, told_of}
 use Rattle.site_solution.specs.inside.Index.{has_channel, locate_from, locate, is_count, on_count}
 use Rattle.site_solution.specs.inside.Index.{counts_in, with_count, spot_on, spot_of, mark_in}
 use Rattle.site_solution.specs.inside.Index.{place_of, IsIndex}
@@ -60,7 +60,7 @@ get-below (y ∷ xs) (suc i) x is = omega (arith, get-below xs i x is)
 
 -- ---- channels
 
-channels-differ : (i : GroupInst) (a b : ℕ) → channel_of i a ≡ channel_of i b → a ≡ b
+channels-differ : (i : GroupParts) (a b : ℕ) → channel_of i a ≡ channel_of i b → a ≡ b
 channels-differ i a b same = let numbers : i.chans.k + a ≡ i.chans.k + b = cc in omega arith
 
 in-range : (first width k : ℕ) → nat_lt k (first + width) && nat_lt first (k + 1) ≡ true → (first ≤ k) × (k - first < width)
@@ -129,16 +129,16 @@ not_located n (d ∷ ds) site k home is = by_test (has_channel d site k home) re
 
 -- ---- the queues of one group
 
-are-many : (i : GroupInst) (k : ℕ) (ns : List ℕ) (qs : List (List MessageParts)) → AreQueues i k ns qs → length qs ≡ length ns
+are-many : (i : GroupParts) (k : ℕ) (ns : List ℕ) (qs : List (List MessageParts)) → AreQueues i k ns qs → length qs ≡ length ns
 are-many i k [] [] are = refl
 are-many i k [] (q ∷ qs) are = absurd are
 are-many i k (n ∷ ns) [] are = absurd are
 are-many i k (n ∷ ns) (q ∷ qs) are = ap suc (are-many i (k + 1) ns qs are.1)
 
-on_it : (i : GroupInst) (c n : ℕ) (m : MessageParts) → m.on ≡ channel_of i c → n ≡ length m.args → is_on i c n m ≡ true
+on_it : (i : GroupParts) (c n : ℕ) (m : MessageParts) → m.on ≡ channel_of i c → n ≡ length m.args → is_on i c n m ≡ true
 on_it i c n m on count = true_both (same_name m.on (channel_of i c)) (length m.args == n) (ap (same_name m.on) (sym on) ∙ same_name_refl m.on) (eq-eqb (length m.args) n (sym count))
 
-up-at : (i : GroupInst) (k : ℕ) (ns : List ℕ) (qs : List (List MessageParts)) (m : MessageParts) (c : ℕ) → AreQueues i k ns qs → m.on ≡ channel_of i (k + c) → slice_get ns c ≡ Some (length m.args) → queued_up i k ns qs m ≡ Some (slice_set qs c (slice_index_or qs c [] ++ m ∷ []))
+up-at : (i : GroupParts) (k : ℕ) (ns : List ℕ) (qs : List (List MessageParts)) (m : MessageParts) (c : ℕ) → AreQueues i k ns qs → m.on ≡ channel_of i (k + c) → slice_get ns c ≡ Some (length m.args) → queued_up i k ns qs m ≡ Some (slice_set qs c (slice_index_or qs c [] ++ m ∷ []))
 up-at i k [] qs m c are on count = absurd (cc)
 up-at i k (n ∷ ns) [] m c are on count = absurd are
 up-at i k (n ∷ ns) (q ∷ qs) m zero are on count =
@@ -152,7 +152,7 @@ up-at i k (n ∷ ns) (q ∷ qs) m (suc c) are on count =
     let other : is_on i k n m ≡ false = is_false (is_on i k n m) (λ e. let h = channels-differ i k (k + suc c) (sym (on_is i k n m e).0 ∙ on) in omega arith) in
     ap (λ b. cond b (Some ((q ++ m ∷ []) ∷ qs)) (behind q (queued_up i (k + 1) ns qs m))) other ∙ ap (behind q) later
 
-up-none : (i : GroupInst) (k : ℕ) (ns : List ℕ) (qs : List (List MessageParts)) (m : MessageParts) → ((c : ℕ) → m.on ≡ channel_of i (k + c) → slice_get ns c ≡ Some (length m.args) → ⊥) → queued_up i k ns qs m ≡ None
+up-none : (i : GroupParts) (k : ℕ) (ns : List ℕ) (qs : List (List MessageParts)) (m : MessageParts) → ((c : ℕ) → m.on ≡ channel_of i (k + c) → slice_get ns c ≡ Some (length m.args) → ⊥) → queued_up i k ns qs m ≡ None
 up-none i k [] qs m none = refl
 up-none i k (n ∷ ns) [] m none = refl
 up-none i k (n ∷ ns) (q ∷ qs) m none =
@@ -236,6 +236,8 @@ by-count ds m site k home t on (Some u) at is = by_test (is_count (slice_get (co
 takes : (ds : List Told) (m : MessageParts) (t : Spot) (n : Name) → m.on ≡ n → spot_on ds n (length m.args) ≡ Some t → Takes ds t m
 takes ds m t (name.Seen i) on is = absurd (cc)
 takes ds m t (name.Place l) on is = absurd (cc)
+takes ds m t (name.Num n) on is = absurd (cc)
+takes ds m t (name.Op i) on is = absurd (cc)
 takes ds m t (name.Chan site k home) on is = by-count ds m site k home t on (locate ds site k home) refl is
 
 no-count : (ds : List Told) (m : MessageParts) (site k : ℕ) (home : Loc) → AreApart ds → m.on ≡ name.Chan site k home → (o : Option Spot) → locate ds site k home ≡ o → with_count ds (length m.args) o ≡ None → FitsNone ds m
@@ -253,6 +255,16 @@ fits-none ds m (name.Seen i) apart on is = no-channel ds
     no-channel [] = tt
     no-channel (x ∷ xs) = ((λ c f. let e = sym on ∙ f.0 in cc), no-channel xs)
 fits-none ds m (name.Place l) apart on is = no-channel ds
+  where
+    no-channel : (xs : List Told) → FitsNone xs m
+    no-channel [] = tt
+    no-channel (x ∷ xs) = ((λ c f. let e = sym on ∙ f.0 in cc), no-channel xs)
+fits-none ds m (name.Num n) apart on is = no-channel ds
+  where
+    no-channel : (xs : List Told) → FitsNone xs m
+    no-channel [] = tt
+    no-channel (x ∷ xs) = ((λ c f. let e = sym on ∙ f.0 in cc), no-channel xs)
+fits-none ds m (name.Op i) apart on is = no-channel ds
   where
     no-channel : (xs : List Told) → FitsNone xs m
     no-channel [] = tt

@@ -1,5 +1,5 @@
 -- What a site keeps where a location leaves it.
-use Rattle.std.proofs.Common.{◌≡◌, ℕ, suc, ◌+◌, ◌<◌, ◌≤◌, ◌^◌, Bool, true, false, cond, List, [], ◌∷◌, length, refl, sym, ap, subst, ◌∙◌, arith}
+use Rattle.std.proofs.Common.{◌≡◌, ℕ, suc, ◌+◌, ◌≤◌, Bool, true, false, cond, List, [], ◌∷◌, length, refl, sym, ap, subst, ◌∙◌, arith}
 use Rattle.std.specs.Prelude.{not, filter, nat_eq, ◌||◌}
 use Rattle.std.proofs.lemmas.Bool.Decides.{nat_tests}
 use Rattle.chem_model.specs.declared.name.Loc.{Loc}
@@ -7,8 +7,8 @@ use Rattle.chem_model.specs.declared.event.AtomId.{AtomId}
 use Rattle.chem_model.specs.Solution.{same_loc}
 use Rattle.wire_packet.specs.MessageFacts.{MessageParts}
 use Rattle.wire_packet.specs.declared.packet.Waiting.{Waiting}
-use Rattle.wire_packet.specs.declared.packet.Request.{Request}
-use Rattle.net_laws.specs.Site.{Group, Site, told_in}
+use Rattle.wire_packet.specs.GroupFacts.{RequestParts}
+use Rattle.net_laws.specs.Site.{Group, Site}
 use Rattle.net_laws.specs.Parcels.{groups_but, stuck_but, requests_but, locs_but, remove}
 use Rattle.net_laws.proofs.Parcels.{each_laid_but, removed_kept}
 use Rattle.site_solution.specs.CanLay.{HasNumbers}
@@ -36,7 +36,7 @@ module _ (f : MessageParts → ℕ) where
       by_test true rest = omega arith
       by_test false rest = omega arith
 
-over-requests_but : (i : AtomId) (l : Loc) (qs : List Request) → over_requests i (requests_but l qs) ≤ over_requests i qs
+over-requests_but : (i : AtomId) (l : Loc) (qs : List RequestParts) → over_requests i (requests_but l qs) ≤ over_requests i qs
 over-requests_but i l [] = omega arith
 over-requests_but i l (q ∷ qs) = by_test (same_loc l q.loc) (over-requests_but i l qs)
   where
@@ -70,11 +70,11 @@ stuck-kept l (w ∷ ws) = by_test (same_loc l w.loc) (stuck-kept l ws)
     by_test true rest = rest
     by_test false rest = ap (λ vs. w ∷ vs) rest
 
-pub requests-kept : (l : Loc) (qs : List Request) → filter (λ (q : Request). not (same_loc l q.loc)) qs ≡ requests_but l qs
+pub requests-kept : (l : Loc) (qs : List RequestParts) → filter (λ (q : RequestParts). not (same_loc l q.loc)) qs ≡ requests_but l qs
 requests-kept l [] = refl
 requests-kept l (q ∷ qs) = by_test (same_loc l q.loc) (requests-kept l qs)
   where
-    by_test : (b : Bool) → filter (λ (r : Request). not (same_loc l r.loc)) qs ≡ requests_but l qs → cond (not b) (q ∷ filter (λ (r : Request). not (same_loc l r.loc)) qs) (filter (λ (r : Request). not (same_loc l r.loc)) qs) ≡ cond b (requests_but l qs) (q ∷ requests_but l qs)
+    by_test : (b : Bool) → filter (λ (r : RequestParts). not (same_loc l r.loc)) qs ≡ requests_but l qs → cond (not b) (q ∷ filter (λ (r : RequestParts). not (same_loc l r.loc)) qs) (filter (λ (r : RequestParts). not (same_loc l r.loc)) qs) ≡ cond b (requests_but l qs) (q ∷ requests_but l qs)
     by_test true rest = rest
     by_test false rest = ap (λ rs. q ∷ rs) rest
 
@@ -97,7 +97,7 @@ locs-kept l (p ∷ ps) =
 
 -- ---- requests still rise
 
-after-but : (i : AtomId) (l : Loc) (qs : List Request) → AllAfter i qs → AllAfter i (requests_but l qs)
+after-but : (i : AtomId) (l : Loc) (qs : List RequestParts) → AllAfter i qs → AllAfter i (requests_but l qs)
 after-but i l [] all = tt
 after-but i l (q ∷ qs) all = by_test (same_loc l q.loc) (after-but i l qs all.1)
   where
@@ -105,7 +105,7 @@ after-but i l (q ∷ qs) all = by_test (same_loc l q.loc) (after-but i l qs all.
     by_test true rest = rest
     by_test false rest = (all.0, rest)
 
-rising-but : (l : Loc) (qs : List Request) → Rising qs → Rising (requests_but l qs)
+rising-but : (l : Loc) (qs : List RequestParts) → Rising qs → Rising (requests_but l qs)
 rising-but l [] rising = tt
 rising-but l (q ∷ qs) rising = by_test (same_loc l q.loc) (rising-but l qs rising.1)
   where
@@ -113,7 +113,7 @@ rising-but l (q ∷ qs) rising = by_test (same_loc l q.loc) (rising-but l qs ris
     by_test true rest = rest
     by_test false rest = (after-but q.id l qs rising.0, rest)
 
-length-requests_but : (l : Loc) (qs : List Request) → length (requests_but l qs) ≤ length qs
+length-requests_but : (l : Loc) (qs : List RequestParts) → length (requests_but l qs) ≤ length qs
 length-requests_but l [] = omega arith
 length-requests_but l (q ∷ qs) = by_test (same_loc l q.loc) (length-requests_but l qs)
   where
@@ -121,5 +121,5 @@ length-requests_but l (q ∷ qs) = by_test (same_loc l q.loc) (length-requests_b
     by_test true rest = omega arith
     by_test false rest = omega arith
 
-pub asked-but : (l : Loc) (qs new : List Request) → new ≡ requests_but l qs → AreAsked qs → AreAsked new
+pub asked-but : (l : Loc) (qs new : List RequestParts) → new ≡ requests_but l qs → AreAsked qs → AreAsked new
 asked-but l qs new is asked = subst AreAsked (sym is) (record { rising = rising-but l qs asked.rising; few = omega (arith, asked.few, length-requests_but l qs) })

@@ -1,5 +1,5 @@
 -- What the tests of a site say after a change of the tree, and after a location has left.
-use Rattle.std.proofs.Common.{◌≡◌, ℕ, ◌≤◌, ◌++◌, Bool, true, false, cond, List, [], ◌∷◌, Option, Some, None, refl, sym, ap, subst, ◌∙◌, arith, eq-eqb}
+use Rattle.std.proofs.Common.{◌≡◌, ℕ, Bool, true, false, cond, List, [], ◌∷◌, Option, Some, None, refl, sym, ap, ◌∙◌, arith, eq-eqb}
 use Rattle.std.specs.Prelude.{◌&&◌, ◌||◌, ◌==◌, is_some}
 use Rattle.std.specs.Option.{option_map}
 use Rattle.std.specs.List.{list_all}
@@ -14,13 +14,13 @@ use Rattle.chem_model.specs.Opening.{root_of}
 use Rattle.chem_model.specs.Solution.{same_loc}
 use Rattle.wire_packet.specs.MessageFacts.{MessageParts}
 use Rattle.wire_packet.specs.declared.packet.Waiting.{Waiting}
-use Rattle.wire_packet.specs.declared.packet.Request.{Request}
+use Rattle.wire_packet.specs.GroupFacts.{RequestParts}
 use Rattle.wire_packet.specs.declared.packet.Ask.{Ask}
 use Rattle.wire_packet.specs.declared.packet.Ask.TheVariants as request
 use Rattle.env_store.specs.CodeParts.{CodeParts}
 use Rattle.loc_tree.specs.declared.tree.Spot.{Spot}
-use Rattle.loc_tree.specs.Tree.{Tree, spot, number_in, is_pair_of, unmarked, renumbered, with_birth, with_number, IsFresh}
-use Rattle.loc_tree.proofs.Spots.{same_loc_is, same_loc_refl}
+use Rattle.loc_tree.specs.Tree.{Tree, spot, number_in, is_pair_of, unmarked, renumbered, with_birth, with_number}
+use Rattle.loc_tree.proofs.Spots.{same_loc_is}
 use Rattle.net_laws.specs.Site.{Told, Group, told_in, Site}
 use Rattle.net_laws.specs.Net.{among, with_births}
 use Rattle.net_laws.specs.Parcels.{Load, locs_but, groups_but, stuck_but, requests_but, remove}
@@ -160,7 +160,7 @@ module _ (l : Loc) where
       go true one rest = rest
       go false one rest = and_from (p w) (list_all p (stuck_but l ws)) one rest
 
-  all_requests_but : (p : Request → Bool) (qs : List Request) → list_all p qs ≡ true → list_all p (requests_but l qs) ≡ true
+  all_requests_but : (p : RequestParts → Bool) (qs : List RequestParts) → list_all p qs ≡ true → list_all p (requests_but l qs) ≡ true
   all_requests_but p [] h = refl
   all_requests_but p (q ∷ qs) h =
       let both = and_parts (p q) (list_all p qs) h in
@@ -194,7 +194,7 @@ module _ (l : Loc) where
             locs = all_locs_but (λ (x : Loc). is_drawn s.number s.made x.site x.k) s.locs parts.locs;
             groups = all_groups_but (group_drawn s.number s.made) s.groups parts.groups;
             stuck = all_stuck_but (λ (w : Waiting). message_drawn s.number s.made w.msg) s.stuck parts.stuck;
-            requests = all_requests_but (λ (q : Request). is_drawn s.number s.made q.id.site q.id.k) s.requests parts.requests;
+            requests = all_requests_but (λ (q : RequestParts). is_drawn s.number s.made q.id.site q.id.k) s.requests parts.requests;
           });
           fresh = fresh_same t u agree.there s.number s.made h.fresh;
         };
@@ -227,6 +227,8 @@ module _ (there later : Loc → Bool) (weaker : (l : Loc) → there l ≡ true �
   name_more (name.Seen i) h = refl
   name_more (name.Place a) h = weaker a h
   name_more (name.Chan s k a) h = weaker a h
+  name_more (name.Num n) h = refl
+  name_more (name.Op i) h = refl
 
   names_more : (xs : List Name) → names_in there xs ≡ true → names_in later xs ≡ true
   names_more xs h = all-weaker (name_in there) (name_in later) xs name_more h

@@ -39,28 +39,19 @@ fn address(tree: &LocTree, loc: &Loc) -> u32
     if tree.holds(loc) { tree.root(loc) } else { 0 }
 }
 
-// A copy of a message, under way to the site that hosts its location.
-fn flight(alloc: Global, tree: &LocTree, waiting: &Waiting) -> Result<Flight, Memory>
+// A message, under way to the site that hosts its location.
+fn flight(alloc: Global, tree: &LocTree, waiting: Waiting) -> Result<Flight, Memory>
     ensures { IfOk result (λ f. IsFlightOf
-        (record { target = address tree.now waiting.now.loc; msg = waiting.now.msg }) f) }
+        (record { target = address tree.now waiting.loc; msg = waiting.msg }) f) }
 {
     let target = address(tree, &waiting.loc);
-    let packet = Packet::Message(waiting.msg.copy(alloc)?);
+    let packet = Packet::Message(waiting.msg);
     let encoded = encode(alloc, &packet);
     drop(packet);
     Ok(Flight {
         target,
         bytes: encoded?,
     })
-}
-
-// Appends a copy of a message.
-fn push_copy(list: &mut Vec<Waiting>, alloc: Global, waiting: &Waiting) -> Result<(), Memory>
-    ensures { OnOk result (list.new.items ≡ list.old.items ++ waiting.now ∷ []) }
-{
-    let copy = waiting.copy(alloc)?;
-    list.push(copy)?;
-    Ok(())
 }
 
 // Whether the location is hosted here, or is born.
@@ -76,14 +67,15 @@ fn sort_message(
     tree: &LocTree,
     here: &Places,
     born: &Places,
-    waiting: &Waiting,
+    waiting: Waiting,
     sorted: &mut Sorted,
 ) -> Result<(), Memory>
     ensures { OnOk result (Sorts tree.now (here.now.locs ++ born.now.locs)
-        (a_message waiting.now.loc waiting.now.msg) sorted.old sorted.new) }
+        (a_message waiting.loc waiting.msg) sorted.old sorted.new) }
 {
     if is_hosted(here, born, &waiting.loc) {
-        push_copy(&mut sorted.waiting, alloc, waiting)
+        sorted.waiting.push(waiting)?;
+        Ok(())
     } else {
         sorted.flights.push(flight(alloc, tree, waiting)?)
     }
@@ -95,16 +87,16 @@ fn sort_post(
     tree: &LocTree,
     here: &Places,
     born: &Places,
-    post: &Post,
+    post: Post,
     sorted: &mut Sorted,
 ) -> Result<(), Memory>
-    ensures { OnOk result (Sorts tree.now (here.now.locs ++ born.now.locs) (posted post.now)
+    ensures { OnOk result (Sorts tree.now (here.now.locs ++ born.now.locs) (posted post)
         sorted.old sorted.new) }
 {
     match post {
         Post::Message(waiting) => sort_message(alloc, tree, here, born, waiting, sorted),
         Post::Request(request) => {
-            sorted.requests.push(*request)?;
+            sorted.requests.push(request)?;
             Ok(())
         }
     }
@@ -116,17 +108,17 @@ pub(crate) fn sort_posts(
     tree: &LocTree,
     here: &Places,
     born: &Places,
-    posts: &[Post],
+    posts: Posts,
 ) -> Result<Sorted, Memory>
     ensures { IfOk result
-        (IsSorted tree.now (here.now.locs ++ born.now.locs) (all_posted posts.now)) }
+        (IsSorted tree.now (here.now.locs ++ born.now.locs) (all_posted posts)) }
 {
     let mut sorted = Sorted {
         waiting: Vec::new(alloc),
         requests: Vec::new(alloc),
         flights: Items::new(alloc),
     };
-    for post in posts {
+    for post in posts.into_vec() {
         sort_post(alloc, tree, here, born, post, &mut sorted)?;
     }
     Ok(sorted)
@@ -143,27 +135,16 @@ pub(crate) fn places(alloc: Global, locs: &[Loc]) -> Result<Places, Memory>
     Ok(places)
 }
 
-// What a call hands out that left here what a run made.
-pub(crate) fn effects(run: Run, sends: Flights) -> Effects
-    ensures { result ≡ record { sends = sends; outs = run.outs; births = run.births } }
-{
-    Effects {
-        sends,
-        outs: run.outs,
-        births: run.births,
-    }
-}
-
 // Sorts what is posted, where the locations here and these births are hosted.
 pub(crate) fn sort_with_births(
     alloc: Global,
     tree: &LocTree,
     here: &Places,
     births: &[Loc],
-    posts: &[Post],
+    posts: Posts,
 ) -> Result<Sorted, Memory>
     requires { AreNew [] births.now }
-    ensures { IfOk result (IsSorted tree.now (here.now.locs ++ births.now) (all_posted posts.now)) }
+    ensures { IfOk result (IsSorted tree.now (here.now.locs ++ births.now) (all_posted posts)) }
 {
     let born = places(alloc, births)?;
     sort_posts(alloc, tree, here, &born, posts)
@@ -178,55 +159,43 @@ impl Site {
         alloc: Global,
         code: Option<&Code>,
         tree: &LocTree,
-        run: &Run,
+        run: Run,
         groups: Vec<NewGroup>,
         group: u32,
         chans: &[u32],
-    ) -> Result<Flights, Memory>
+    ) -> Result<Effects, Memory>
         requires new { Each IsNewGroup groups.items }
-        requires can { CanLeave run.now.births (told_of_new groups.items) (all_posted run.now.posts)
+        requires can { CanLeave run.births (told_of_new groups.items) (all_posted run.posts)
             self.old }
-        ensures ok { IfOk result (IsLeft (pour_here tree.now run.now.next run.now.births
-            (told_of_new groups.items) (all_posted run.now.posts)
-            (taken_at group chans.now self.old)) self.new) }
+        ensures ok { IfOk result (λ e. Answers (pour_here tree.now run.next run.births
+            (told_of_new groups.items) (all_posted run.posts) (taken_at group chans.now self.old))
+            run.outs run.births self.new e) }
         ensures err { OnErr result (self.new ≡ self.old) }
     {
-        let births = run.births.as_slice();
-        let posts = run.posts.as_slice();
+        let Run {
+            next,
+            births,
+            posts,
+            outs,
+            ..
+        } = run;
         let Sorted {
             waiting,
             requests,
             flights,
-        } = sort_with_births(alloc, tree, self.places(), births, posts)?;
+        } = sort_with_births(alloc, tree, self.places(), births.as_slice(), posts)?;
         let more = More {
-            next: run.next,
+            next,
             groups,
             waiting,
             requests,
         };
-        self.add_all(alloc, code, births, more, group, chans)?;
-        Ok(flights)
-    }
-
-    // The same with the groups that the run laid, of which the code tells.
-    fn leave_run(
-        &mut self,
-        alloc: Global,
-        code: &Code,
-        tree: &LocTree,
-        run: &Run,
-        group: u32,
-        chans: &[u32],
-    ) -> Result<Flights, Memory>
-        requires { CanLeave run.now.births (all_told (told_by code.now) run.now.groups)
-            (all_posted run.now.posts) self.old }
-        ensures ok { IfOk result (IsLeft (pour_here tree.now run.now.next run.now.births
-            (all_told (told_by code.now) run.now.groups) (all_posted run.now.posts)
-            (taken_at group chans.now self.old)) self.new) }
-        ensures err { OnErr result (self.new ≡ self.old) }
-    {
-        let groups = new_groups(alloc, code, run.groups.as_slice())?;
-        self.leave(alloc, Some(code), tree, run, groups, group, chans)
+        self.add_all(alloc, code, births.as_slice(), more, group, chans)?;
+        Ok(Effects {
+            sends: flights,
+            outs,
+            births,
+        })
     }
 
     /// Drops the fronts of these queues of a group in turn, where there are any, and then leaves
@@ -250,12 +219,7 @@ impl Site {
             run.outs run.births self.new e) }
         ensures err { OnErr result (self.new ≡ self.old) }
     {
-        match self.leave_run(alloc, code, tree, &run, group, chans) {
-            Ok(sends) => Ok(effects(run, sends)),
-            Err(memory) => {
-                drop(run);
-                Err(memory)
-            }
-        }
+        let groups = new_groups(alloc, code, run.groups.as_slice())?;
+        self.leave(alloc, Some(code), tree, run, groups, group, chans)
     }
 }

@@ -2,11 +2,13 @@
 ghost use Rattle.std.specs.Prelude.{◌≡◌, [], true, OnOk, OnErr, IfOk};
 ghost use Rattle.loc_tree.specs.Tree.{Tree};
 ghost use Rattle.wire_packet.specs.ParcelFacts.{IsParcel};
+ghost use Rattle.wire_packet.specs.Operations.{IsPlain};
 ghost use Rattle.env_store.specs.Running.{atom_ran};
 ghost use Rattle.code_run.specs.Posts.{run_of, all_posted};
 ghost use Rattle.net_laws.specs.ByCode.{told_by};
 ghost use Rattle.net_laws.specs.Parcels.{load_of, take_in};
-ghost use Rattle.net_laws.specs.Meeting.{continuation_made, sent_here};
+ghost use Rattle.net_laws.specs.Moves.{continuation_made};
+ghost use Rattle.net_laws.specs.Meeting.{sent_here};
 ghost use Rattle.site_solution.specs.Answers.{Answers};
 ghost use Rattle.site_solution.specs.Parcels.{CanTakeIn, CanReceive};
 ghost use Rattle.site_solution.specs.inside.Carried.{IsCarried, IsBeside, ArriveBeside};
@@ -17,12 +19,12 @@ ghost use Rattle.site_solution.specs.Draws.{CanDraw};
 ghost use Rattle.site_solution.specs.Staying.{AgreeBut, StillFits, HasReceived};
 ghost use Rattle.site_solution.specs.Arriving.{FitsInto};
 
-use crate::commit::{Sorted, effects, sort_with_births};
+use crate::commit::{Sorted, sort_with_births};
 use crate::effects::Effects;
 use crate::more::{More, new_groups};
 use crate::site::{Site, site_is_kept};
 use chem_model::{Items, Loc, Memory, Name, Nums};
-use code_run::{Run, message};
+use code_run::{Posts, Run, message};
 use env_store::Code;
 use loc_tree::LocTree;
 use std::alloc::Global;
@@ -100,6 +102,7 @@ fn continued(
     loc: &Loc,
     cont: Name,
 ) -> Result<Run, Memory>
+    requires { IsPlain cont }
     ensures { IfOk result (λ r. r ≡ run_of (atom_ran
         (continuation_made counts.now site.now.number loc.now site.now.made cont))) }
 {
@@ -133,29 +136,29 @@ impl Site {
         self.add_all(alloc, Some(code), &[parcel.loc], more, 0, &[])
     }
 
-    // Takes in a location, and leaves what a run posted there. Where there is no memory for all of
-    // it, nothing changes.
+    // Takes in a location, and leaves there what a run with this next number posted. Where there is
+    // no memory for all of it, nothing changes.
     fn take_in_beside(
         &mut self,
         alloc: Global,
         code: &Code,
         tree: &LocTree,
         parcel: &Parcel,
-        run: &Run,
+        next: u64,
+        posts: Posts,
     ) -> Result<Flights, Memory>
         requires can { CanReceive (load_of (told_by code.now) parcel.now) self.old }
-        requires posts { IsContinued self.old.number self.old.made (all_posted run.now.posts) }
-        ensures ok { IfOk result (IsTakenBeside tree.now code.now parcel.now run.now.next
-            (all_posted run.now.posts) self.old self.new) }
+        requires posts { IsContinued self.old.number self.old.made (all_posted posts) }
+        ensures ok { IfOk result (IsTakenBeside tree.now code.now parcel.now next
+            (all_posted posts) self.old self.new) }
         ensures err { OnErr result (self.new ≡ self.old) }
     {
-        let posts = run.posts.as_slice();
         let Sorted {
             waiting,
             requests,
             flights,
         } = sort_with_births(alloc, tree, self.places(), &[parcel.loc], posts)?;
-        let more = carried_beside(alloc, code, parcel, run.next, waiting, requests)?;
+        let more = carried_beside(alloc, code, parcel, next, waiting, requests)?;
         self.add_all(alloc, Some(code), &[parcel.loc], more, 0, &[])?;
         Ok(flights)
     }
@@ -176,6 +179,7 @@ impl Site {
     ) -> Result<Effects, Memory>
         requires can { CanReceive (load_of (told_by code.now) parcel.now) self.old }
         requires loc { parcel.now.loc ≡ loc.now }
+        requires plain { IsPlain cont }
         ensures ok { IfOk result (λ e.
             let a = continuation_made counts.now self.old.number loc.now self.old.made cont in
             let load = load_of (told_by code.now) parcel.now in
@@ -188,13 +192,18 @@ impl Site {
             → HasReceived code.now u self.new) }
     {
         site_is_kept(self);
-        let made = continued(alloc, counts, self, loc, cont)?;
-        match self.take_in_beside(alloc, code, tree, parcel, &made) {
-            Ok(sends) => Ok(effects(made, sends)),
-            Err(memory) => {
-                drop(made);
-                Err(memory)
-            }
-        }
+        let Run {
+            next,
+            births,
+            posts,
+            outs,
+            ..
+        } = continued(alloc, counts, self, loc, cont)?;
+        let sends = self.take_in_beside(alloc, code, tree, parcel, next, posts)?;
+        Ok(Effects {
+            sends,
+            outs,
+            births,
+        })
     }
 }

@@ -16,7 +16,6 @@ ghost use Rattle.site_solution.specs.Held.{taken_at};
 ghost use Rattle.site_solution.specs.InTree.{is_in_tree};
 ghost use Rattle.site_solution.specs.Pours.{CanPour, HasPoured, CanEmit, HasEmitted};
 
-use crate::commit::effects;
 use crate::effects::Effects;
 use crate::site::{Site, site_is_kept};
 use chem_model::{Loc, Memory, Name, Names, Nums};
@@ -107,12 +106,6 @@ impl Site {
     {
         site_is_kept(self);
         let made = message(alloc, counts, self.number(), loc, on, args, self.made())?;
-        match self.leave(alloc, None, tree, &made, Vec::new(alloc), 0, &[]) {
-            Ok(sends) => Ok(effects(made, sends)),
-            Err(memory) => {
-                drop(made);
-                Err(memory)
-            }
-        }
+        self.leave(alloc, None, tree, made, Vec::new(alloc), 0, &[])
     }
 }

@@ -2,6 +2,7 @@ use Rattle.std.proofs.Common.{◌≡◌, ◌+◌, List, [], ◌∷◌, length, g
 use Rattle.env_store.specs.declared.code.Instr.{Instr}
 use Rattle.chem_model.specs.declared.name.Name.{Name}
 use Rattle.chem_model.specs.Each.{Each}
+use Rattle.wire_packet.specs.Operations.{IsPlain}
 use Rattle.env_store.specs.declared.code.Instr.TheVariants.{Enter}
 use Rattle.env_store.specs.CodeFacts.{AreBelow, Falls}
 use Rattle.env_store.specs.Running.{code_made, loc_at, numbered_levels}
@@ -9,7 +10,8 @@ use Rattle.code_run.specs.declared.made.Run.{Run}
 use Rattle.code_run.specs.inside.Steps.{IsThere, FitsFirst}
 use Rattle.code_run.proofs.Runs.{drop_at, drop_number, drop_past}
 use Rattle.code_run.proofs.Blocks.{block_there, block_below, wide_levels, enter_made, enter_env, places_at, places_there, places_below}
-use Rattle.code_run.proofs.Loops.{few_names, run_begins, run_steps, fits_first, falls_now, run_made, run_leaves, laying_begins, laying_steps, laying_made, place_body, body_some, body_none}
+use Rattle.code_run.proofs.Plain.{on_count, wide_plain}
+use Rattle.code_run.proofs.Loops.{few_names, still_plain, run_begins, run_steps, fits_first, falls_now, run_made, run_leaves, laying_begins, laying_steps, laying_made, place_body, body_some, body_none}
 use Rattle.code_run.proofs.body.+run_body.Goals as goal
 use Rattle.code_run.proofs.body.+run_body.Goals.{lay_places-in-Some+in_ok-run_body, lay_places-in_default}
 
@@ -17,7 +19,7 @@ use Rattle.code_run.proofs.body.+run_body.Goals.{lay_places-in-Some+in_ok-run_bo
 
 pub run_body-loop-instr-init : goal.run_body-loop-instr-init
 run_body-loop-instr-init t c =
-    run_begins c.args.code.now c.args.site c.body_at-instrs.ensures.kept c.args.loc c.args.body c.args.env.now c.args.made.now c.as_slice-instr-items.result.now c.requires
+    run_begins c.args.code.now c.args.site c.body_at-instrs.ensures.kept c.args.loc c.args.body c.args.env.now c.args.made.now c.as_slice-instr-items.result.now c.requires.body c.requires.env
     (c.body_at-instrs.ensures.there ∙ ap (λ (is : List Instr). Some is) (sym c.as_slice-instr-items.ensures.members))
 
 pub run_body-step-requires : goal.run_body-step-requires
@@ -27,8 +29,11 @@ run_body-step-requires t c =
     let split = drop_at items i c.instr-item.result c.loop-instr-test.true c.instr-item.is in (
       omega arith,
       (
-        fits_first c.args.code.now c.args.site c.args.loc c.args.body c.args.env.now c.args.made.now c.loop-instr.made c.loop-instr.env items (drop i items) (drop (i + 1) items) c.instr-item.result split c.loop-instr.invariant,
-        falls_now c.args.code.now c.args.site c.args.loc c.args.body c.args.env.now c.args.made.now c.loop-instr.made c.loop-instr.env items (drop i items) (drop (i + 1) items) c.instr-item.result split c.loop-instr.invariant,
+        still_plain c.args.code.now c.args.site c.args.loc c.args.body c.args.env.now c.args.made.now c.loop-instr.made c.loop-instr.env items (drop i items) c.loop-instr.invariant,
+        (
+          fits_first c.args.code.now c.args.site c.args.loc c.args.body c.args.env.now c.args.made.now c.loop-instr.made c.loop-instr.env items (drop i items) (drop (i + 1) items) c.instr-item.result split c.loop-instr.invariant,
+          falls_now c.args.code.now c.args.site c.args.loc c.args.body c.args.env.now c.args.made.now c.loop-instr.made c.loop-instr.env items (drop i items) (drop (i + 1) items) c.instr-item.result split c.loop-instr.invariant,
+        ),
       ),
     )
 
@@ -54,14 +59,20 @@ run_body-returns-clause-env t c =
     (drop_past items c.loop-instr.instr-index c.loop-instr-test.false) c.loop-instr.invariant
 
 pub step-post_message-requires : goal.step-post_message-requires
-step-post_message-requires t c = few_names c.args.code.now (length c.args.env.now) c.args.instr.now c.in-Send.on c.in-Send.args c.args.env.now c.in_ok-args-in-Send.args c.in-Send.is c.requires.fits c.in_ok-args-in-Send.ensures
+step-post_message-requires t c =
+    let names = c.in_ok-args-in-Send.ensures.names in
+    record {
+      few = few_names c.args.code.now (length c.args.env.now) c.args.instr.now c.in-Send.on c.in-Send.args c.args.env.now c.in_ok-args-in-Send.args c.in-Send.is c.requires.fits names;
+      plain = c.in_ok-args-in-Send.ensures.plain;
+      count = on_count c.args.code.now (length c.args.env.now) c.args.instr.now c.in-Send.on c.in-Send.args c.args.env.now c.in_ok-args-in-Send.args c.lookup-on.result c.in-Send.is c.requires.fits c.requires.env names c.lookup-on.ensures;
+    }
 
 -- ---- a block that is entered
 
 pub step-enter-requires : goal.step-enter-requires
 step-enter-requires t c =
     let is : c.args.instr.now ≡ Enter c.in-Enter.block = c.in-Enter.is in
-    (omega arith, (subst (λ i. FitsFirst c.args.code.now (length c.args.env.now) i) is c.requires.fits, subst (λ i. Falls c.args.code.now c.args.below (i ∷ [])) is c.requires.falls))
+    (omega arith, (c.requires.env, (subst (λ i. FitsFirst c.args.code.now (length c.args.env.now) i) is c.requires.fits, subst (λ i. Falls c.args.code.now c.args.below (i ∷ [])) is c.requires.falls)))
 
 pub enter-name_block-requires : goal.enter-name_block-requires
 enter-name_block-requires t c =
@@ -72,9 +83,12 @@ enter-lay_block-requires t c =
     let block = c.block_at-block.result.now in (
       omega arith,
       (
-        wide_levels c.args.code.now (length c.args.env.now) c.args.block block c.requires.fits c.block_at-block.ensures.there c.block_at-block.ensures.kept c.args.site c.args.loc c.args.made.now.next c.args.env.now c.name_block.new.names c.as_slice-levels.result.now
-            c.as_slice-levels.ensures.members c.in_ok-name_block.ensures refl,
-        subst (λ ns. AreBelow c.args.below (numbered_levels c.args.code.now.levels ns)) (sym c.as_slice-levels.ensures.members) (block_below c.args.code.now (length c.args.env.now) c.args.block block c.requires.fits c.block_at-block.ensures.there c.args.below c.requires.falls),
+        wide_plain c.args.site c.args.loc c.args.made.now.next (numbered_levels c.args.code.now.levels c.as_slice-levels.result.now) c.args.env.now c.name_block.new.names c.requires.env c.in_ok-name_block.ensures,
+        (
+          wide_levels c.args.code.now (length c.args.env.now) c.args.block block c.requires.fits c.block_at-block.ensures.there c.block_at-block.ensures.kept c.args.site c.args.loc c.args.made.now.next c.args.env.now c.name_block.new.names c.as_slice-levels.result.now
+              c.as_slice-levels.ensures.members c.in_ok-name_block.ensures refl,
+          subst (λ ns. AreBelow c.args.below (numbered_levels c.args.code.now.levels ns)) (sym c.as_slice-levels.ensures.members) (block_below c.args.code.now (length c.args.env.now) c.args.block block c.requires.fits c.block_at-block.ensures.there c.args.below c.requires.falls),
+        ),
       ),
     )
 
@@ -97,8 +111,11 @@ pub lay_block-lay_places-requires : goal.lay_block-lay_places-requires
 lay_block-lay_places-requires t c = (
   omega arith,
   (
-    places_at c.args.code.now (length c.args.env.now) c.args.below c.args.levels.now c.in-len1-up.len_at_least c.requires.levels,
-    places_below c.args.code.now (length c.args.env.now) c.args.below c.args.levels.now c.in-len1-up.len_at_least c.requires.levels c.requires.falls,
+    c.requires.env,
+    (
+      places_at c.args.code.now (length c.args.env.now) c.args.below c.args.levels.now c.in-len1-up.len_at_least c.requires.levels,
+      places_below c.args.code.now (length c.args.env.now) c.args.below c.args.levels.now c.in-len1-up.len_at_least c.requires.levels c.requires.falls,
+    ),
   ),
 )
 
@@ -115,7 +132,7 @@ lay_places-run_body-requires t c =
     let at = c.level_at-level.ensures in
     let body = place_body c.args.code.now c.args.site c.args.below c.args.env.now c.args.made.now c.loop-place.made c.args.from c.loop-place.k c.loop-place.env places (drop i places) (drop (i + 1) places) n (drop_number places i c.loop-place-test.true) c.loop-place.invariant
     c.level_at-level.result.now at.there (at.kept.levels n c.level_at-level.result.now at.there) c.in-Some.body c.in-Some.is in
-    (omega (arith, body.1), body.0)
+    (omega (arith, body.1), (body.0, subst (Each IsPlain) (sym c.loop-place.invariant.same) c.requires.env))
 
 pub lay_places-loop-place-preserved : goal.lay_places-loop-place-preserved
 lay_places-loop-place-preserved t c =

@@ -1,9 +1,7 @@
 use Rattle.std.proofs.Common.{◌≡◌, Bool, sym, ap, subst, ◌∙◌}
-use Rattle.chem_model.specs.declared.event.Event.TheVariants as event
-use Rattle.site_solution.specs.Possible.{Foretells}
 use Rattle.site_solution.specs.inside.InTree.{request_stands}
 use Rattle.site_solution.proofs.Together.{in_tree_parts, asked_there, request_passes}
-use Rattle.migration.specs.Moves.{is_ready, can_go}
+use Rattle.migration.specs.Moves.{is_ready, can_go, ForetellsMove}
 use Rattle.migration.proofs.Goes.{move_foretold}
 use Rattle.migration.proofs.ready.move_ready.Goals as goal
 
@@ -17,5 +15,5 @@ is_ready-requires-clause-names c =
 
 pub returns-in-Some-clause-possible : goal.returns-in-Some-clause-possible
 returns-in-Some-clause-possible c = λ rules_of.
-    let exact : can_go c.args.tree.now c.args.atom.now c.args.site.now ≡ c.is_ready.result = ap (is_ready c.args.tree.now) (sym c.in-Some.ensures) ∙ sym c.is_ready.ensures in
-    subst (λ (b : Bool). Foretells rules_of c.args.tree.now c.args.site.now c.args.atom.now (event.Move c.args.atom.now) b) exact (move_foretold rules_of c.args.tree.now c.args.site.now c.args.atom.now)
+    let exact : can_go c.args.version c.args.tree.now c.args.atom.now c.args.site.now ≡ c.is_ready.result = ap (is_ready c.args.version c.args.tree.now) (sym c.in-Some.ensures) ∙ sym c.is_ready.ensures in
+    subst (λ (b : Bool). ForetellsMove rules_of c.args.version c.args.tree.now c.args.site.now c.args.atom.now b) exact (move_foretold rules_of c.args.tree.now c.args.site.now c.args.atom.now c.args.version)

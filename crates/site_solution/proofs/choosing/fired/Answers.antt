@@ -1,7 +1,6 @@
-use Rattle.std.proofs.Common.{◌≡◌, ℕ, true, Some, List, length, refl, sym, ap, ◌∙◌, subst, arith, rules}
+use Rattle.std.proofs.Common.{◌≡◌, true, Some, length, sym, ap, ◌∙◌, subst, arith, rules}
 use Rattle.std.specs.Prelude.{slice_get}
 use Rattle.std.proofs.lemmas.Option.{slice_get_within}
-use Rattle.wire_packet.specs.MessageFacts.{MessageParts}
 use Rattle.env_store.specs.declared.code.Guard.{Guard}
 use Rattle.loc_tree.specs.Tree.{is_alive}
 use Rattle.queue_cells.specs.Grouped.{lists_at, AllHeld}

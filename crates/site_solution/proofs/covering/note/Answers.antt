@@ -1,10 +1,10 @@
-use Rattle.site_solution.proofs.Noting.{others-next, noted-none, noted-more, noted-all}
+use Rattle.site_solution.proofs.Noting.{others-next, noted-more, noted-all}
 use Rattle.site_solution.proofs.covering.note.Goals as goal
 use Rattle.std.proofs.lemmas.Option.{slice_get_read}
-use Rattle.std.proofs.Common.{refl, ◌≡◌, ◌+◌, ◌∷◌, Some, length, sym, ap, subst, ◌∙◌, arith, rules}
+use Rattle.std.proofs.Common.{refl, ◌≡◌, ◌+◌, Some, length, sym, ap, subst, ◌∙◌, arith, rules}
 use Rattle.std.specs.Prelude.{slice_get}
 use Rattle.queue_cells.specs.Grouped.{lists_at}
-use Rattle.site_solution.specs.inside.Covered.{IsNoted, KeepsAllBut, key_at}
+use Rattle.site_solution.specs.inside.Covered.{IsNoted, KeepsAllBut}
 
 pub loop-place-preserved : goal.loop-place-preserved
 loop-place-preserved c =

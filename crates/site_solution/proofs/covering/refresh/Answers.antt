@@ -1,9 +1,9 @@
-use Rattle.std.proofs.Common.{◌≡◌, true, false, Some, sym, ap, subst, ◌∙◌, arith, length, refl}
+use Rattle.std.proofs.Common.{◌≡◌, Some, subst, arith, length, refl}
 use Rattle.std.specs.Prelude.{slice_get}
 use Rattle.std.proofs.lemmas.Option.{slice_get_read}
 use Rattle.net_laws.specs.Site.{Group}
 use Rattle.site_solution.specs.inside.Index.{groups_of}
-use Rattle.site_solution.specs.inside.Covered.{Levels, AreIndexed, IsIndexed}
+use Rattle.site_solution.specs.inside.Covered.{Levels, IsIndexed}
 use Rattle.site_solution.proofs.Queueing.{groups-many}
 use Rattle.site_solution.proofs.Noting.{all-but, refreshed, not-both}
 use Rattle.site_solution.proofs.covering.refresh.Goals as goal

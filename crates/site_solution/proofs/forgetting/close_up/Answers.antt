@@ -1,15 +1,16 @@
-use Rattle.std.proofs.Common.{◌≡◌, ◌≤◌, ◌<◌, ◌+◌, ◌∙◌, true, false, length, get_or, sym, ap, arith}
+use Rattle.std.proofs.Common.{◌<◌, ◌∙◌, length, get_or, sym, ap, arith}
 use Rattle.std.proofs.lemmas.List.{get_or_default, length-set}
 use Rattle.chem_model.specs.Solution.{same_loc}
+use Rattle.site_solution.specs.declared.told.Told.TheInside.{Inside}
 use Rattle.net_laws.specs.Site.{Told}
-use Rattle.site_solution.proofs.Left.{closed-gone, closed-kept, closed-all}
+use Rattle.site_solution.proofs.Left.{closed-gone, closed-kept}
 use Rattle.site_solution.proofs.forgetting.close_up.Goals.{then-not-same_loc, else-not-same_loc}
 use Rattle.site_solution.proofs.forgetting.close_up.Goals as goal
 
 pub loop-group-preserved : goal.loop-group-preserved
 loop-group-preserved c =
     let i = c.loop-group.invariant in
-    let place = ap (λ (d : Told). same_loc c.args.loc d.inst.loc) (sym c.behind-groups.view_is) ∙ sym c.same_loc.ensures in
+    let place = ap (λ (d : Told). same_loc c.args.loc d.inst.loc) (sym c.behind-groups.view_is) ∙ ap (λ (d : Inside). same_loc c.args.loc d.inst.loc) (sym c.told-in-loop-group.view_is) ∙ sym c.same_loc.ensures in
     let within : c.loop-group.group < length c.loop-group.serials.items = omega (arith, i.many, c.loop-group-test.true, c.len-group-end.ensures) in
     elim c.if-not-same_loc.branch [
       | then-not-same_loc w ↦ rw (w.serials-is, w.kept-is) (record {

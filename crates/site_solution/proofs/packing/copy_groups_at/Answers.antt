@@ -1,6 +1,6 @@
-use Rattle.std.proofs.Common.{◌≡◌, ◌≤◌, ◌+◌, ◌∙◌, ◌∷◌, ◌++◌, [], cond, length, drop, ap, arith}
+use Rattle.std.proofs.Common.{◌≤◌, ◌+◌, ◌∙◌, ◌∷◌, ◌++◌, [], cond, length, drop, ap, arith}
 use Rattle.chem_model.specs.Solution.{same_loc}
-use Rattle.wire_packet.specs.declared.packet.GroupInst.{GroupInst}
+use Rattle.wire_packet.specs.GroupFacts.{GroupParts}
 use Rattle.net_laws.specs.Site.{Told, told_in}
 use Rattle.net_laws.specs.Parcels.{groups_at, insts_in}
 use Rattle.site_solution.specs.inside.Index.{groups_of}
@@ -13,7 +13,7 @@ pub loop-group-preserved : goal.loop-group-preserved
 loop-group-preserved c =
     let gs = groups_of c.args.groups.now.groups in
     let inst = ap (λ (d : Told). d.inst) c.behind-groups.view_is in
-    let more = c.in_ok-copy_group.ensures.is ∙ ap (λ (i : GroupInst). c.loop-group.members ++ cond (same_loc c.args.loc i.loc) (i ∷ []) []) inst in
+    let more = c.in_ok-copy_group.ensures.is ∙ ap (λ (i : GroupParts). c.loop-group.members ++ cond (same_loc c.args.loc i.loc) (i ∷ []) []) inst in
     let at = group-at c.args.groups.now.groups c.loop-group.group _ c.told.ensures in
     record {
       is = stepped c.loop-group.members c.copy_group.new.members (cond (same_loc c.args.loc c.told.result.now.inst.loc) (c.told.result.now.inst ∷ []) []) (insts_in (told_in (groups_at c.args.loc (drop (c.loop-group.group + 1) gs)))) (insts_in (told_in (groups_at c.args.loc (drop c.loop-group.group gs)))) (insts_in (told_in (groups_at c.args.loc gs))) more (insts-next c.args.loc gs c.loop-group.group _ at) c.loop-group.invariant.is;

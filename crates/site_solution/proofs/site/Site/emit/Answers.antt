@@ -15,16 +15,13 @@ use Rattle.net_laws.specs.Posting.{pour_here}
 use Rattle.code_run.specs.declared.made.Run.{Run}
 use Rattle.code_run.specs.RunFacts.{HasRunFacts}
 use Rattle.code_run.specs.Posts.{run_of, all_posted}
-use Rattle.net_laws.specs.Meeting.{sent_here}
-use Rattle.site_solution.specs.declared.effects.Effects.{Effects}
 use Rattle.site_solution.specs.Answers.{Answers}
 use Rattle.site_solution.specs.Commit.{CanLeave}
 use Rattle.site_solution.specs.Held.{taken_at}
-use Rattle.site_solution.specs.inside.Leave.{IsLeft}
 use Rattle.site_solution.specs.inside.New.{told_of_new, IsNewGroup}
 use Rattle.site_solution.proofs.Leaves.{run-leaves}
 use Rattle.site_solution.proofs.Poured.{no_code, emitted-keeps}
-use Rattle.site_solution.proofs.Answering.{sent-answers}
+use Rattle.site_solution.proofs.Answering.{ok-more, sent-answers}
 use Rattle.site_solution.proofs.site.Site.emit.Goals as goal
 
 pub leave-requires-clause-new : goal.leave-requires-clause-new
@@ -40,19 +37,17 @@ leave-requires-clause-can c =
     let told : all_told (told_by no_code) r.groups ≡ told_of_new c.new.result.items = ap (all_told (told_by no_code)) empty ∙ sym (ap told_of_new c.new.ensures.items) in
     subst (λ (ds : List Told). CanLeave r.births ds (all_posted r.posts) s) told can
 
-pub returns-in-Ok-clause-ok : goal.returns-in-Ok-clause-ok
-returns-in-Ok-clause-ok c =
+pub returns-clause-ok : goal.returns-clause-ok
+returns-clause-ok c =
     let s = c.args.self.now in
     let r = c.in_ok-made.made in
     let a : Made = pour c.args.counts.now s.number (root_of s.number) [] c.args.loc.now s.made (Msg (Known c.args.on) (all_known c.args.args)) in
     let is : r ≡ run_of (atom_ran a) = c.in_ok-made.ensures.run ∙ ap (λ (i : ℕ). run_of (atom_ran (pour c.args.counts.now i (root_of i) [] c.args.loc.now c.made.result (Msg (Known c.args.on) (all_known c.args.args))))) c.number.ensures ∙ ap (λ (k : ℕ). run_of (atom_ran (pour c.args.counts.now s.number (root_of s.number) [] c.args.loc.now k (Msg (Known c.args.on) (all_known c.args.args))))) c.made.ensures in
-    let left : IsLeft (pour_here c.args.tree.now r.next r.births [] (all_posted r.posts) (taken_at 0 [] s)) c.leave.new.self c.in-Ok.sends = subst (λ (ds : List Told). IsLeft (pour_here c.args.tree.now r.next r.births ds (all_posted r.posts) (taken_at 0 [] s)) c.leave.new.self c.in-Ok.sends) (ap told_of_new c.new.ensures.items) c.in-Ok.ensures.ok in
-    subst (λ (e : Effects). Answers (sent_here c.args.tree.now a s) a.outs [] c.leave.new.self e) (sym c.effects.ensures) (sent-answers c.args.tree.now s c.leave.new.self a r c.in-Ok.sends is left)
+    ok-more c.leave.result _ _ (λ e left. sent-answers c.args.tree.now s c.leave.new.self a r e is (subst (λ (ds : List Told). Answers (pour_here c.args.tree.now r.next r.births ds (all_posted r.posts) (taken_at 0 [] s)) r.outs r.births c.leave.new.self e) (ap told_of_new c.new.ensures.items) left)) c.leave.ensures.ok
 
-pub returns-in-Ok-clause-keeps : goal.returns-in-Ok-clause-keeps
-returns-in-Ok-clause-keeps c =
+pub returns-clause-keeps : goal.returns-clause-keeps
+returns-clause-keeps c =
     let s = c.args.self.now in
     let r = c.in_ok-made.made in
     let facts : (d : CodeParts) → HasRunFacts d s.number c.args.loc.now (c.args.on ∷ c.args.args) s.made r = λ d. subst (λ (i : ℕ). HasRunFacts d i c.args.loc.now (c.args.on ∷ c.args.args) s.made r) c.number.ensures (subst (λ (k : ℕ). HasRunFacts d c.number.result c.args.loc.now (c.args.on ∷ c.args.args) k r) c.made.ensures (c.in_ok-made.ensures.facts d)) in
-    let left : IsLeft (pour_here c.args.tree.now r.next r.births [] (all_posted r.posts) (taken_at 0 [] s)) c.leave.new.self c.in-Ok.sends = subst (λ (ds : List Told). IsLeft (pour_here c.args.tree.now r.next r.births ds (all_posted r.posts) (taken_at 0 [] s)) c.leave.new.self c.in-Ok.sends) (ap told_of_new c.new.ensures.items) c.in-Ok.ensures.ok in
-    emitted-keeps c.args.tree.now s c.leave.new.self c.args.loc.now c.args.on c.args.args r facts (ap (λ (x : Run). x.births) c.in_ok-made.ensures.run) (ap (λ (x : Run). x.groups) c.in_ok-made.ensures.run) c.requires.here c.site_is_kept.ensures.kept c.site_is_kept.ensures.once c.requires.can left.site
+    ok-more c.leave.result _ _ (λ e left. emitted-keeps c.args.tree.now s c.leave.new.self c.args.loc.now c.args.on c.args.args r facts (ap (λ (x : Run). x.births) c.in_ok-made.ensures.run) (ap (λ (x : Run). x.groups) c.in_ok-made.ensures.run) c.requires.here c.site_is_kept.ensures.kept c.site_is_kept.ensures.once c.requires.can (subst (λ (ds : List Told). Answers (pour_here c.args.tree.now r.next r.births ds (all_posted r.posts) (taken_at 0 [] s)) r.outs r.births c.leave.new.self e) (ap told_of_new c.new.ensures.items) left).site) c.leave.ensures.ok

@@ -1,11 +1,7 @@
 use Rattle.std.proofs.Common.{◌∷◌, ◌++◌, [], sym, subst, ◌∙◌, ap}
 use Rattle.chem_model.specs.declared.numbered.Made.{Made}
 use Rattle.code_run.specs.declared.made.Run.{Run}
-use Rattle.net_laws.specs.ByCode.{told_by}
-use Rattle.net_laws.specs.Parcels.{load_of, take_in}
-use Rattle.net_laws.specs.Meeting.{continuation_made, sent_here}
-use Rattle.site_solution.specs.declared.effects.Effects.{Effects}
-use Rattle.site_solution.specs.Answers.{Answers}
+use Rattle.net_laws.specs.Moves.{continuation_made}
 use Rattle.site_solution.specs.Held.{taken_at}
 use Rattle.site_solution.specs.inside.More.{CanAdd, added}
 use Rattle.site_solution.specs.inside.Carried.{IsContinued}
@@ -16,20 +12,20 @@ use Rattle.site_solution.proofs.site.Site.receive.Goals as goal
 pub take_in_beside-requires-clause-posts : goal.take_in_beside-requires-clause-posts
 take_in_beside-requires-clause-posts c =
     let a : Made = continuation_made c.args.counts.now c.args.self.now.number c.args.loc.now c.args.self.now.made c.args.cont in
-    subst (IsContinued c.args.self.now.number c.args.self.now.made) (sym (run-posted a c.in_ok-made.made c.in_ok-made.ensures)) (continued c.args.counts.now c.args.self.now.number c.args.loc.now c.args.self.now.made c.args.cont)
+    subst (IsContinued c.args.self.now.number c.args.self.now.made) (sym (run-posted a c.in_ok-next.field-0 c.in_ok-next.ensures)) (continued c.args.counts.now c.args.self.now.number c.args.loc.now c.args.self.now.made c.args.cont)
 
-pub returns-in-Ok-clause-ok : goal.returns-in-Ok-clause-ok
-returns-in-Ok-clause-ok c =
+pub returns-clause-ok : goal.returns-clause-ok
+returns-clause-ok c =
     let a : Made = continuation_made c.args.counts.now c.args.self.now.number c.args.loc.now c.args.self.now.made c.args.cont in
-    let run = c.in_ok-made.ensures in
-    let taken = taken-run c.args.tree.now c.args.code.now c.args.parcel.now a c.in_ok-made.made c.args.self.now c.take_in_beside.new.self c.in-Ok.sends run c.in-Ok.ensures.ok in
-    let left = received-is c.args.tree.now c.args.code.now c.args.parcel.now a taken.arrive.before taken.more c.args.self.now c.take_in_beside.new.self c.in-Ok.sends taken.arrive.carried taken.arrive.beside taken.is taken.sends in
-    subst (λ (e : Effects). Answers (sent_here c.args.tree.now a (take_in (load_of (told_by c.args.code.now) c.args.parcel.now) c.args.self.now)) a.outs [] c.take_in_beside.new.self e) (sym c.effects.ensures) (record { site = left.site; sends = left.sends; outs = ap (λ (r : Run). r.outs) run; births = ap (λ (r : Run). r.births) run })
+    let run = c.in_ok-next.ensures in
+    let taken = taken-run c.args.tree.now c.args.code.now c.args.parcel.now a c.in_ok-next.field-0 c.args.self.now c.take_in_beside.new.self c.in_ok-sends.sends run c.in_ok-sends.ensures.ok in
+    let left = received-is c.args.tree.now c.args.code.now c.args.parcel.now a taken.arrive.before taken.more c.args.self.now c.take_in_beside.new.self c.in_ok-sends.sends taken.arrive.carried taken.arrive.beside taken.is taken.sends in
+    record { site = left.site; sends = left.sends; outs = ap (λ (r : Run). r.outs) run; births = ap (λ (r : Run). r.births) run }
 
-pub returns-in-Ok-clause-keeps : goal.returns-in-Ok-clause-keeps
-returns-in-Ok-clause-keeps c =
+pub returns-clause-keeps : goal.returns-clause-keeps
+returns-clause-keeps c =
     let a : Made = continuation_made c.args.counts.now c.args.self.now.number c.args.loc.now c.args.self.now.made c.args.cont in
-    let taken = taken-run c.args.tree.now c.args.code.now c.args.parcel.now a c.in_ok-made.made c.args.self.now c.take_in_beside.new.self c.in-Ok.sends c.in_ok-made.ensures c.in-Ok.ensures.ok in
+    let taken = taken-run c.args.tree.now c.args.code.now c.args.parcel.now a c.in_ok-next.field-0 c.args.self.now c.take_in_beside.new.self c.in_ok-sends.sends c.in_ok-next.ensures c.in_ok-sends.ensures.ok in
     let can = subst (λ l. CanAdd (l ∷ []) taken.more c.args.self.now) c.requires.loc taken.can in
     let was = taken.is ∙ ap (λ l. added (l ∷ []) taken.more (taken_at 0 [] c.args.self.now)) c.requires.loc in
     received_fits c.args.code.now c.args.parcel.now c.args.loc.now c.args.counts.now c.args.cont taken.arrive.before taken.more c.args.self.now c.take_in_beside.new.self (c.args.self.now.locs ++ c.args.parcel.now.loc ∷ []) c.requires.loc can c.site_is_kept.ensures.kept was taken.arrive.carried taken.arrive.beside

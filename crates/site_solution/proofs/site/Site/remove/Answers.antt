@@ -1,4 +1,4 @@
-use Rattle.std.proofs.Common.{◌≡◌, ◌<◌, ◌^◌, ◌∙◌, List, length, ap, sym, subst, arith}
+use Rattle.std.proofs.Common.{◌<◌, ◌^◌, ◌∙◌, List, length, ap, sym, subst, arith}
 use Rattle.net_laws.specs.Site.{Group, Site}
 use Rattle.net_laws.specs.Parcels.{remove}
 use Rattle.site_solution.specs.inside.Index.{groups_of}
