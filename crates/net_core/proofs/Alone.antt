@@ -128,8 +128,8 @@ puts_here c t i events s new p mail h fits b =
     let there : among s.locs home ≡ true = ap (among s.locs) (sym f.home) ∙ b.0 in
     let is : new ≡ put home p.msg s = b.1 ∙ ap (λ (l : Loc). put l p.msg s) f.home in
     let others = without_packet f.place net.packets in
-    let after : Net = record { seen = net.seen; sites = slice_set net.sites p.target (put home p.msg s); tree = net.tree; trace = net.trace; packets = others } in
-    let on : Net = record { seen = net.seen; sites = net.sites; tree = net.tree; trace = net.trace; packets = others ++ record { target = address net.tree home; msg = p.msg } ∷ [] } in
+    let after : Net = record { version = net.version; seen = net.seen; sites = slice_set net.sites p.target (put home p.msg s); tree = net.tree; trace = net.trace; packets = others } in
+    let on : Net = record { version = net.version; seen = net.seen; sites = net.sites; tree = net.tree; trace = net.trace; packets = others ++ record { target = address net.tree home; msg = p.msg } ∷ [] } in
     let made : Delivers net f.place after = record { packet = p; site = s; packet_is = f.at; site_is = f.here; new_is = ap (λ (u : Bool). cond u after on) (sym there) } in
     let fits_new : Fits c net.tree (put home p.msg s) = subst (Fits c net.tree) is (fits_in c t net.tree new f.tree fits) in
     let running = running_on c net after None events f.running (does.deliver f.place after made) (all_fit_set c net.tree net.sites p.target (put home p.msg s) f.running.fit fits_new) (set_length net.sites p.target (put home p.msg s)) in
@@ -152,8 +152,8 @@ goes_from c t i events s new p mail target h b =
     let away : among s.locs home ≡ false = ap (among s.locs) (sym f.home) ∙ b.0 in
     let others = without_packet f.place net.packets in
     let more : List Addressed = record { target = address net.tree home; msg = p.msg } ∷ [] in
-    let after : Net = record { seen = net.seen; sites = slice_set net.sites p.target (put home p.msg s); tree = net.tree; trace = net.trace; packets = others } in
-    let on : Net = record { seen = net.seen; sites = net.sites; tree = net.tree; trace = net.trace; packets = others ++ more } in
+    let after : Net = record { version = net.version; seen = net.seen; sites = slice_set net.sites p.target (put home p.msg s); tree = net.tree; trace = net.trace; packets = others } in
+    let on : Net = record { version = net.version; seen = net.seen; sites = net.sites; tree = net.tree; trace = net.trace; packets = others ++ more } in
     let made : Delivers net f.place on = record { packet = p; site = s; packet_is = f.at; site_is = f.here; new_is = ap (λ (u : Bool). cond u after on) (sym away) } in
     let running = running_on c net on None events f.running (does.deliver f.place on made) f.running.fit refl in
     let none : events + 0 ≡ events = omega arith in
@@ -186,6 +186,8 @@ module _ (t : Tree) (s new : Site) (f : Flight) where
   one_put : (n : Name) → m.on ≡ n → is_channel n ≡ true → IsBroughtTo t s m None new → WorksOff (bare t) s (carried f ∷ []) [] new
   one_put (name.Seen j) e is b = cc
   one_put (name.Place a) e is b = cc
+  one_put (name.Num n) e is b = cc
+  one_put (name.Op i) e is b = cc
   one_put (name.Chan site k home) e is b =
       let home_is : home_at s m ≡ home = ap (home_or (root_of s.number)) e in
       let there : among s.locs home ≡ true = ap (among s.locs) (sym home_is) ∙ b.0 in
@@ -195,6 +197,8 @@ module _ (t : Tree) (s new : Site) (f : Flight) where
   one_on : (target : ℕ) (n : Name) → m.on ≡ n → is_channel n ≡ true → IsBroughtTo t s m (Some target) new → WorksOff (bare t) s (carried f ∷ []) (record { target = target; msg = m } ∷ []) new
   one_on target (name.Seen j) e is b = cc
   one_on target (name.Place a) e is b = cc
+  one_on target (name.Num n) e is b = cc
+  one_on target (name.Op i) e is b = cc
   one_on target (name.Chan site k home) e is b =
       let home_is : home_at s m ≡ home = ap (home_or (root_of s.number)) e in
       let away : among s.locs home ≡ false = ap (among s.locs) (sym home_is) ∙ b.0 in

@@ -66,11 +66,11 @@ both_set_back xs front back i j value x y far h long = both_set xs front back j 
 pub record MayMove (c : CodeParts) (t : Tree) (a : AtomId) (x y : Site) : Type 0 where
   pub from : Fits c t x
   pub into : Fits c t y
-  pub can : can_go t a x ≡ true
+  pub can : can_go 2 t a x ≡ true
   pub hosted : leads_into a x y ≡ true
   pub joins : can_join a x y ≡ true
 
-module _ (c : CodeParts) (t : Tree) (sites : List Site) (i j : ℕ) (a : AtomId) (may : MayCrossAt t sites i j a) (fit : AllFit c t sites) (front back : List Site) (value : sites ≡ front ++ back) (d e : Site) where
+module _ (c : CodeParts) (t : Tree) (sites : List Site) (i j : ℕ) (a : AtomId) (may : MayCrossAt 2 t sites i j a) (fit : AllFit c t sites) (front back : List Site) (value : sites ≡ front ++ back) (d e : Site) where
   may_move : (x y : Site) → x ≡ may.from → y ≡ may.into → MayMove c t a x y
   may_move x y x_is y_is =
       subst (λ (s : Site). MayMove c t a s y) (sym x_is)
@@ -85,7 +85,7 @@ module _ (c : CodeParts) (t : Tree) (sites : List Site) (i j : ℕ) (a : AtomId)
 
 -- ---- the move
 
-module _ {E : Type 0} (t u : Tree) (sites : List Site) (i j : ℕ) (a : AtomId) (may : MayCrossAt t sites i j a) (old_from old_into left after : Site) (from_is : old_from ≡ may.from) (into_is : old_into ≡ may.into) (new : List Site) (new_is : new ≡ slice_set (slice_set sites i left) j after) (r : Result Effects E) where
+module _ {E : Type 0} (t u : Tree) (sites : List Site) (i j : ℕ) (a : AtomId) (may : MayCrossAt 2 t sites i j a) (old_from old_into left after : Site) (from_is : old_from ≡ may.from) (into_is : old_into ≡ may.into) (new : List Site) (new_is : new ≡ slice_set (slice_set sites i left) j after) (r : Result Effects E) where
   pub cross_ok : (seen : List ℕ) → IfOk r (λ e. IsMoveBetween seen a t old_from old_into u left after e)
       → IfOk r (λ e. (s v : Site) → slice_get sites i ≡ Some s → slice_get sites j ≡ Some v → CrossesAt seen t u i j a s v sites new e)
   cross_ok seen moves = go r moves

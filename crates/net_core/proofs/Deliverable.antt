@@ -15,15 +15,15 @@ use Rattle.chem_model.specs.Bag.{bag}
 use Rattle.chem_model.specs.Each.{Each}
 use Rattle.chem_model.specs.Opening.{root_of}
 use Rattle.chem_model.specs.Reduction.{all_known}
+use Rattle.chem_model.specs.Scope.{Position, names_message}
 use Rattle.chem_model.specs.Solution.{is_there}
 use Rattle.chem_model.specs.Numbered.{standing}
-use Rattle.chem_model.specs.Sound.{IsNameOf, IsKnown, IsAtom}
+use Rattle.chem_model.specs.Sound.{IsNameOf, MayStand, IsKnown, IsAtom}
 use Rattle.chem_laws.proofs.Bags.{one_self}
 use Rattle.chem_laws.proofs.Taking.{same_atom_is, atom_found}
 use Rattle.wire_packet.specs.MessageFacts.{MessageParts}
-use Rattle.wire_packet.specs.declared.packet.GroupInst.{GroupInst}
+use Rattle.wire_packet.specs.GroupFacts.{GroupParts, RequestParts}
 use Rattle.wire_packet.specs.declared.packet.Waiting.{Waiting}
-use Rattle.wire_packet.specs.declared.packet.Request.{Request}
 use Rattle.loc_tree.specs.declared.tree.Spot.{Spot}
 use Rattle.loc_tree.specs.Tree.{spot, is_root}
 use Rattle.loc_tree.specs.Places.{standing_in}
@@ -97,7 +97,7 @@ stuck_held_as i (w ∷ ws) e =
     more : IsHeld i (waiting_atoms ws) → IsHeld i (waiting_atoms (w ∷ ws))
     more h = (h.0, h.1, omega (arith, h.2))
 
-requests_held_as : (i : AtomId) (qs : List Request) → is_some (request_with i qs) ≡ true → IsHeld i (request_atoms qs)
+requests_held_as : (i : AtomId) (qs : List RequestParts) → is_some (request_with i qs) ≡ true → IsHeld i (request_atoms qs)
 requests_held_as i [] e = cc
 requests_held_as i (q ∷ qs) e = go (same_atom q.id i) refl e (λ f. more (requests_held_as i qs f))
   where
@@ -129,7 +129,7 @@ held_as i s e =
 
 -- ---- what names are there
 
-module _ (rules_of : GroupInst → List NumberedRule) (net : Net) (n : Numbered) (stands : Stands rules_of net n) where
+module _ (rules_of : GroupParts → List NumberedRule) (net : Net) (n : Numbered) (stands : Stands rules_of net n) where
   there_in : (l : Loc) → is_there (standing n.places l) ≡ true → in_tree net.tree l ≡ true
   there_in l h = go (spot net.tree l) refl (ap is_there (sym (stands.agrees.tree.same l)) ∙ h)
     where
@@ -140,7 +140,16 @@ module _ (rules_of : GroupInst → List NumberedRule) (net : Net) (n : Numbered)
   name_there : (x : Name) → IsNameOf n x → name_in (in_tree net.tree) x ≡ true
   name_there (name.Seen i) h = refl
   name_there (name.Place a) h = there_in a h
+  name_there (name.Num m) h = refl
+  name_there (name.Op i) h = refl
   name_there (name.Chan s k l) h = there_in l h.1
+
+  on_there : (q : Position) (x : Name) → MayStand (IsNameOf n) q x → name_in (in_tree net.tree) x ≡ true
+  on_there q (name.Seen i) h = refl
+  on_there q (name.Place a) h = there_in a h
+  on_there q (name.Chan s k l) h = there_in l h.1
+  on_there q (name.Num m) h = refl
+  on_there q (name.Op i) h = refl
 
   names_there : (ns : List Name) → Each (IsKnown (IsNameOf n)) (all_known ns) → names_in (in_tree net.tree) ns ≡ true
   names_there [] h = refl
@@ -162,7 +171,7 @@ module _ (rules_of : GroupInst → List NumberedRule) (net : Net) (n : Numbered)
     is_atom = atom_found (IsAtom n) n.atoms flying.id flying (atom_in n.atoms flying (atoms_differ n stands.sound) held) stands.sound.atoms
 
     message_there : message_stands net.tree p.msg ≡ true
-    message_there = and_from (name_in (in_tree net.tree) p.msg.on) (names_in (in_tree net.tree) p.msg.args) (name_there p.msg.on is_atom.1.0) (names_there p.msg.args is_atom.1.1)
+    message_there = and_from (name_in (in_tree net.tree) p.msg.on) (names_in (in_tree net.tree) p.msg.args) (on_there (names_message (length (all_known p.msg.args))) p.msg.on is_atom.1.0) (names_there p.msg.args is_atom.1.1)
 
     is_new : has_atom p.msg.id s ≡ false
     is_new = go (has_atom p.msg.id s) refl
@@ -196,4 +205,6 @@ module _ (rules_of : GroupInst → List NumberedRule) (net : Net) (n : Numbered)
         channel : (x : Name) → IsChannel x → is_channel x ≡ true
         channel (name.Seen i) h = absurd h
         channel (name.Place a) h = absurd h
+        channel (name.Num m) h = absurd h
+        channel (name.Op i) h = absurd h
         channel (name.Chan t k l) h = refl

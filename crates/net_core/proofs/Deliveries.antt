@@ -34,8 +34,8 @@ use Rattle.net_core.proofs.Members.{without_length}
 use Rattle.net_core.proofs.Stepping.{running_on}
 
 -- networks of equal fields
-pub same_net : (a b : Net) → a.seen ≡ b.seen → a.sites ≡ b.sites → a.tree ≡ b.tree → a.trace ≡ b.trace → a.packets ≡ b.packets → a ≡ b
-same_net a b seen sites tree trace packets = λ i. record { seen = seen i; sites = sites i; tree = tree i; trace = trace i; packets = packets i }
+pub same_net : (a b : Net) → a.version ≡ b.version → a.seen ≡ b.seen → a.sites ≡ b.sites → a.tree ≡ b.tree → a.trace ≡ b.trace → a.packets ≡ b.packets → a ≡ b
+same_net a b version seen sites tree trace packets = λ i. record { version = version i; seen = seen i; sites = sites i; tree = tree i; trace = trace i; packets = packets i }
 
 pub set_length : {X : Type 0} (xs : List X) (i : ℕ) (x : X) → length (slice_set xs i x) ≡ length xs
 set_length [] i x = refl
@@ -50,7 +50,7 @@ below_some (y ∷ xs) (suc i) x e = omega (arith, below_some xs i x e)
 -- ---- nothing changed
 
 pub as_before_net : (seen : List ℕ) (old new : Parts) → AreAsBefore old new → net_of seen new ≡ net_of seen old
-as_before_net seen old new h = same_net (net_of seen new) (net_of seen old) refl h.sites h.tree (ap joined h.trace) (ap (λ fs. all_carried (joined fs)) h.flights)
+as_before_net seen old new h = same_net (net_of seen new) (net_of seen old) h.version refl h.sites h.tree (ap joined h.trace) (ap (λ fs. all_carried (joined fs)) h.flights)
 
 pub as_before_flying : (old new : Parts) → AreAsBefore old new → AreFlying old → AreFlying new
 as_before_flying old new h flying = record {
@@ -120,7 +120,7 @@ goes_few f more (Some target) g = omega (arith, ap length g)
 module _ (c : CodeParts) (old new : Parts) (events f : ℕ) (flight : Flight) (on : Option ℕ) (more : List Flight) (s : Site) (h : IsWhole c old events)
     (at : slice_get (joined old.flights.items) f ≡ Some flight) (here : slice_get old.sites.items flight.target ≡ Some s)
     (brought : IsBrought old.tree flight.target s (message_in flight.bytes) on old.sites.items new.sites.items) (goes : GoesOn flight on more)
-    (tree : new.tree ≡ old.tree) (trace : new.trace.items ≡ old.trace.items) (flights : joined new.flights.items ≡ without f (joined old.flights.items) ++ more) where
+    (version : new.version ≡ old.version) (tree : new.tree ≡ old.tree) (trace : new.trace.items ≡ old.trace.items) (flights : joined new.flights.items ≡ without f (joined old.flights.items) ++ more) where
   abbrev msg : MessageParts
   msg = message_in flight.bytes
 
@@ -145,7 +145,7 @@ module _ (c : CodeParts) (old new : Parts) (events f : ℕ) (flight : Flight) (o
       let sites : new.sites.items ≡ slice_set old.sites.items flight.target (put home msg s) = b.1 ∙ ap (λ (l : Loc). slice_set old.sites.items flight.target (put l msg s)) at_home in
       let put_net : Net = record (net_of seen old) { sites = slice_set old.sites.items flight.target (put home msg s); packets = others } in
       let on_net : Net = record (net_of seen old) { packets = others ++ record { target = address old.tree home; msg = msg } ∷ [] } in
-      let same = same_net (net_of seen new) put_net refl sites (ap bare tree) (ap joined trace) (packets ∙ ap (λ (fs : List Flight). others ++ all_carried fs) g ∙ append_nil others) in
+      let same = same_net (net_of seen new) put_net version refl sites (ap bare tree) (ap joined trace) (packets ∙ ap (λ (fs : List Flight). others ++ all_carried fs) g ∙ append_nil others) in
       subst (λ (u : Bool). net_of seen new ≡ cond u put_net on_net) (sym there) same
   left seen (Some target) b g =
       let others = without_packet f (all_carried (joined old.flights.items)) in
@@ -154,7 +154,7 @@ module _ (c : CodeParts) (old new : Parts) (events f : ℕ) (flight : Flight) (o
       let put_net : Net = record (net_of seen old) { sites = slice_set old.sites.items flight.target (put home msg s); packets = others } in
       let on_net : Net = record (net_of seen old) { packets = others ++ record { target = address old.tree home; msg = msg } ∷ [] } in
       let last : all_carried more ≡ record { target = address old.tree home; msg = msg } ∷ [] = ap all_carried g ∙ ap (λ (t : ℕ). record { target = t; msg = msg } ∷ []) to in
-      let same = same_net (net_of seen new) on_net refl b.2 (ap bare tree) (ap joined trace) (packets ∙ ap (λ (ps : List Addressed). others ++ ps) last) in
+      let same = same_net (net_of seen new) on_net version refl b.2 (ap bare tree) (ap joined trace) (packets ∙ ap (λ (ps : List Addressed). others ++ ps) last) in
       subst (λ (u : Bool). net_of seen new ≡ cond u put_net on_net) (sym away) same
 
   pub delivers : (seen : List ℕ) → Delivers (net_of seen old) f (net_of seen new)

@@ -82,12 +82,12 @@ may_react c kept p i pick may =
     let f = reacts_fires c (net_of c.seen p) kept i pick may in
     record { site = may.by.site; site_is = may.by.site_is; pick = f.0; fires = fires_full c p.tree may.by.site pick f.0 f.1 }
 
-pub may_meet : (c : CodeParts) (p : Parts) (x : Choice) (a : AtomId) → request_of x ≡ Some a → Allows c (net_of c.seen p) x → (i : ℕ) × IsMet p.sites.items p.tree x i
+pub may_meet : (c : CodeParts) (p : Parts) (x : Choice) (a : AtomId) → request_of x ≡ Some a → Allows c (net_of c.seen p) x → (i : ℕ) × IsMet p.version p.sites.items p.tree x i
 may_meet c p x a asks allowed =
     let net = net_of c.seen p in
     let seen = allowed_seen c net x a asks allowed in
-    let met : meets (bare p.tree) x seen.site ≡ true = ap (λ (y : Choice). meets (bare p.tree) y seen.site) (sym seen.is) ∙ seen.meetable.met in
-    (seen.number, record { site = seen.site; site_is = seen.site_is; met = sym (meets_bare p.tree x seen.site) ∙ met })
+    let met : meets p.version (bare p.tree) x seen.site ≡ true = ap (λ (y : Choice). meets p.version (bare p.tree) y seen.site) (sym seen.is) ∙ seen.meetable.met in
+    (seen.number, record { site = seen.site; site_is = seen.site_is; met = sym (meets_bare p.version p.tree x seen.site) ∙ met })
 
 pub may_deliver : (c : CodeParts) (p : Parts) (f : ℕ) → AreFlying p → MayDeliver (net_of c.seen p) f → f < p.under_way
 may_deliver c p f flying may =

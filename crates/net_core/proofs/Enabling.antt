@@ -17,8 +17,7 @@ use Rattle.chem_model.specs.Reduction.{Quiet}
 use Rattle.chem_laws.proofs.Bags.{one_self, one_is}
 use Rattle.chem_laws.proofs.Lists.{above, true_both}
 use Rattle.chem_laws.proofs.Tied.{stuck_is_quiet}
-use Rattle.wire_packet.specs.declared.packet.GroupInst.{GroupInst}
-use Rattle.wire_packet.specs.declared.packet.Request.{Request}
+use Rattle.wire_packet.specs.GroupFacts.{GroupParts, RequestParts}
 use Rattle.env_store.specs.declared.code.Level.{Level}
 use Rattle.env_store.specs.CodeParts.{CodeParts}
 use Rattle.env_store.specs.CodeFacts.{IsCode}
@@ -51,25 +50,25 @@ found_rule (q ∷ rs) r h =
     ]
 
 -- a request that is found is held
-pub held_request : (qs : List Request) (a : AtomId) (q : Request) → request_with a qs ≡ Some q → 0 < request_atoms qs (request_atom q)
+pub held_request : (qs : List RequestParts) (a : AtomId) (q : RequestParts) → request_with a qs ≡ Some q → 0 < request_atoms qs (request_atom q)
 held_request [] a q e = cc
 held_request (x ∷ qs) a q e = go (same_atom x.id a) (held_request qs a q) e
   where
     go : (u : Bool) → (request_with a qs ≡ Some q → 0 < request_atoms qs (request_atom q)) → cond u (Some x) (request_with a qs) ≡ Some q → 0 < one coded_atom (request_atom x) (request_atom q) + request_atoms qs (request_atom q)
     go true ih f =
         let same : x ≡ q = cc in
-        let here : one coded_atom (request_atom x) (request_atom q) ≡ 1 = ap (λ (y : Request). one coded_atom (request_atom y) (request_atom q)) same ∙ one_self coded_atom (request_atom q) in
+        let here : one coded_atom (request_atom x) (request_atom q) ≡ 1 = ap (λ (y : RequestParts). one coded_atom (request_atom y) (request_atom q)) same ∙ one_self coded_atom (request_atom q) in
         omega arith
     go false ih f = omega (arith, ih f)
 
 -- patterns have one list of channels
-same_channel : (i : GroupInst) (b c : ℕ) (r : Ref) → r ≡ Known (channel_of i b) → r ≡ Known (channel_of i c) → b ≡ c
+same_channel : (i : GroupParts) (b c : ℕ) (r : Ref) → r ≡ Known (channel_of i b) → r ≡ Known (channel_of i c) → b ≡ c
 same_channel i b c r e f =
     let same : Known (channel_of i b) ≡ Known (channel_of i c) = sym e ∙ f in
     let number : i.chans.k + b ≡ i.chans.k + c = cc in
     omega arith
 
-one_list : (i : GroupInst) (counts : List ℕ) (ps : List Pat) (bs cs : List ℕ) → AreChannels i counts ps bs → AreChannels i counts ps cs → bs ≡ cs
+one_list : (i : GroupParts) (counts : List ℕ) (ps : List Pat) (bs cs : List ℕ) → AreChannels i counts ps bs → AreChannels i counts ps cs → bs ≡ cs
 one_list i counts [] [] [] h g = refl
 one_list i counts [] (b ∷ bs) cs h g = absurd h
 one_list i counts [] [] (c ∷ cs) h g = absurd g
@@ -78,7 +77,7 @@ one_list i counts (p ∷ ps) (b ∷ bs) [] h g = absurd g
 one_list i counts (p ∷ ps) (b ∷ bs) (c ∷ cs) h g = λ j. same_channel i b c p.on h.0.0 g.0.0 j ∷ one_list i counts ps bs cs h.1 g.1 j
 
 module _ (p : ProgramTerms) (c : CodeParts) (ok : IsProgram p) (kept : IsCode c) (is : IsCodeOf p c) (net : Net) (n : Numbered) (stands : Stands (rules_of_group p) net n) (runs : RunsCode p c net) where
-  abbrev rules_by : GroupInst → List NumberedRule
+  abbrev rules_by : GroupParts → List NumberedRule
   rules_by = rules_of_group p
 
   of_code : (i j : ℕ) (s : Site) (g : Group) → slice_get net.sites i ≡ Some s → slice_get s.groups j ≡ Some g → IsOfCode p c g.told
@@ -107,7 +106,7 @@ module _ (p : ProgramTerms) (c : CodeParts) (ok : IsProgram p) (kept : IsCode c)
   to_choices (halt a h) = choices.halt h.asks.number h.asks.site h.asks.request h.asks.site_is (held_request h.asks.site.requests a h.asks.request h.asks.request_is) h.is h.alive
   to_choices (detect a h) = choices.detect h.asks.number h.asks.site h.asks.request h.target h.cont h.asks.site_is (held_request h.asks.site.requests a h.asks.request h.asks.request_is) h.is (true_both (is_alive net.tree h.asks.request.loc) (is_dead net.tree h.target) h.alive h.dead)
 
-  abbrev asks_of : (i : ℕ) (s : Site) (q : Request) → slice_get net.sites i ≡ Some s → 0 < request_atoms s.requests (request_atom q) → Asks net q.id
+  abbrev asks_of : (i : ℕ) (s : Site) (q : RequestParts) → slice_get net.sites i ≡ Some s → 0 < request_atoms s.requests (request_atom q) → Asks net q.id
   asks_of i s q here held = record { number = i; site = s; request = q; site_is = here; request_is = request_found rules_by net n stands i s q here held }
 
   -- and what is enabled the code says
@@ -147,7 +146,7 @@ module _ (p : ProgramTerms) (c : CodeParts) (ok : IsProgram p) (kept : IsCode c)
       let both = and_parts (is_alive net.tree q.loc) (is_dead net.tree target) can in
       detect q.id (record { asks = asks_of i s q here held; target = target; cont = cont; is = ask; alive = both.0; dead = both.1 })
 
-  none_is_quiet : (IsEnabled c net → ⊥) ↔ ((net.packets ≡ []) × Quiet n.seen (erase n))
+  none_is_quiet : (IsEnabled c net → ⊥) ↔ ((net.packets ≡ []) × Quiet n.version n.seen (erase n))
   none_is_quiet =
       let none = no_choice_is_quiet rules_by net n stands runs.keeps.kept runs.keeps.coded in
       let quiet = stuck_is_quiet n stands.sound in (

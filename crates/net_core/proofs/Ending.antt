@@ -9,7 +9,7 @@ use Rattle.chem_model.specs.declared.event.Event.{Event}
 use Rattle.chem_model.specs.ProgramFacts.{ProgramTerms, IsProgram}
 use Rattle.chem_model.specs.Each.{Each}
 use Rattle.chem_model.specs.Opening.{root_of}
-use Rattle.wire_packet.specs.declared.packet.Request.{Request}
+use Rattle.wire_packet.specs.GroupFacts.{RequestParts}
 use Rattle.env_store.specs.CodeParts.{CodeParts}
 use Rattle.env_store.specs.CodeFacts.{IsCode}
 use Rattle.env_store.specs.Reading.{IsCodeOf}
@@ -248,7 +248,7 @@ distinct_range : (c : CodeParts) (k n : ℕ) → AreDistinct c (range_with_len k
 distinct_range c k zero = tt
 distinct_range c k (suc n) = (each_above (k + 1) n k (omega arith), distinct_range c (k + 1) n)
 
-each_choice : (P : Choice → Type 0) (qs : List Request) → Each P (choices_for qs) → Each (λ (q : Request). P (choice_by q.ask q.id)) qs
+each_choice : (P : Choice → Type 0) (qs : List RequestParts) → Each P (choices_for qs) → Each (λ (q : RequestParts). P (choice_by q.ask q.id)) qs
 each_choice P [] h = tt
 each_choice P (q ∷ qs) h = (h.0, each_choice P qs h.1)
 
@@ -392,14 +392,14 @@ module _ (p : ProgramTerms) (c : CodeParts) (ok : IsProgram p) (kept : IsCode c)
 
 pub rounds_replay : RoundsReplay
 rounds_replay p c ok kept is budget es end schedule =
-    let does = rounds_do c budget (opened_net c) end es schedule in
+    let does = rounds_do c budget (opened_net p.version c) end es schedule in
     let played = (opened_play p c ok kept is end es does).0 in
     record {
       does = does;
       played = played;
-      within = rounds_within p c ok kept is budget (opened_net c) end es schedule;
+      within = rounds_within p c ok kept is budget (opened_net p.version c) end es schedule;
       ends =
-          elim (rounds_end p c ok kept is budget (opened_net c) end es (opened_fine p c ok kept is) schedule) [
+          elim (rounds_end p c ok kept is budget (opened_net p.version c) end es (opened_fine p c ok kept is) schedule) [
             | inl full ↦ inl full
             | inr none ↦ inr ((none_enabled_is_quiet p c ok kept is end played.after played.stands played.runs).0 (not_enabled p c ok kept is end none))
           ];

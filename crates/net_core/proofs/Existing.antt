@@ -16,15 +16,14 @@ use Rattle.chem_laws.proofs.Taking.{apart, rule_found}
 use Rattle.wire_packet.specs.MessageFacts.{MessageParts}
 use Rattle.wire_packet.specs.declared.packet.Ask.{Ask}
 use Rattle.wire_packet.specs.declared.packet.Ask.TheVariants as request
-use Rattle.wire_packet.specs.declared.packet.GroupInst.{GroupInst}
-use Rattle.wire_packet.specs.declared.packet.Request.{Request}
+use Rattle.wire_packet.specs.GroupFacts.{GroupParts, RequestParts}
 use Rattle.env_store.specs.declared.code.Level.{Level}
 use Rattle.env_store.specs.CodeParts.{CodeParts}
 use Rattle.env_store.specs.CodeFacts.{IsCode}
 use Rattle.env_store.specs.Reading.{IsCodeOf}
 use Rattle.env_store.specs.Laws.{rules_of_group}
 use Rattle.env_store.proofs.RuleGuards.{reacting_is_pouring}
-use Rattle.loc_tree.specs.Tree.{is_alive, is_dead, can_move}
+use Rattle.loc_tree.specs.Tree.{is_alive, is_dead}
 use Rattle.loc_tree.proofs.Alive.{own_number}
 use Rattle.loc_tree.proofs.Follows.{moves}
 use Rattle.reducer.specs.declared.pick.Pick.{Pick}
@@ -45,6 +44,8 @@ use Rattle.net_laws.proofs.React.{rules_differ}
 use Rattle.net_laws.proofs.Steps.{guard_there}
 use Rattle.net_core.specs.declared.choice.Choice.{Choice}
 use Rattle.net_core.specs.declared.choice.Choice.TheVariants as choice
+use Rattle.net_laws.specs.Moves as laws
+use Rattle.net_laws.proofs.Moves.{may_leave}
 use Rattle.net_core.specs.Acting.{HasGuard, Reacts, Delivers, Asks, MayGo, Moves, stays, leaves}
 use Rattle.net_core.specs.Enabled.{HasFront, MayHalt, MayDetect}
 use Rattle.net_core.specs.Choosing.{MayReact, MayDeliver, Allows, request_of, IsFirstReaction, IsNext}
@@ -71,7 +72,7 @@ from_fronts qs [] h = tt
 from_fronts qs (c ∷ cs) h = (is_long qs c h.0.0 h.0.1 h.0.2, from_fronts qs cs h.1)
 
 -- all requests of a list with one more, and of two lists in order
-each_with : (P : Request → Type 0) (q : Request) (rs : List Request) → Each P (with_request q rs) → P q × Each P rs
+each_with : (P : RequestParts → Type 0) (q : RequestParts) (rs : List RequestParts) → Each P (with_request q rs) → P q × Each P rs
 each_with P q [] h = (h.0, tt)
 each_with P q (x ∷ xs) h = go (precedes x.id q.id) h (each_with P q xs)
   where
@@ -79,14 +80,14 @@ each_with P q (x ∷ xs) h = go (precedes x.id q.id) h (each_with P q xs)
     go true h ih = let later = ih h.1 in (later.0, (h.0, later.1))
     go false h ih = h
 
-each_in_order : (P : Request → Type 0) (qs rs : List Request) → Each P (in_order qs rs) → Each P qs × Each P rs
+each_in_order : (P : RequestParts → Type 0) (qs rs : List RequestParts) → Each P (in_order qs rs) → Each P qs × Each P rs
 each_in_order P [] rs h = (tt, h)
 each_in_order P (q ∷ qs) rs h =
     let first = each_with P q (in_order qs rs) h in
     let later = each_in_order P qs rs first.1 in
     ((first.0, later.0), later.1)
 
-each_asked : (P : Request → Type 0) (ss : List Site) (i : ℕ) (s : Site) (a : AtomId) (q : Request) → Each P (requests_of ss) → slice_get ss i ≡ Some s → request_with a s.requests ≡ Some q → P q
+each_asked : (P : RequestParts → Type 0) (ss : List Site) (i : ℕ) (s : Site) (a : AtomId) (q : RequestParts) → Each P (requests_of ss) → slice_get ss i ≡ Some s → request_with a s.requests ≡ Some q → P q
 each_asked P [] i s a q h here e = cc
 each_asked P (u ∷ us) zero s a q h here e =
     let same : u ≡ s = cc in
@@ -107,7 +108,7 @@ choice_meets (request.Fail b k) a = refl
 choice_meets request.Halt a = refl
 
 module _ (p : ProgramTerms) (c : CodeParts) (ok : IsProgram p) (kept : IsCode c) (is : IsCodeOf p c) (net : Net) (fine : IsFine p c net) where
-  abbrev rules_by : GroupInst → List NumberedRule
+  abbrev rules_by : GroupParts → List NumberedRule
   rules_by = rules_of_group p
 
   -- ---- what is enabled can be made
@@ -152,7 +153,7 @@ module _ (p : ProgramTerms) (c : CodeParts) (ok : IsProgram p) (kept : IsCode c)
       at : (b : Bool) → (go.target.site == go.asks.number) ≡ b → (new : Net) × Moves net a new
       at true e = (_, stays (record { go = go; here = eqb-true go.target.site go.asks.number e; new_is = refl }))
       at false e =
-          let to = (moves net.tree go.asks.request.loc go.target go.can).to_root in
+          let to = (moves net.tree go.asks.request.loc go.target (may_leave net.version net.tree go.asks.request.loc go.target go.can)).to_root in
           let below = number_below rules_by net fine.solution fine.stands go.target go.target.site (own_number net.tree fine.stands.agrees.tree.is go.target to) in
           let into = get_some net.sites go.target.site below in
           (_, leaves (record { go = go; away = away e; into = into.0; into_is = into.1; new_is = refl }))
@@ -184,17 +185,17 @@ module _ (p : ProgramTerms) (c : CodeParts) (ok : IsProgram p) (kept : IsCode c)
   -- ---- which requests can be met
 
   abbrev Found : AtomId → List Site → Type 0
-  Found a ss = (i : ℕ) × (s : Site) × (q : Request) × (slice_get ss i ≡ Some s) × (request_with a s.requests ≡ Some q)
+  Found a ss = (i : ℕ) × (s : Site) × (q : RequestParts) × (slice_get ss i ≡ Some s) × (request_with a s.requests ≡ Some q)
 
   find : (a : AtomId) (ss : List Site) → Decides (Found a ss)
   find a [] = inr (λ h. let e : None ≡ Some h.1 = h.3 in cc)
   find a (s ∷ ss) = at (request_with a s.requests) refl (find a ss)
     where
-      none : request_with a s.requests ≡ None → (Found a ss → ⊥) → (i : ℕ) (u : Site) (q : Request) → slice_get (s ∷ ss) i ≡ Some u → request_with a u.requests ≡ Some q → ⊥
+      none : request_with a s.requests ≡ None → (Found a ss → ⊥) → (i : ℕ) (u : Site) (q : RequestParts) → slice_get (s ∷ ss) i ≡ Some u → request_with a u.requests ≡ Some q → ⊥
       none e not zero u q here f = let same : s ≡ u = cc in let clash : None ≡ Some q = sym e ∙ ap (λ (v : Site). request_with a v.requests) same ∙ f in cc
       none e not (suc i) u q here f = not (i, u, q, here, f)
 
-      at : (o : Option Request) → request_with a s.requests ≡ o → Decides (Found a ss) → Decides (Found a (s ∷ ss))
+      at : (o : Option RequestParts) → request_with a s.requests ≡ o → Decides (Found a ss) → Decides (Found a (s ∷ ss))
       at (Some q) e rest = inl (0, s, q, refl, e)
       at None e (inl h) = inl (suc h.0, h.1, h.2, h.3, h.4)
       at None e (inr not) = inr (λ h. none e not h.0 h.1 h.2 h.3 h.4)
@@ -206,10 +207,10 @@ module _ (p : ProgramTerms) (c : CodeParts) (ok : IsProgram p) (kept : IsCode c)
       (find a net.sites)
 
   same_ask : (a : AtomId) (x y : Asks net a) (v w : Ask) → x.request.ask ≡ v → y.request.ask ≡ w → v ≡ w
-  same_ask a x y v w e f = sym e ∙ ap (λ (q : Request). q.ask) (same_request p c net fine.solution fine.stands fine.runs a x y).request ∙ f
+  same_ask a x y v w e f = sym e ∙ ap (λ (q : RequestParts). q.ask) (same_request p c net fine.solution fine.stands fine.runs a x y).request ∙ f
 
   same_loc : (a : AtomId) (x y : Asks net a) → x.request.loc ≡ y.request.loc
-  same_loc a x y = ap (λ (q : Request). q.loc) (same_request p c net fine.solution fine.stands fine.runs a x y).request
+  same_loc a x y = ap (λ (q : RequestParts). q.loc) (same_request p c net fine.solution fine.stands fine.runs a x y).request
 
   may_go : (a : AtomId) → Decides (MayGo net a)
   may_go a = step (some_asks a)
@@ -220,10 +221,12 @@ module _ (p : ProgramTerms) (c : CodeParts) (ok : IsProgram p) (kept : IsCode c)
           (λ m.
           let asks = same_ask a m.asks x (request.Go (name.Place m.target) m.cont) (request.Go (name.Place b) k) m.is e in
           let target : m.target ≡ b = cc in
-          subst (λ (l : Loc). can_move net.tree x.request.loc l ≡ true) target (subst (λ (l : Loc). can_move net.tree l m.target ≡ true) (same_loc a m.asks x) m.can))
-          (is_true (can_move net.tree x.request.loc b))
+          subst (λ (l : Loc). laws.may_go net.version net.tree x.request.loc l ≡ true) target (subst (λ (l : Loc). laws.may_go net.version net.tree l m.target ≡ true) (same_loc a m.asks x) m.can))
+          (is_true (laws.may_go net.version net.tree x.request.loc b))
       of x (request.Go (name.Seen i) k) e = inr (λ m. let asks = same_ask a m.asks x (request.Go (name.Place m.target) m.cont) (request.Go (name.Seen i) k) m.is e in cc)
       of x (request.Go (name.Chan s i h) k) e = inr (λ m. let asks = same_ask a m.asks x (request.Go (name.Place m.target) m.cont) (request.Go (name.Chan s i h) k) m.is e in cc)
+      of x (request.Go (name.Num n) k) e = inr (λ m. let asks = same_ask a m.asks x (request.Go (name.Place m.target) m.cont) (request.Go (name.Num n) k) m.is e in cc)
+      of x (request.Go (name.Op n) k) e = inr (λ m. let asks = same_ask a m.asks x (request.Go (name.Place m.target) m.cont) (request.Go (name.Op n) k) m.is e in cc)
       of x (request.Fail b k) e = inr (λ m. let asks = same_ask a m.asks x (request.Go (name.Place m.target) m.cont) (request.Fail b k) m.is e in cc)
       of x request.Halt e = inr (λ m. let asks = same_ask a m.asks x (request.Go (name.Place m.target) m.cont) request.Halt m.is e in cc)
 
@@ -244,6 +247,8 @@ module _ (p : ProgramTerms) (c : CodeParts) (ok : IsProgram p) (kept : IsCode c)
           (both (is_true (is_alive net.tree x.request.loc)) (is_true (is_dead net.tree b)))
       of x (request.Fail (name.Seen i) k) e = inr (λ m. let asks = same_ask a m.asks x (request.Fail (name.Place m.target) m.cont) (request.Fail (name.Seen i) k) m.is e in cc)
       of x (request.Fail (name.Chan s i h) k) e = inr (λ m. let asks = same_ask a m.asks x (request.Fail (name.Place m.target) m.cont) (request.Fail (name.Chan s i h) k) m.is e in cc)
+      of x (request.Fail (name.Num n) k) e = inr (λ m. let asks = same_ask a m.asks x (request.Fail (name.Place m.target) m.cont) (request.Fail (name.Num n) k) m.is e in cc)
+      of x (request.Fail (name.Op n) k) e = inr (λ m. let asks = same_ask a m.asks x (request.Fail (name.Place m.target) m.cont) (request.Fail (name.Op n) k) m.is e in cc)
       of x (request.Go b k) e = inr (λ m. let asks = same_ask a m.asks x (request.Fail (name.Place m.target) m.cont) (request.Go b k) m.is e in cc)
       of x request.Halt e = inr (λ m. let asks = same_ask a m.asks x (request.Fail (name.Place m.target) m.cont) request.Halt m.is e in cc)
 
@@ -275,23 +280,23 @@ module _ (p : ProgramTerms) (c : CodeParts) (ok : IsProgram p) (kept : IsCode c)
 
   -- ---- the least request that can be met
 
-  abbrev CanMeet : Request → Type 0
+  abbrev CanMeet : RequestParts → Type 0
   CanMeet q = Allows c net (choice_by q.ask q.id)
 
-  record IsLeast (qs : List Request) : Type 0 where
-    request : Request
+  record IsLeast (qs : List RequestParts) : Type 0 where
+    request : RequestParts
     can : CanMeet request
-    least : Each (λ (r : Request). CanMeet r → precedes r.id request.id ≡ false) qs
+    least : Each (λ (r : RequestParts). CanMeet r → precedes r.id request.id ≡ false) qs
 
-  first_before : (q r : Request) (qs : List Request) → precedes q.id r.id ≡ true → Each (λ (x : Request). CanMeet x → precedes x.id r.id ≡ false) qs → Each (λ (x : Request). CanMeet x → precedes x.id q.id ≡ false) qs
+  first_before : (q r : RequestParts) (qs : List RequestParts) → precedes q.id r.id ≡ true → Each (λ (x : RequestParts). CanMeet x → precedes x.id r.id ≡ false) qs → Each (λ (x : RequestParts). CanMeet x → precedes x.id q.id ≡ false) qs
   first_before q r [] e h = tt
   first_before q r (x ∷ xs) e h = (λ can. not_before x.id.site x.id.k q.id.site q.id.k r.id.site r.id.k e (h.0 can), first_before q r xs e h.1)
 
-  none_before : (q : Request) (qs : List Request) → Each (λ (x : Request). CanMeet x → ⊥) qs → Each (λ (x : Request). CanMeet x → precedes x.id q.id ≡ false) qs
+  none_before : (q : RequestParts) (qs : List RequestParts) → Each (λ (x : RequestParts). CanMeet x → ⊥) qs → Each (λ (x : RequestParts). CanMeet x → precedes x.id q.id ≡ false) qs
   none_before q [] h = tt
   none_before q (x ∷ xs) h = (λ can. absurd (h.0 can), none_before q xs h.1)
 
-  least_of : (qs : List Request) → IsLeast qs ⊎ Each (λ (r : Request). CanMeet r → ⊥) qs
+  least_of : (qs : List RequestParts) → IsLeast qs ⊎ Each (λ (r : RequestParts). CanMeet r → ⊥) qs
   least_of [] = inr tt
   least_of (q ∷ qs) = step (may_meet (choice_by q.ask q.id) q.id (choice_meets q.ask q.id)) (least_of qs)
     where
@@ -299,20 +304,20 @@ module _ (p : ProgramTerms) (c : CodeParts) (ok : IsProgram p) (kept : IsCode c)
       lesser can l true e = record { request = q; can = can; least = (λ h. not_itself q.id.site q.id.k, first_before q l.request qs e l.least) }
       lesser can l false e = record { request = l.request; can = l.can; least = (λ h. e, l.least) }
 
-      step : Decides (CanMeet q) → IsLeast qs ⊎ Each (λ (r : Request). CanMeet r → ⊥) qs → IsLeast (q ∷ qs) ⊎ Each (λ (r : Request). CanMeet r → ⊥) (q ∷ qs)
+      step : Decides (CanMeet q) → IsLeast qs ⊎ Each (λ (r : RequestParts). CanMeet r → ⊥) qs → IsLeast (q ∷ qs) ⊎ Each (λ (r : RequestParts). CanMeet r → ⊥) (q ∷ qs)
       step (inl can) (inl l) = inl (lesser can l (precedes q.id l.request.id) refl)
       step (inl can) (inr none) = inl (record { request = q; can = can; least = (λ h. not_itself q.id.site q.id.k, none_before q qs none) })
       step (inr not) (inl l) = inl (record { request = l.request; can = l.can; least = (λ h. absurd (not h), l.least) })
       step (inr not) (inr none) = inr (not, none)
 
   -- a fact of all requests holds of the one that a choice meets
-  of_asked : (P : AtomId → Choice → Type 0) (b : AtomId) (x : Asks net b) (v : Ask) → x.request.ask ≡ v → Each (λ (q : Request). P q.id (choice_by q.ask q.id)) (requests_of net.sites) → P b (choice_by v b)
+  of_asked : (P : AtomId → Choice → Type 0) (b : AtomId) (x : Asks net b) (v : Ask) → x.request.ask ≡ v → Each (λ (q : RequestParts). P q.id (choice_by q.ask q.id)) (requests_of net.sites) → P b (choice_by v b)
   of_asked P b x v e all =
-      let h = each_asked (λ (q : Request). P q.id (choice_by q.ask q.id)) net.sites x.number x.site b x.request all x.site_is x.request_is in
+      let h = each_asked (λ (q : RequestParts). P q.id (choice_by q.ask q.id)) net.sites x.number x.site b x.request all x.site_is x.request_is in
       let id = request_id x.site.requests b x.request x.request_is in
       subst (λ (a : AtomId). P a (choice_by v a)) id (subst (λ (w : Ask). P x.request.id (choice_by w x.request.id)) e h)
 
-  of_choice : (P : AtomId → Choice → Type 0) (y : Choice) (b : AtomId) → request_of y ≡ Some b → Allows c net y → Each (λ (q : Request). P q.id (choice_by q.ask q.id)) (requests_of net.sites) → P b y
+  of_choice : (P : AtomId → Choice → Type 0) (y : Choice) (b : AtomId) → request_of y ≡ Some b → Allows c net y → Each (λ (q : RequestParts). P q.id (choice_by q.ask q.id)) (requests_of net.sites) → P b y
   of_choice P (choice.React i q) b e h all = cc
   of_choice P (choice.Deliver f) b e h all = cc
   of_choice P (choice.Move a) b e h all = let same : a ≡ b = cc in subst (λ (d : AtomId). P d (choice.Move a)) same (of_asked P a h.asks (request.Go (name.Place h.target) h.cont) h.is all)
@@ -381,7 +386,7 @@ module _ (p : ProgramTerms) (c : CodeParts) (ok : IsProgram p) (kept : IsCode c)
   none_under_way : (f : ℕ) (q : Addressed) → net.packets ≡ [] → slice_get net.packets f ≡ Some q → ⊥
   none_under_way f q e at = let clash : None ≡ Some q = sym (ap (λ ps. slice_get ps f) e) ∙ at in cc
 
-  pub none_allowed : net.packets ≡ [] → NoneBelow (length net.sites) → Each (λ (r : Request). CanMeet r → ⊥) (requests_of net.sites) → NoneAllowed
+  pub none_allowed : net.packets ≡ [] → NoneBelow (length net.sites) → Each (λ (r : RequestParts). CanMeet r → ⊥) (requests_of net.sites) → NoneAllowed
   none_allowed e none all (choice.React i q) h = none i q (slice_get_within net.sites i h.by.site h.by.site_is) h
   none_allowed e none all (choice.Deliver f) h = none_under_way f h.packet e h.packet_is
   none_allowed e none all (choice.Move a) h = of_choice (λ _ x. Allows c net x → ⊥) (choice.Move a) a refl h all h
@@ -391,7 +396,7 @@ module _ (p : ProgramTerms) (c : CodeParts) (ok : IsProgram p) (kept : IsCode c)
   pub some_next : ((x : Choice) × IsNext c net x) ⊎ NoneAllowed
   some_next = under_way net.packets refl
     where
-      asked : net.packets ≡ [] → NoneBelow (length net.sites) → IsLeast (requests_of net.sites) ⊎ Each (λ (r : Request). CanMeet r → ⊥) (requests_of net.sites) → ((x : Choice) × IsNext c net x) ⊎ NoneAllowed
+      asked : net.packets ≡ [] → NoneBelow (length net.sites) → IsLeast (requests_of net.sites) ⊎ Each (λ (r : RequestParts). CanMeet r → ⊥) (requests_of net.sites) → ((x : Choice) × IsNext c net x) ⊎ NoneAllowed
       asked e none (inl l) =
           let a = l.request.id in
           let x = choice_by l.request.ask a in

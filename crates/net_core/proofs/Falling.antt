@@ -9,7 +9,7 @@ use Rattle.chem_model.specs.declared.numbered.Numbered.{Numbered}
 use Rattle.chem_model.specs.Solution.{is_there}
 use Rattle.chem_model.specs.Opening.{root_of}
 use Rattle.wire_packet.specs.MessageFacts.{MessageParts}
-use Rattle.wire_packet.specs.declared.packet.GroupInst.{GroupInst}
+use Rattle.wire_packet.specs.GroupFacts.{GroupParts}
 use Rattle.loc_tree.specs.declared.tree.Spot.{Spot}
 use Rattle.loc_tree.specs.Tree.{Tree, spot, number_in, is_root}
 use Rattle.loc_tree.specs.Places.{standing_in}
@@ -45,9 +45,11 @@ misdirected_append t (p ∷ ps) qs = omega (arith, misdirected_append t ps qs)
 home_is : (l k : Loc) (n : Name) → IsChannel n → home_or l n ≡ home_or k n
 home_is l k (name.Seen i) h = absurd h
 home_is l k (name.Place a) h = absurd h
+home_is l k (name.Num n) h = absurd h
+home_is l k (name.Op i) h = absurd h
 home_is l k (name.Chan s j a) h = refl
 
-module _ (rules_of : GroupInst → List NumberedRule) (net : Net) (n : Numbered) (stands : Stands rules_of net n) where
+module _ (rules_of : GroupParts → List NumberedRule) (net : Net) (n : Numbered) (stands : Stands rules_of net n) where
   -- a message is misdirected exactly where its target doesn't host its home
   directed : (f : ℕ) (p : Addressed) (s : Site) → slice_get net.packets f ≡ Some p → slice_get net.sites p.target ≡ Some s → (u : Bool) → among s.locs (home_or (root_of p.target) p.msg.on) ≡ u → is_misdirected net.tree p ≡ not u
   directed f p s flies at true c =

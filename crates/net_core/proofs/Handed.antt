@@ -1,5 +1,5 @@
 -- What an event of a site leaves of a network, from its parts.
-use Rattle.std.proofs.Common.{◌≡◌, ℕ, suc, ◌+◌, ◌<◌, ◌≤◌, ◌^◌, Bool, true, false, cond, List, [], ◌∷◌, ◌++◌, Some, None, length, slice_get, refl, sym, ap, ◌∙◌, subst, arith, length-append}
+use Rattle.std.proofs.Common.{◌≡◌, ℕ, suc, ◌+◌, ◌<◌, ◌≤◌, ◌^◌, Bool, true, false, cond, List, [], ◌∷◌, ◌++◌, Option, Some, None, length, slice_get, refl, sym, ap, ◌∙◌, subst, arith, length-append}
 use Rattle.std.specs.Prelude.{slice_set, ◌&&◌, is_some}
 use Rattle.std.proofs.lemmas.Bool.{and_parts}
 use Rattle.chem_model.specs.declared.name.Loc.{Loc}
@@ -11,7 +11,8 @@ use Rattle.chem_model.specs.declared.event.Event.TheVariants as event
 use Rattle.chem_model.specs.declared.event.Out.{Out}
 use Rattle.chem_model.specs.declared.numbered.Made.{Made}
 use Rattle.chem_model.specs.Each.{Each}
-use Rattle.chem_model.specs.Pour.{is_count}
+use Rattle.chem_model.specs.declared.operation.Became.{Became}
+use Rattle.chem_model.specs.Pour.{is_count, operated_made}
 use Rattle.wire_packet.specs.declared.packet.Ask.{Ask}
 use Rattle.wire_packet.specs.declared.packet.Ask.TheVariants as request
 use Rattle.wire_packet.specs.declared.packet.Flight.{Flight}
@@ -25,7 +26,8 @@ use Rattle.net_laws.specs.Posting.{Posted, a_message, a_request, posted_of, Outc
 use Rattle.net_laws.specs.Parcels.{all_told}
 use Rattle.net_laws.specs.Choices.{with_outcome}
 use Rattle.net_laws.specs.ByCode.{told_by, run_here}
-use Rattle.net_laws.specs.Meeting.{continuation_made, sent_here}
+use Rattle.net_laws.specs.Moves.{continuation_made, moved_made}
+use Rattle.net_laws.specs.Meeting.{sent_here}
 use Rattle.net_laws.specs.Opened.{AreNew}
 use Rattle.site_solution.specs.Answers.{AreFlights, Answers}
 use Rattle.site_solution.specs.declared.effects.Effects.{Effects}
@@ -38,6 +40,7 @@ use Rattle.net_core.specs.inside.AtSites.{AllStayFit, HaltsAt, DetectsAt}
 use Rattle.net_core.specs.Playing.{Does}
 use Rattle.net_core.specs.Whole.{IsWhole}
 use Rattle.chem_laws.proofs.Lists.{Each-append}
+use Rattle.site_solution.proofs.Dropping.{operated_none}
 use Rattle.net_core.proofs.Stepping.{event_running}
 use Rattle.net_core.proofs.Carrying.{carried_append, all_carry}
 use Rattle.net_core.proofs.Deliveries.{same_net}
@@ -93,11 +96,18 @@ one_made seen i l k (name.Seen j) = go (is_count (slice_get seen j) 0) refl
     go false e = rw e (omega arith)
 one_made seen i l k (name.Place a) = omega arith
 one_made seen i l k (name.Chan s j h) = omega arith
+one_made seen i l k (name.Num n) = omega arith
+one_made seen i l k (name.Op n) = subst (λ (o : Option Became). length (posted_of (operated_made seen i l k n [] o).atoms) ≤ 1) (sym (operated_none n)) (omega arith)
 
 pub continuation_few : (t : Tree) (seen : List ℕ) (i : ℕ) (l : Loc) (k : ℕ) (cont : Name) (s : Site) → length (sent_here t (continuation_made seen i l k cont) s).sends ≤ 1
 continuation_few t seen i l k cont s =
     let a = continuation_made seen i l k cont in
     omega (arith, few_sent t (posted_of a.atoms) (host_all [] (record s { made = a.next })), one_made seen i l k cont)
+
+-- and what a move makes is that or nothing
+pub moved_few : (t : Tree) (alive : Bool) (seen : List ℕ) (i : ℕ) (l : Loc) (k : ℕ) (cont : Name) (s : Site) → length (sent_here t (moved_made alive seen i l k cont) s).sends ≤ 1
+moved_few t true seen i l k cont s = continuation_few t seen i l k cont s
+moved_few t false seen i l k cont s = omega arith
 
 pub flights_long : (ps : List Addressed) (fs : List Flight) → AreFlights ps fs → length fs ≡ length ps
 flights_long [] [] h = refl
@@ -107,11 +117,11 @@ flights_long (p ∷ ps) (f ∷ fs) h = ap suc (flights_long ps fs h.1)
 
 -- ---- what a site answers, as what the network hands out
 
-pub outcome_net : (seen : List ℕ) (old new : Parts) (i : ℕ) (t : Tree) (o : Outcome) (outs : List Out) (births : List Loc) (after : Site) (e : Effects) → new.sites.items ≡ slice_set old.sites.items i after
+pub outcome_net : (seen : List ℕ) (old new : Parts) → new.version ≡ old.version → (i : ℕ) (t : Tree) (o : Outcome) (outs : List Out) (births : List Loc) (after : Site) (e : Effects) → new.sites.items ≡ slice_set old.sites.items i after
     → Answers o outs births after e → bare new.tree ≡ with_births t i births → joined new.trace.items ≡ joined old.trace.items ++ e.outs → joined new.flights.items ≡ joined old.flights.items ++ e.sends
     → net_of seen new ≡ with_outcome (record (net_of seen old) { tree = t }) i o outs births
-outcome_net seen old new i t o outs births after e sites answers tree trace flights =
-    same_net (net_of seen new) (with_outcome (record (net_of seen old) { tree = t }) i o outs births) refl
+outcome_net seen old new version i t o outs births after e sites answers tree trace flights =
+    same_net (net_of seen new) (with_outcome (record (net_of seen old) { tree = t }) i o outs births) version refl
     (sites ∙ ap (slice_set old.sites.items i) answers.site)
     tree
     (trace ∙ ap (λ (os : List Out). joined old.trace.items ++ os) answers.outs)
@@ -124,9 +134,9 @@ halt_is (request.Go b k) e = absurd (cc)
 halt_is (request.Fail a k) e = absurd (cc)
 halt_is request.Halt e = refl
 
-pub halts_net : (seen : List ℕ) (old new : Parts) (i : ℕ) (a : AtomId) (s : Site) → slice_get old.sites.items i ≡ Some s → can_halt old.tree a s ≡ true → HaltsAt old.tree new.tree i a s old.sites.items new.sites.items
+pub halts_net : (seen : List ℕ) (old new : Parts) → new.version ≡ old.version → (i : ℕ) (a : AtomId) (s : Site) → slice_get old.sites.items i ≡ Some s → can_halt old.tree a s ≡ true → HaltsAt old.tree new.tree i a s old.sites.items new.sites.items
     → new.trace.items ≡ old.trace.items → new.flights.items ≡ old.flights.items → Halts (net_of seen old) a (net_of seen new)
-halts_net seen old new i a s at can halts trace flights =
+halts_net seen old new version i a s at can halts trace flights =
     let q = halts.halts.asked in
     let ready : is_halt q.ask && is_alive old.tree q.loc ≡ true = ap (is_ready old.tree) (sym halts.halts.here) ∙ can in
     let both = and_parts (is_halt q.ask) (is_alive old.tree q.loc) ready in
@@ -134,7 +144,7 @@ halts_net seen old new i a s at can halts trace flights =
       asks = record { number = i; site = s; request = q; site_is = at; request_is = halts.halts.here };
       is = halt_is q.ask both.0;
       alive = both.1;
-      new_is = same_net (net_of seen new) (record (net_of seen old) { sites = slice_set old.sites.items i (drop_request a s); tree = with_mark (bare old.tree) q.loc }) refl
+      new_is = same_net (net_of seen new) (record (net_of seen old) { sites = slice_set old.sites.items i (drop_request a s); tree = with_mark (bare old.tree) q.loc }) version refl
           (halts.sites ∙ ap (slice_set old.sites.items i) halts.halts.site)
           (ap bare halts.halts.tree)
           (ap joined trace)
@@ -147,11 +157,11 @@ some_if : (u : Bool) (e : Event) → is_some (cond u (Some e) None) ≡ true →
 some_if true e h = refl
 some_if false e h = absurd (cc)
 
-pub detects_net : (seen : List ℕ) (old new : Parts) (i : ℕ) (a : AtomId) (s : Site) (e : Effects) → slice_get old.sites.items i ≡ Some s → s.number ≡ i → is_some (dead_for old.tree a s) ≡ true
+pub detects_net : (seen : List ℕ) (old new : Parts) → new.version ≡ old.version → (i : ℕ) (a : AtomId) (s : Site) (e : Effects) → slice_get old.sites.items i ≡ Some s → s.number ≡ i → is_some (dead_for old.tree a s) ≡ true
     → DetectsAt seen old.tree i a s old.sites.items new.sites.items e
     → bare new.tree ≡ bare old.tree → joined new.trace.items ≡ joined old.trace.items ++ e.outs → joined new.flights.items ≡ joined old.flights.items ++ e.sends
     → Detects (net_of seen old) a (net_of seen new)
-detects_net seen old new i a s e at number dead detects tree trace flights =
+detects_net seen old new version i a s e at number dead detects tree trace flights =
     let d = detects.detects in
     let q = d.asked in
     let sees : sees_death old.tree (Some q) ≡ true = ap (sees_death old.tree) (sym d.here) ∙ some_if (sees_death old.tree (request_with a s.requests)) (event.Detect a) dead in
@@ -168,7 +178,7 @@ detects_net seen old new i a s e at number dead detects tree trace flights =
       is = d.asks;
       alive = both.0;
       dead = both.1;
-      new_is = outcome_net seen old new i (bare old.tree) (sent_here (bare old.tree) (from i) (drop_request a s)) (from i).outs [] detects.after e detects.sites answers tree trace flights;
+      new_is = outcome_net seen old new version i (bare old.tree) (sent_here (bare old.tree) (from i) (drop_request a s)) (from i).outs [] detects.after e detects.sites answers tree trace flights;
     }
 
 -- ---- the facts of the type, after an event

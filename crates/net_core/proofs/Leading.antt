@@ -20,8 +20,7 @@ use Rattle.chem_model.specs.declared.name.Ref.TheVariants.{Known}
 use Rattle.chem_laws.proofs.Lists.{Each-append, Each-weaker, append_nil}
 use Rattle.chem_laws.proofs.PourNumbers.{pour_draws}
 use Rattle.chem_laws.proofs.Taking.{same_atom_is}
-use Rattle.wire_packet.specs.declared.packet.GroupInst.{GroupInst}
-use Rattle.wire_packet.specs.declared.packet.Request.{Request}
+use Rattle.wire_packet.specs.GroupFacts.{GroupParts, RequestParts}
 use Rattle.env_store.specs.declared.code.Level.{Level}
 use Rattle.env_store.specs.CodeParts.{CodeParts}
 use Rattle.env_store.specs.CodeFacts.{IsCode}
@@ -42,19 +41,23 @@ use Rattle.net_laws.specs.Parcels.{all_told, pack, remove, take_in}
 use Rattle.net_laws.specs.Choices.{Choice, to_react, to_deliver, to_meet, with_outcome, moved_between, Works, Leads}
 use Rattle.net_laws.specs.Choices as works
 use Rattle.net_laws.specs.ByCode.{told_by, args_of, run_here, IsOfCode, IsDrawn}
-use Rattle.net_laws.specs.Meeting.{continuation_made, sent_here}
+use Rattle.net_laws.specs.Moves.{may_go, continuation_made, moved_made}
+use Rattle.net_laws.specs.Meeting.{sent_here}
 use Rattle.net_laws.specs.Opened.{AreDrawn, RunsCode}
 use Rattle.net_laws.proofs.ByCode.{counted, each_told, reaction_works, run_at, site_is_part}
 use Rattle.net_laws.proofs.Calls.{each_at}
 use Rattle.net_laws.proofs.Choices.{works_lead}
 use Rattle.net_laws.proofs.Follows.{group_hosted}
 use Rattle.net_laws.proofs.Holds.{each_get, laid_at}
+use Rattle.net_laws.proofs.Moves.{may_leave}
+use Rattle.site_solution.proofs.Together.{request_has}
 use Rattle.net_laws.proofs.Meeting.{detection_works, move_within_works, move_between_works}
 use Rattle.net_laws.proofs.Parcels.{each_laid_but}
 use Rattle.net_laws.proofs.Posting.{each_set, fronts_go}
 use Rattle.net_laws.proofs.Sites.{made_set, made_at, get_below, length_made}
 use Rattle.net_core.specs.Acting.{Reacts, delivered, Delivers, Halts, Detects, Stays, Leaves, Moves, stays, leaves}
 use Rattle.net_core.specs.Laws.{IsLed, ActsLead}
+use Rattle.loc_tree.proofs.Away.{goal_lives}
 use Rattle.net_core.proofs.Poured.{poured_made, poured_told, put_made, put_told, taken_told}
 
 -- ---- lists
@@ -72,16 +75,16 @@ rises (n ∷ ns) zero old k e h (suc j) = omega arith
 rises (n ∷ ns) (suc i) old k e h zero = omega arith
 rises (n ∷ ns) (suc i) old k e h (suc j) = rises ns i old k e h j
 
-pub request_id : (qs : List Request) (a : AtomId) (q : Request) → request_with a qs ≡ Some q → q.id ≡ a
+pub request_id : (qs : List RequestParts) (a : AtomId) (q : RequestParts) → request_with a qs ≡ Some q → q.id ≡ a
 request_id [] a q e = cc
 request_id (x ∷ qs) a q e = go (same_atom x.id a) refl (request_id qs a q) e
   where
     go : (u : Bool) → same_atom x.id a ≡ u → (request_with a qs ≡ Some q → q.id ≡ a) → cond u (Some x) (request_with a qs) ≡ Some q → q.id ≡ a
-    go true c ih f = let same : x ≡ q = cc in ap (λ (y : Request). y.id) (sym same) ∙ same_atom_is x.id a c
+    go true c ih f = let same : x ≡ q = cc in ap (λ (y : RequestParts). y.id) (sym same) ∙ same_atom_is x.id a c
     go false c ih f = ih f
 
 module _ (p : ProgramTerms) (c : CodeParts) (ok : IsProgram p) (kept : IsCode c) (is : IsCodeOf p c) where
-  abbrev rules_by : GroupInst → List NumberedRule
+  abbrev rules_by : GroupParts → List NumberedRule
   rules_by = rules_of_group p
 
   abbrev AreOfCode : Site → Type 0
@@ -114,8 +117,8 @@ module _ (p : ProgramTerms) (c : CodeParts) (ok : IsProgram p) (kept : IsCode c)
   all_drawn_more : (old new : List ℕ) → ((j : ℕ) → slice_index old j ≤ slice_index new j) → (ss : List Site) → Each (HasDrawn old) ss → Each (HasDrawn new) ss
   all_drawn_more old new f ss h = Each-weaker (HasDrawn old) (HasDrawn new) (λ s g. drawn_more old new f (told_in s.groups) g) ss h
 
-  runs_on : (net : Net) (i : ℕ) (s t : Site) (ds : List Told) (new : Net) → RunsCode p c net → OneChanged net i s t ds → new.seen ≡ net.seen → new.sites ≡ slice_set net.sites i t → IsNet rules_by new → RunsCode p c new
-  runs_on net i s t ds new runs one seen sites keeps =
+  runs_on : (net : Net) (i : ℕ) (s t : Site) (ds : List Told) (new : Net) → RunsCode p c net → OneChanged net i s t ds → new.version ≡ net.version → new.seen ≡ net.seen → new.sites ≡ slice_set net.sites i t → IsNet rules_by new → RunsCode p c new
+  runs_on net i s t ds new runs one version seen sites keeps =
       let old_counts = made_of net.sites in
       let counts = slice_set old_counts i t.made in
       let at = made_at net.sites i s one.here in
@@ -129,6 +132,7 @@ module _ (p : ProgramTerms) (c : CodeParts) (ok : IsProgram p) (kept : IsCode c)
       let drawn_t : HasDrawn counts t = subst (Each (AreDrawn counts)) (sym one.told)
       (Each-append (AreDrawn counts) (told_in s.groups) ds (drawn_more old_counts counts more (told_in s.groups) drawn_s) (Each-weaker (IsOwn i t.made) (AreDrawn counts) (drawn_on counts i t.made new_at) ds one.drawn)) in
       record {
+        version = version ∙ runs.version;
         seen = seen ∙ runs.seen;
         keeps = keeps;
         of_code = subst (Each AreOfCode) (sym sites) (each_set AreOfCode net.sites i t runs.of_code of_t);
@@ -153,7 +157,7 @@ module _ (p : ProgramTerms) (c : CodeParts) (ok : IsProgram p) (kept : IsCode c)
     drawn = Each-weaker (AreDrawn (made_of net.sites)) (IsDrawn i s.made) (drawn_of (made_of net.sites) i s.made (made_at net.sites i s here)) (told_in s.groups) (each_get (HasDrawn (made_of net.sites)) net.sites i s here runs.drawn);
   }
 
-  own_groups : (i n : ℕ) (k : ℕ) (gs : List GroupInst) → Each (IsGroupIn p) gs → Each (IsNumbered (levels_of_program p) i k n) gs → Each (IsOwn i n) (all_told (told_by c) gs)
+  own_groups : (i n : ℕ) (k : ℕ) (gs : List GroupParts) → Each (IsGroupIn p) gs → Each (IsNumbered (levels_of_program p) i k n) gs → Each (IsOwn i n) (all_told (told_by c) gs)
   own_groups i n k [] h g = tt
   own_groups i n k (d ∷ gs) h g = ((g.0.chans.same_site, (let many = counted p c ok kept is d h.0 in let low = g.0.chans.below in omega arith)), own_groups i n k gs h.1 g.1)
 
@@ -206,7 +210,7 @@ module _ (p : ProgramTerms) (c : CodeParts) (ok : IsProgram p) (kept : IsCode c)
         drawn = subst (λ (m : ℕ). Each (IsOwn i m) ds) (sym made) (own_groups i a.next s.made a.groups lays.groups lays.numbered);
         more = subst (λ (m : ℕ). s.made ≤ m) (sym made) up;
       } in
-      let after = runs_on net i s o.site ds (with_outcome net i o a.outs a.births) runs one refl refl lead.1 in
+      let after = runs_on net i s o.site ds (with_outcome net i o a.outs a.births) runs one refl refl refl lead.1 in
       record {
         leads = subst (λ (w : Net). Leads rules_by n (Some e) w) new_is (subst (λ (v : Event). Leads rules_by n (Some v) (with_outcome net i o a.outs a.births)) event_is lead.0);
         runs = subst (RunsCode p c) new_is after;
@@ -239,18 +243,20 @@ module _ (p : ProgramTerms) (c : CodeParts) (ok : IsProgram p) (kept : IsCode c)
             drawn = tt;
             more = subst (λ (m : ℕ). s.made ≤ m) (sym (put_made home q.msg s)) (omega arith);
           } in
-          let led : IsLed p c n None to = record { leads = lead.0; runs = runs_on net q.target s (put home q.msg s) [] to runs one refl refl lead.1 } in
+          let led : IsLed p c n None to = record { leads = lead.0; runs = runs_on net q.target s (put home q.msg s) [] to runs one refl refl refl lead.1 } in
           subst (λ (u : Bool). IsLed p c n None (cond u to (record net { packets = without_packet f net.packets ++ record { target = address net.tree home; msg = q.msg } ∷ [] }))) (sym here) led
       at_home site k home on false away =
           let to = record net { packets = without_packet f net.packets ++ record { target = address net.tree home; msg = q.msg } ∷ [] } in
           let does : Works rules_by net (to_deliver f) None to = works.forward f q s site k home delivers.packet_is delivers.site_is on away in
           let lead = works_lead rules_by net to n (to_deliver f) None stands runs.keeps does in
-          let led : IsLed p c n None to = record { leads = lead.0; runs = record { seen = runs.seen; keeps = lead.1; of_code = runs.of_code; drawn = runs.drawn } } in
+          let led : IsLed p c n None to = record { leads = lead.0; runs = record { version = runs.version; seen = runs.seen; keeps = lead.1; of_code = runs.of_code; drawn = runs.drawn } } in
           subst (λ (u : Bool). IsLed p c n None (cond u (record net { sites = slice_set net.sites q.target (put home q.msg s); packets = without_packet f net.packets }) to)) (sym away) led
 
       on : (x : Name) → q.msg.on ≡ x → IsChannel q.msg.on → IsLed p c n None (delivered net f q s (home_or (root_of q.target) q.msg.on))
       on (name.Seen i) e h = absurd (subst IsChannel e h)
       on (name.Place a) e h = absurd (subst IsChannel e h)
+      on (name.Num m) e h = absurd (subst IsChannel e h)
+      on (name.Op m) e h = absurd (subst IsChannel e h)
       on (name.Chan site k home) e h =
           subst (λ (l : Loc). IsLed p c n None (delivered net f q s l)) (sym (ap (home_or (root_of q.target)) e)) (at_home site k home e (among s.locs home) refl)
 
@@ -271,12 +277,16 @@ module _ (p : ProgramTerms) (c : CodeParts) (ok : IsProgram p) (kept : IsCode c)
       let does : Works rules_by net (to_meet q.id) (Some (event.Halt q.id)) (to q.id) = works.halt i s q halts.asks.site_is held halts.is halts.alive in
       let lead = works_lead rules_by net (to q.id) n (to_meet q.id) (Some (event.Halt q.id)) stands runs.keeps does in
       let one = same_groups net i s (drop_request q.id s) halts.asks.site_is refl (omega arith) in
-      let led : IsLed p c n (Some (event.Halt q.id)) (to q.id) = record { leads = lead.0; runs = runs_on net i s (drop_request q.id s) [] (to q.id) runs one refl refl lead.1 } in
+      let led : IsLed p c n (Some (event.Halt q.id)) (to q.id) = record { leads = lead.0; runs = runs_on net i s (drop_request q.id s) [] (to q.id) runs one refl refl refl lead.1 } in
       subst (IsLed p c n (Some (event.Halt a))) (sym halts.new_is) (subst (λ (b : AtomId). IsLed p c n (Some (event.Halt b)) (to b)) id led)
 
   -- a continuation draws from the next number on
   continued : (seen : List ℕ) (i : ℕ) (l : Loc) (k : ℕ) (cont : Name) → k ≤ (continuation_made seen i l k cont).next
   continued seen i l k cont = (pour_draws i seen (root_of i) (continuation (Known cont)) [] l k).up
+
+  moved_on : (alive : Bool) (seen : List ℕ) (i : ℕ) (l : Loc) (k : ℕ) (cont : Name) → k ≤ (moved_made alive seen i l k cont).next
+  moved_on true seen i l k cont = continued seen i l k cont
+  moved_on false seen i l k cont = omega arith
 
   detection_leads : (net new : Net) (n : Numbered) (a : AtomId) → Stands rules_by net n → RunsCode p c net → Detects net a new → IsLed p c n (Some (event.Detect a)) new
   detection_leads net new n a stands runs detects =
@@ -294,8 +304,15 @@ module _ (p : ProgramTerms) (c : CodeParts) (ok : IsProgram p) (kept : IsCode c)
       let t = (sent_here net.tree m (drop_request q.id s)).site in
       let one = same_groups net i s t here (poured_told net.tree m.next [] [] (posted_of m.atoms) (drop_request q.id s) ∙ append_nil (told_in s.groups))
       (subst (λ (k : ℕ). s.made ≤ k) (sym (poured_made net.tree m.next [] [] (posted_of m.atoms) (drop_request q.id s))) (continued net.seen i q.loc s.made detects.cont)) in
-      let led : IsLed p c n (Some (event.Detect q.id)) (to q.id) = record { leads = lead.0; runs = runs_on net i s t [] (to q.id) runs one refl refl lead.1 } in
+      let led : IsLed p c n (Some (event.Detect q.id)) (to q.id) = record { leads = lead.0; runs = runs_on net i s t [] (to q.id) runs one refl refl refl lead.1 } in
       subst (IsLed p c n (Some (event.Detect a))) (sym detects.new_is) (subst (λ (b : AtomId). IsLed p c n (Some (event.Detect b)) (to b)) id led)
+
+  -- the root of a site that hosts what moves is alive
+  goal_alive : (net : Net) (n : Numbered) (a : AtomId) → Stands rules_by net n → (i : ℕ) (s : Site) (q : RequestParts) (target : Loc) → slice_get net.sites i ≡ Some s → IsKept s → request_with a s.requests ≡ Some q → may_go net.version net.tree q.loc target ≡ true → target.site ≡ i → is_alive net.tree target ≡ true
+  goal_alive net n a stands i s q target here kept_s there can own =
+      let among_is = request_has (λ (r : RequestParts). among s.locs r.loc ≡ true) s.requests a q kept_s.requests_here there in
+      let hosted : number_in (spot net.tree q.loc) ≡ Some i = ((stands.hosts i s here).locs q.loc).0 among_is in
+      goal_lives net.tree stands.agrees.tree.is q.loc target (may_leave net.version net.tree q.loc target can) (hosted ∙ ap (λ (k : ℕ). Some k) (sym own))
 
   stay_leads : (net new : Net) (n : Numbered) (a : AtomId) → Stands rules_by net n → RunsCode p c net → Stays net a new → IsLed p c n (Some (event.Move a)) new
   stay_leads net new n a stands runs moves =
@@ -310,12 +327,15 @@ module _ (p : ProgramTerms) (c : CodeParts) (ok : IsProgram p) (kept : IsCode c)
       let m = continuation_made net.seen i q.loc s.made cont in
       let moved : Net = record net { tree = with_number net.tree q.loc i } in
       let to : AtomId → Net = λ (b : AtomId). with_outcome moved i (sent_here net.tree m (drop_request b s)) m.outs [] in
-      let does = move_within_works rules_by net n i s q moves.go.target cont stands here kept_s held moves.go.is moves.go.can moves.here in
+      let alive : is_alive net.tree moves.go.target ≡ true = goal_alive net n a stands i s q moves.go.target here kept_s moves.go.asks.request_is moves.go.can moves.here in
+      let does : Works rules_by net (to_meet q.id) (Some (event.Move q.id)) (to q.id) =
+      subst (λ (u : Bool). let w = moved_made u net.seen i q.loc s.made cont in Works rules_by net (to_meet q.id) (Some (event.Move q.id)) (with_outcome moved i (sent_here net.tree w (drop_request q.id s)) w.outs [])) alive
+      (move_within_works rules_by net n i s q moves.go.target cont stands here kept_s held moves.go.is moves.go.can moves.here) in
       let lead = works_lead rules_by net (to q.id) n (to_meet q.id) (Some (event.Move q.id)) stands runs.keeps does in
       let t = (sent_here net.tree m (drop_request q.id s)).site in
       let one = same_groups net i s t here (poured_told net.tree m.next [] [] (posted_of m.atoms) (drop_request q.id s) ∙ append_nil (told_in s.groups))
       (subst (λ (k : ℕ). s.made ≤ k) (sym (poured_made net.tree m.next [] [] (posted_of m.atoms) (drop_request q.id s))) (continued net.seen i q.loc s.made cont)) in
-      let led : IsLed p c n (Some (event.Move q.id)) (to q.id) = record { leads = lead.0; runs = runs_on net i s t [] (to q.id) runs one refl refl lead.1 } in
+      let led : IsLed p c n (Some (event.Move q.id)) (to q.id) = record { leads = lead.0; runs = runs_on net i s t [] (to q.id) runs one refl refl refl lead.1 } in
       subst (IsLed p c n (Some (event.Move a))) (sym moves.new_is) (subst (λ (b : AtomId). IsLed p c n (Some (event.Move b)) (to b)) id led)
 
   leave_leads : (net new : Net) (n : Numbered) (a : AtomId) → Stands rules_by net n → RunsCode p c net → Leaves net a new → IsLed p c n (Some (event.Move a)) new
@@ -332,7 +352,8 @@ module _ (p : ProgramTerms) (c : CodeParts) (ok : IsProgram p) (kept : IsCode c)
       let held : request_with q.id from.requests ≡ Some q = ap (λ (b : AtomId). request_with b from.requests) id ∙ moves.go.asks.request_is in
       let kept_from = each_get IsKept net.sites i from here runs.keeps.kept in
       let kept_into = each_get IsKept net.sites j into there runs.keeps.kept in
-      let m = continuation_made net.seen j q.loc into.made cont in
+      let alive = is_alive net.tree moves.go.target in
+      let m = moved_made alive net.seen j q.loc into.made cont in
       let to : AtomId → Net = λ (b : AtomId). moved_between net i j q.loc (drop_request b from) into m.next (posted_of m.atoms) m.outs in
       let does = move_between_works rules_by net n i j from into q moves.go.target cont moves.away stands here there kept_from kept_into held moves.go.is moves.go.can refl in
       let lead = works_lead rules_by net (to q.id) n (to_meet q.id) (Some (event.Move q.id)) stands runs.keeps does in
@@ -350,7 +371,7 @@ module _ (p : ProgramTerms) (c : CodeParts) (ok : IsProgram p) (kept : IsCode c)
       let counts : made_of new_sites ≡ slice_set old_counts j m.next =
       made_set (slice_set net.sites i left) j o.site ∙ (λ b. slice_set ((made_set net.sites i left ∙ same_count net.sites i from left here refl) b) j (made b)) in
       let more : (k : ℕ) → slice_index old_counts k ≤ slice_index (made_of new_sites) k = λ k.
-      subst (λ (ks : List ℕ). slice_index old_counts k ≤ slice_index ks k) (sym counts) (rises old_counts j into.made m.next (made_at net.sites j into there) (continued net.seen j q.loc into.made cont) k) in
+      subst (λ (ks : List ℕ). slice_index old_counts k ≤ slice_index ks k) (sym counts) (rises old_counts j into.made m.next (made_at net.sites j into there) (moved_on alive net.seen j q.loc into.made cont) k) in
       let new_counts = made_of new_sites in
       let of_new : AreOfCode o.site = subst (Each (IsOfCode p c)) (sym told) (Each-append (IsOfCode p c) (told_in into.groups) load.groups of_into (each_at q.loc (IsOfCode p c) from.groups of_from)) in
       let drawn_new : HasDrawn new_counts o.site = subst (Each (AreDrawn new_counts)) (sym told)
@@ -359,6 +380,7 @@ module _ (p : ProgramTerms) (c : CodeParts) (ok : IsProgram p) (kept : IsCode c)
       let drawn_left : HasDrawn new_counts left = drawn_more old_counts new_counts more (told_in left.groups) (each_laid_but q.loc (AreDrawn old_counts) from.groups drawn_from) in
       let drawn_all = all_drawn_more old_counts new_counts more net.sites runs.drawn in
       let after : RunsCode p c (to q.id) = record {
+        version = runs.version;
         seen = runs.seen;
         keeps = lead.1;
         of_code = each_set AreOfCode (slice_set net.sites i left) j o.site (each_set AreOfCode net.sites i left runs.of_code of_left) of_new;

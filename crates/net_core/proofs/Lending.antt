@@ -137,7 +137,7 @@ mail_view i (p ∷ ps) = go (p.target == i) refl (mail_view i ps)
 
 -- the network with other sites, trace and packets
 abbrev moved : Net → List Site → List Out → List Addressed → Net
-moved net sites trace packets = record { seen = net.seen; sites = sites; tree = net.tree; trace = trace; packets = packets }
+moved net sites trace packets = record { version = net.version; seen = net.seen; sites = sites; tree = net.tree; trace = trace; packets = packets }
 
 same_moved : (net : Net) (ss us : List Site) (ts vs : List Out) (ps qs : List Addressed) → ss ≡ us → ts ≡ vs → ps ≡ qs → moved net ss ts ps ≡ moved net us vs qs
 same_moved net ss us ts vs ps qs a b c = λ j. moved net (a j) (b j) (c j)

@@ -93,40 +93,40 @@ none_comes c net empty none not (choice.Detect a) may = not (choice.Detect a) a 
 
 -- ---- where nothing is under way, and no site is ready
 
-module _ (sites : List Site) (t : Tree) (c : CodeParts) (packets : ℕ) where
+module _ (version : ℕ) (sites : List Site) (t : Tree) (c : CodeParts) (packets : ℕ) where
   none_under : (net : Net) → length net.packets ≡ packets → packets ≡ 0 → net.packets ≡ []
   none_under net count zero_is = no_packets net.packets (count ∙ zero_is)
 
   pub none_after : (o : Option Choice) → packets ≡ 0
       → ((net : Net) → HasSites sites t net → NoneReacts c net)
-      → IfNone o ((d : CodeParts) (net : Net) → HasSites sites t net → NoneMeetsAny d net)
-      → IfNone o ((net : Net) → HasSites sites t net → length net.packets ≡ packets → (x : Choice) → Allows c net x → ⊥)
-  none_after None zero_is none not = λ net parts count. none_comes c net (none_under net count zero_is) (none net parts) (not c net parts)
+      → IfNone o ((d : CodeParts) (net : Net) → HasSites sites t net → net.version ≡ version → NoneMeetsAny d net)
+      → IfNone o ((net : Net) → HasSites sites t net → net.version ≡ version → length net.packets ≡ packets → (x : Choice) → Allows c net x → ⊥)
+  none_after None zero_is none not = λ net parts same count. none_comes c net (none_under net count zero_is) (none net parts) (not c net parts same)
   none_after (Some x) zero_is none not = tt
 
   pub first_after : (o : Option Choice) → packets ≡ 0
       → ((net : Net) → HasSites sites t net → NoneReacts c net)
-      → IfSome o (λ x. (d : CodeParts) (net : Net) → HasSites sites t net → IsFirstMeeting d net x)
-      → IfSome o (λ x. (net : Net) → HasSites sites t net → length net.packets ≡ packets → IsNext c net x)
+      → IfSome o (λ x. (d : CodeParts) (net : Net) → HasSites sites t net → net.version ≡ version → IsFirstMeeting d net x)
+      → IfSome o (λ x. (net : Net) → HasSites sites t net → net.version ≡ version → length net.packets ≡ packets → IsNext c net x)
   first_after None zero_is none first = tt
-  first_after (Some x) zero_is none first = λ net parts count.
-      let meets = first c net parts in
+  first_after (Some x) zero_is none first = λ net parts same count.
+      let meets = first c net parts same in
       next.meet meets.0 x (none_under net count zero_is) (none net parts) meets.1
 
 -- ---- of one network
 
-module _ (sites : List Site) (t : Tree) (c : CodeParts) (packets : ℕ) (net : Net) (parts : HasSites sites t net) (count : length net.packets ≡ packets) where
+module _ (version : ℕ) (sites : List Site) (t : Tree) (c : CodeParts) (packets : ℕ) (net : Net) (parts : HasSites sites t net) (same : net.version ≡ version) (count : length net.packets ≡ packets) where
   pub none_of : (o : Option Choice)
-      → IfNone o ((net : Net) → HasSites sites t net → length net.packets ≡ packets → (x : Choice) → Allows c net x → ⊥)
+      → IfNone o ((net : Net) → HasSites sites t net → net.version ≡ version → length net.packets ≡ packets → (x : Choice) → Allows c net x → ⊥)
       → IfNone o ((x : Choice) → Allows c net x → ⊥)
-  none_of None none = none net parts count
+  none_of None none = none net parts same count
   none_of (Some x) none = tt
 
   pub some_of : (o : Option Choice)
-      → IfSome o (λ x. (net : Net) → HasSites sites t net → length net.packets ≡ packets → IsNext c net x)
+      → IfSome o (λ x. (net : Net) → HasSites sites t net → net.version ≡ version → length net.packets ≡ packets → IsNext c net x)
       → IfSome o (IsNext c net)
   some_of None some = tt
-  some_of (Some x) some = some net parts count
+  some_of (Some x) some = some net parts same count
 
 module _ (c : CodeParts) (net : Net) (code : IsCode c) where
   next_allows : (x : Choice) → IsNext c net x → Allows c net x

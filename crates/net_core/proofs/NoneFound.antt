@@ -1,6 +1,6 @@
 -- That a search came so far and found nothing.
 use Rattle.std.specs.Prelude.{◌≡◌, ℕ, ◌<◌, List, Some, slice_get}
-use Rattle.wire_packet.specs.declared.packet.Request.{Request}
+use Rattle.wire_packet.specs.GroupFacts.{RequestParts}
 use Rattle.env_store.specs.CodeParts.{CodeParts}
 use Rattle.loc_tree.specs.Tree.{Tree}
 use Rattle.net_laws.specs.Site.{Site}
@@ -15,6 +15,6 @@ NoneReady c sites t n =
 -- ---- requests
 
 -- of the first n requests of the site none is
-abbrev pub NoneMeetable : Tree → Site → ℕ → Type 0
-NoneMeetable t s n =
-    (k : ℕ) (q : Request) → k < n → slice_get s.requests k ≡ Some q → IsMeetable t s q → ⊥
+abbrev pub NoneMeetable : ℕ → Tree → Site → ℕ → Type 0
+NoneMeetable version t s n =
+    (k : ℕ) (q : RequestParts) → k < n → slice_get s.requests k ≡ Some q → IsMeetable version t s q → ⊥

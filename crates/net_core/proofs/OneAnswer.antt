@@ -17,13 +17,13 @@ use Rattle.chem_model.specs.Opening.{root_of}
 use Rattle.wire_packet.specs.MessageFacts.{MessageParts}
 use Rattle.wire_packet.specs.declared.packet.Ask.{Ask}
 use Rattle.wire_packet.specs.declared.packet.Ask.TheVariants as request
-use Rattle.wire_packet.specs.declared.packet.Request.{Request}
+use Rattle.wire_packet.specs.GroupFacts.{RequestParts}
 use Rattle.env_store.specs.declared.code.Guard.{Guard}
 use Rattle.env_store.specs.declared.code.Level.{Level}
 use Rattle.env_store.specs.CodeParts.{CodeParts}
 use Rattle.env_store.specs.Running.{code_made}
 use Rattle.env_store.specs.Laws.{rules_of_group}
-use Rattle.loc_tree.specs.Tree.{spot, number_in, with_number, with_mark}
+use Rattle.loc_tree.specs.Tree.{spot, number_in, is_alive, with_number, with_mark}
 use Rattle.net_laws.specs.Site.{Group, Site, coded_atom, ask_term, request_atom}
 use Rattle.net_laws.specs.Net.{Addressed, Net, Stands, among, home_or}
 use Rattle.net_laws.specs.Changes.{Takes, ids}
@@ -32,7 +32,8 @@ use Rattle.net_laws.specs.Holding.{request_with, drop_request}
 use Rattle.net_laws.specs.Posting.{posted_of, with_queues}
 use Rattle.net_laws.specs.Choices.{with_outcome, moved_between}
 use Rattle.net_laws.specs.ByCode.{args_of, run_here}
-use Rattle.net_laws.specs.Meeting.{continuation_made, sent_here}
+use Rattle.net_laws.specs.Moves.{continuation_made, moved_made}
+use Rattle.net_laws.specs.Meeting.{sent_here}
 use Rattle.net_laws.specs.Opened.{RunsCode}
 use Rattle.net_laws.proofs.Events.{asked_there}
 use Rattle.net_laws.proofs.Follows.{atom_once}
@@ -130,11 +131,11 @@ same_ask request.Halt (request.Go c d) e = cc
 same_ask request.Halt (request.Fail c d) e = cc
 same_ask request.Halt request.Halt e = refl
 
-request_is : (p q : Request) → request_atom p ≡ request_atom q → p ≡ q
+request_is : (p q : RequestParts) → request_atom p ≡ request_atom q → p ≡ q
 request_is p q e = λ i. record { id = (e i).id; loc = (e i).loc; ask = same_ask p.ask q.ask (ap (λ (a : NumberedAtom). a.term) e) i }
 
 -- a fact of all requests holds of the one that is found
-pub each_request : (P : Request → Type 0) (qs : List Request) (a : AtomId) (q : Request) → Each P qs → request_with a qs ≡ Some q → P q
+pub each_request : (P : RequestParts → Type 0) (qs : List RequestParts) (a : AtomId) (q : RequestParts) → Each P qs → request_with a qs ≡ Some q → P q
 each_request P [] a q all e = cc
 each_request P (x ∷ qs) a q all e = go (same_atom x.id a) (each_request P qs a q all.1) e
   where
@@ -154,7 +155,7 @@ module _ (p : ProgramTerms) (c : CodeParts) (net : Net) (n : Numbered) (stands :
       let id : x.request.id ≡ y.request.id = request_id x.site.requests a x.request x.request_is ∙ sym (request_id y.site.requests a y.request y.request_is) in
       let atom = atom_once (rules_of_group p) net n stands (request_atom x.request) (request_atom y.request) id (there x) (there y) in
       let request = request_is x.request y.request atom in
-      let number = one_of (number_in (spot net.tree y.request.loc)) x.number y.number (ap (λ (q : Request). number_in (spot net.tree q.loc)) (sym request) ∙ hosted x) (hosted y) in
+      let number = one_of (number_in (spot net.tree y.request.loc)) x.number y.number (ap (λ (q : RequestParts). number_in (spot net.tree q.loc)) (sym request) ∙ hosted x) (hosted y) in
       record {
         number = number;
         site = one_of (slice_get net.sites y.number) x.site y.site (ap (slice_get net.sites) (sym number) ∙ x.site_is) y.site_is;
@@ -167,7 +168,7 @@ module _ (p : ProgramTerms) (c : CodeParts) (net : Net) (n : Numbered) (stands :
       hosted : (z : Asks net a) → number_in (spot net.tree z.request.loc) ≡ Some z.number
       hosted z =
           let kept = each_get IsKept net.sites z.number z.site z.site_is runs.keeps.kept in
-          let here = each_request (λ (r : Request). among z.site.locs r.loc ≡ true) z.site.requests a z.request kept.requests_here z.request_is in
+          let here = each_request (λ (r : RequestParts). among z.site.locs r.loc ≡ true) z.site.requests a z.request kept.requests_here z.request_is in
           ((stands.hosts z.number z.site z.site_is).locs z.request.loc).0 here
 
   halts_one : (a : AtomId) (new other : Net) → Halts net a new → Halts net a other → new ≡ other
@@ -175,17 +176,17 @@ module _ (p : ProgramTerms) (c : CodeParts) (net : Net) (n : Numbered) (stands :
       let same = same_request a x.asks y.asks in
       x.new_is ∙ (λ t. net_by (same.number t) (same.site t) (same.request t)) ∙ sym y.new_is
     where
-      net_by : ℕ → Site → Request → Net
+      net_by : ℕ → Site → RequestParts → Net
       net_by i s q = record net { sites = slice_set net.sites i (drop_request a s); tree = with_mark net.tree q.loc }
 
   detects_one : (a : AtomId) (new other : Net) → Detects net a new → Detects net a other → new ≡ other
   detects_one a new other x y =
       let same = same_request a x.asks y.asks in
-      let asks : request.Fail (name.Place x.target) x.cont ≡ request.Fail (name.Place y.target) y.cont = sym x.is ∙ ap (λ (q : Request). q.ask) same.request ∙ y.is in
+      let asks : request.Fail (name.Place x.target) x.cont ≡ request.Fail (name.Place y.target) y.cont = sym x.is ∙ ap (λ (q : RequestParts). q.ask) same.request ∙ y.is in
       let cont : x.cont ≡ y.cont = cc in
       x.new_is ∙ (λ t. net_by (same.number t) (same.site t) (same.request t) (cont t)) ∙ sym y.new_is
     where
-      net_by : ℕ → Site → Request → Name → Net
+      net_by : ℕ → Site → RequestParts → Name → Net
       net_by i s q cont =
           let m = continuation_made net.seen i q.loc s.made cont in
           with_outcome net i (sent_here net.tree m (drop_request a s)) m.outs []
@@ -200,7 +201,7 @@ module _ (p : ProgramTerms) (c : CodeParts) (net : Net) (n : Numbered) (stands :
   same_go : (a : AtomId) (x y : MayGo net a) → SameGo a x y
   same_go a x y =
       let same = same_request a x.asks y.asks in
-      let asks : request.Go (name.Place x.target) x.cont ≡ request.Go (name.Place y.target) y.cont = sym x.is ∙ ap (λ (q : Request). q.ask) same.request ∙ y.is in
+      let asks : request.Go (name.Place x.target) x.cont ≡ request.Go (name.Place y.target) y.cont = sym x.is ∙ ap (λ (q : RequestParts). q.ask) same.request ∙ y.is in
       record { request = same; target = cc; cont = cc }
 
   -- it goes to the site that has it for both, or for neither
@@ -214,7 +215,7 @@ module _ (p : ProgramTerms) (c : CodeParts) (net : Net) (n : Numbered) (stands :
       let same = same_go a x.go y.go in
       x.new_is ∙ (λ t. net_by (same.request.number t) (same.request.site t) (same.request.request t) (same.cont t)) ∙ sym y.new_is
     where
-      net_by : ℕ → Site → Request → Name → Net
+      net_by : ℕ → Site → RequestParts → Name → Net
       net_by i s q cont =
           let m = continuation_made net.seen i q.loc s.made cont in
           with_outcome (record net { tree = with_number net.tree q.loc i }) i (sent_here net.tree m (drop_request a s)) m.outs []
@@ -225,9 +226,9 @@ module _ (p : ProgramTerms) (c : CodeParts) (net : Net) (n : Numbered) (stands :
       let into = one_of (slice_get net.sites y.go.target.site) x.into y.into (ap (λ (l : Loc). slice_get net.sites l.site) (sym same.target) ∙ x.into_is) y.into_is in
       x.new_is ∙ (λ t. net_by (same.request.number t) (same.request.site t) (same.request.request t) (same.target t) (same.cont t) (into t)) ∙ sym y.new_is
     where
-      net_by : ℕ → Site → Request → Loc → Name → Site → Net
+      net_by : ℕ → Site → RequestParts → Loc → Name → Site → Net
       net_by i s q target cont into =
-          let m = continuation_made net.seen target.site q.loc into.made cont in
+          let m = moved_made (is_alive net.tree target) net.seen target.site q.loc into.made cont in
           moved_between net i target.site q.loc (drop_request a s) into m.next (posted_of m.atoms) m.outs
 
   moves_one : (a : AtomId) (new other : Net) → Moves net a new → Moves net a other → new ≡ other

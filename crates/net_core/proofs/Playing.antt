@@ -65,5 +65,5 @@ all_rise c net end es kept (carries _ mid _ _ does more) p n ok is stands runs m
 pub opened_play : OpenedPlay
 opened_play p c ok kept is end es does =
     let opened = opened_stands p c ok kept is in
-    let made = all_rise c (opened_net c) end es kept does p (opening p) ok is opened.0 opened.1 1048576 opened.2 in
-    (lists_replay c (opened_net c) end es kept does p (opening p) ok is opened.0 opened.1, all_more (1048576 + 1048576 * length es) (1048576 * (length es + 1)) (omega arith) end.sites made)
+    let made = all_rise c (opened_net p.version c) end es kept does p (opening p) ok is opened.0 opened.1 1048576 opened.2 in
+    (lists_replay c (opened_net p.version c) end es kept does p (opening p) ok is opened.0 opened.1, all_more (1048576 + 1048576 * length es) (1048576 * (length es + 1)) (omega arith) end.sites made)

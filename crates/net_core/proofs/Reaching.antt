@@ -158,14 +158,14 @@ module _ (c : CodeParts) (kept : IsCode c) (old new : Parts) (some : RunsSome c 
       subst (λ (k : ℕ). Answers (run_here c (bare old.tree) (ran k) left) (ran k).outs (ran k).births reacts.after e) number
       (subst (λ (o : Outcome). Answers o (ran s.number).outs (ran s.number).births reacts.after e) (sym (run_bare c old.tree (ran s.number) left)) full)
 
-  pub reacts_net : bare new.tree ≡ with_births (bare old.tree) i e.births → joined new.trace.items ≡ joined old.trace.items ++ e.outs → joined new.flights.items ≡ joined old.flights.items ++ e.sends → Reacts c (net_of c.seen old) i p.group p.guard ev (net_of c.seen new)
-  reacts_net tree trace flights = record {
+  pub reacts_net : new.version ≡ old.version → bare new.tree ≡ with_births (bare old.tree) i e.births → joined new.trace.items ≡ joined old.trace.items ++ e.outs → joined new.flights.items ≡ joined old.flights.items ++ e.sends → Reacts c (net_of c.seen old) i p.group p.guard ev (net_of c.seen new)
+  reacts_net version tree trace flights = record {
     by = by_guard c kept (net_of c.seen old) some i s p x at (fires_bare c old.tree s p x fires);
     taken = taken_by x;
     left = without_fronts x.group.queues x.guard.chans;
     takes = takes c kept (net_of c.seen old) some i s p x at (fires_bare c old.tree s p x fires);
     event_is = reacts.event;
-    new_is = outcome_net c.seen old new i (bare old.tree) (run_here c (bare old.tree) (ran i) left) (ran i).outs (ran i).births reacts.after e reacts.sites answers
+    new_is = outcome_net c.seen old new version i (bare old.tree) (run_here c (bare old.tree) (ran i) left) (ran i).outs (ran i).births reacts.after e reacts.sites answers
         (tree ∙ ap (with_births (bare old.tree) i) answers.births) trace flights;
   }
 

@@ -1,5 +1,5 @@
 -- How far the counts of sites rise, and that births are new.
-use Rattle.std.proofs.Common.{◌≡◌, ℕ, zero, suc, ◌+◌, ◌≤◌, List, [], ◌∷◌, ◌++◌, Some, Bool, true, false, cond, refl, sym, ap, ◌∙◌, subst, arith, length, slice_get, length-append}
+use Rattle.std.proofs.Common.{◌≡◌, ℕ, zero, suc, ◌+◌, ◌≤◌, List, [], ◌∷◌, ◌++◌, Option, Some, Bool, true, false, cond, refl, sym, ap, ◌∙◌, subst, arith, length, slice_get, length-append}
 use Rattle.std.specs.Prelude.{slice_set, slice_index, ◌-◌}
 use Rattle.chem_model.specs.declared.name.Loc.{Loc}
 use Rattle.chem_model.specs.declared.name.Name.{Name}
@@ -18,11 +18,12 @@ use Rattle.chem_model.specs.Apply.{without_all}
 use Rattle.chem_model.specs.NewNames.{Pair, coded_pair}
 use Rattle.chem_model.specs.Numbered.{place_pairs}
 use Rattle.chem_model.specs.Opening.{root_of, counts_of}
-use Rattle.chem_model.specs.Pour.{is_count, out_made, atom_made, pour}
+use Rattle.chem_model.specs.declared.operation.Became.{Became}
+use Rattle.chem_model.specs.Pour.{is_count, out_made, atom_made, operated_made, pour}
 use Rattle.chem_laws.proofs.Lists.{Each-weaker}
 use Rattle.chem_laws.proofs.Places.{place_pairs-append}
 use Rattle.wire_packet.specs.MessageFacts.{MessageParts}
-use Rattle.wire_packet.specs.declared.packet.GroupInst.{GroupInst}
+use Rattle.wire_packet.specs.GroupFacts.{GroupParts}
 use Rattle.env_store.specs.declared.code.Guard.{Guard}
 use Rattle.env_store.specs.declared.code.Level.{Level}
 use Rattle.env_store.specs.CodeParts.{CodeParts}
@@ -39,7 +40,7 @@ use Rattle.net_laws.specs.Holding.{put, drop_request}
 use Rattle.net_laws.specs.Posting.{posted_of, with_queues}
 use Rattle.net_laws.specs.Parcels.{all_told, pack, remove, take_in}
 use Rattle.net_laws.specs.ByCode.{told_by, args_of, IsOfCode, counts_at}
-use Rattle.net_laws.specs.Meeting.{continuation_made}
+use Rattle.net_laws.specs.Moves.{continuation_made, moved_made}
 use Rattle.net_laws.specs.Opened.{RunsCode, AreNew}
 use Rattle.net_laws.proofs.Agree.{fresh_births}
 use Rattle.net_laws.proofs.ByCode.{run_at, site_is_part}
@@ -50,6 +51,7 @@ use Rattle.net_laws.proofs.Posting.{each_set}
 use Rattle.net_laws.proofs.Queues.{queue_is, queues_left}
 use Rattle.net_core.specs.Acting.{Reacts, Delivers, Halts, Detects, Moves, stays, leaves}
 use Rattle.net_core.specs.Rising.{AllMade, CountsRise, ReactionsBearNew}
+use Rattle.site_solution.proofs.Dropping.{operated_none}
 use Rattle.net_core.proofs.Leading.{get_some, known}
 use Rattle.net_core.proofs.Poured.{poured_made, put_made}
 
@@ -60,14 +62,14 @@ count_at (m ∷ ms) zero n e = let same : m ≡ n = cc in same
 count_at (m ∷ ms) (suc c) n e = count_at ms c n e
 
 -- a queue belongs to a channel with a count
-counted : (i : GroupInst) (k : ℕ) (counts : List ℕ) (qs : List (List MessageParts)) (c : ℕ) (q : List MessageParts) → AreQueues i k counts qs → slice_get qs c ≡ Some q → (n : ℕ) × (slice_get counts c ≡ Some n)
+counted : (i : GroupParts) (k : ℕ) (counts : List ℕ) (qs : List (List MessageParts)) (c : ℕ) (q : List MessageParts) → AreQueues i k counts qs → slice_get qs c ≡ Some q → (n : ℕ) × (slice_get counts c ≡ Some n)
 counted i k [] [] c q h e = cc
 counted i k [] (x ∷ qs) c q h e = absurd h
 counted i k (n ∷ ns) [] c q h e = absurd h
 counted i k (n ∷ ns) (x ∷ qs) zero q h e = (n, refl)
 counted i k (n ∷ ns) (x ∷ qs) (suc c) q h e = counted i (k + 1) ns qs c q h.1 e
 
-taken_args : (i : GroupInst) (counts : List ℕ) (qs : List (List MessageParts)) (cs : List ℕ) (ms : List MessageParts) (left : List (List MessageParts)) → AreQueues i 0 counts qs → Takes qs cs ms left → length (args_of ms) ≡ received counts cs
+taken_args : (i : GroupParts) (counts : List ℕ) (qs : List (List MessageParts)) (cs : List ℕ) (ms : List MessageParts) (left : List (List MessageParts)) → AreQueues i 0 counts qs → Takes qs cs ms left → length (args_of ms) ≡ received counts cs
 taken_args i counts qs [] [] left h t = refl
 taken_args i counts qs [] (m ∷ ms) left h t = absurd t
 taken_args i counts qs (c ∷ cs) [] left h t = absurd t
@@ -92,9 +94,16 @@ continuation_draws seen i l k (name.Seen j) = go (is_count (slice_get seen j) 0)
     go false = omega arith
 continuation_draws seen i l k (name.Place a) = omega arith
 continuation_draws seen i l k (name.Chan s j h) = omega arith
+continuation_draws seen i l k (name.Num n) = omega arith
+continuation_draws seen i l k (name.Op n) = subst (λ (o : Option Became). (operated_made seen i l k n [] o).next ≤ k + 1) (sym (operated_none n)) (omega arith)
+
+-- and a move as many, or none
+moved_draws : (alive : Bool) (seen : List ℕ) (i : ℕ) (l : Loc) (k : ℕ) (cont : Name) → (moved_made alive seen i l k cont).next ≤ k + 1
+moved_draws true seen i l k cont = continuation_draws seen i l k cont
+moved_draws false seen i l k cont = omega arith
 
 module _ (p : ProgramTerms) (c : CodeParts) (ok : IsProgram p) (kept : IsCode c) (is : IsCodeOf p c) (net new : Net) (n : Numbered) (stands : Stands (rules_of_group p) net n) (runs : RunsCode p c net) where
-  abbrev rules_by : GroupInst → List NumberedRule
+  abbrev rules_by : GroupParts → List NumberedRule
   rules_by = rules_of_group p
 
   made_below : (i : ℕ) (s : Site) (most : ℕ) → slice_get net.sites i ≡ Some s → AllMade most net → s.made ≤ most
@@ -168,14 +177,15 @@ module _ (p : ProgramTerms) (c : CodeParts) (ok : IsProgram p) (kept : IsCode c)
       let from = does.go.asks.site in
       let into = does.into in
       let l = does.go.asks.request.loc in
-      let m = continuation_made net.seen j l into.made does.go.cont in
+      let alive = is_alive net.tree does.go.target in
+      let m = moved_made alive net.seen j l into.made does.go.cont in
       let left = remove l (drop_request a from) in
       let load = pack l (drop_request a from) in
       let first : Each (λ (s : Site). s.made ≤ most + 1) (slice_set net.sites i left) =
       each_set (λ (s : Site). s.made ≤ most + 1) net.sites i left (all_more most (most + 1) (omega arith) net.sites all) (omega (arith, made_below i from most does.go.asks.site_is all)) in
       subst (Each (λ (s : Site). s.made ≤ most + 1)) (sym (ap (λ (w : Net). w.sites) does.new_is))
       (each_set (λ (s : Site). s.made ≤ most + 1) (slice_set net.sites i left) j _ first
-      (omega (arith, poured_made (with_number net.tree l j) m.next [] [] (posted_of m.atoms) (take_in load into), continuation_draws net.seen j l into.made does.go.cont, made_below j into most does.into_is all)))
+      (omega (arith, poured_made (with_number net.tree l j) m.next [] [] (posted_of m.atoms) (take_in load into), moved_draws alive net.seen j l into.made does.go.cont, made_below j into most does.into_is all)))
 
   -- births are new
   bears_new : (i j k : ℕ) (e : Event) (does : Reacts c net i j k e new) → AreNew net.tree i (code_made c i does.by.guard.body (does.by.group.told.inst.env ++ args_of does.taken) does.by.group.told.inst.loc does.by.site.made).births

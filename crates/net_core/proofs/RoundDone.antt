@@ -178,7 +178,7 @@ can_all c old quota events few whole = go old.sites.items refl
         from_first j u at = let same : 0 + j ≡ j = omega arith in ap (slice_get (s ∷ ss)) same ∙ at
 
 module _ (c : CodeParts) (old new : Parts) (quota : ℕ) (es : List Event) (done : List Slot) (served : Pairwise (IsServed c old.tree (joined old.flights.items) quota) (map slot_of old.sites.items) done)
-    (worked : Each HasWork done) (sites : new.sites.items ≡ sites_of done) (tree : bare new.tree ≡ bare old.tree) (trace : joined new.trace.items ≡ joined old.trace.items ++ outs_of done)
+    (worked : Each HasWork done) (version : new.version ≡ old.version) (sites : new.sites.items ≡ sites_of done) (tree : bare new.tree ≡ bare old.tree) (trace : joined new.trace.items ≡ joined old.trace.items ++ outs_of done)
     (flights : joined new.flights.items ≡ flights_of done) (count : new.under_way ≡ length (flights_of done)) (few_flights : new.under_way < 2 ^ 32) (events_are : es ≡ events_of done) where
   abbrev fs : List Flight
   fs = joined old.flights.items
@@ -190,7 +190,7 @@ module _ (c : CodeParts) (old new : Parts) (quota : ℕ) (es : List Event) (done
   after = net_of c.seen new
 
   as_lent_net : record net { sites = sites_of done; trace = net.trace ++ outs_of done; packets = all_carried (flights_of done) } ≡ after
-  as_lent_net = same_net (record net { sites = sites_of done; trace = net.trace ++ outs_of done; packets = all_carried (flights_of done) }) after refl (sym sites) (sym tree) (sym trace) (ap all_carried (sym flights))
+  as_lent_net = same_net (record net { sites = sites_of done; trace = net.trace ++ outs_of done; packets = all_carried (flights_of done) }) after (sym version) refl (sym sites) (sym tree) (sym trace) (ap all_carried (sym flights))
 
   had_turns : (events : ℕ) → IsWhole c old events → AreTurns c quota (numbers net) (length net.packets) net es after
   had_turns events whole =

@@ -238,8 +238,8 @@ module _ (p : ProgramTerms) (c : CodeParts) (ok : IsProgram p) (kept : IsCode c)
       let later = rounds_one (budget - length first) mid new last more more2 (round_fine budget net mid first fine round) rest moved in
       (joined first first2 more more2 same.0 later.0, later.1)
 
-  pub opened_fine : Fine (opened_net c)
+  pub opened_fine : Fine (opened_net p.version c)
   opened_fine = let opened = opened_stands p c ok kept is in record { solution = opening p; stands = opened.0; runs = opened.1 }
 
 pub schedules_of_rounds_are_one : SchedulesOfRoundsAreOne
-schedules_of_rounds_are_one p c ok kept is budget es other end last one two = rounds_one p c ok kept is budget (opened_net c) end last es other (opened_fine p c ok kept is) one two
+schedules_of_rounds_are_one p c ok kept is budget es other end last one two = rounds_one p c ok kept is budget (opened_net p.version c) end last es other (opened_fine p c ok kept is) one two

@@ -1,6 +1,6 @@
 -- A pick of a site may fire exactly where the site may react by it in the network.
 use Rattle.std.proofs.Common.{◌≡◌, ℕ, zero, suc, ◌+◌, ◌<◌, ◌≤◌, List, [], ◌∷◌, ◌++◌, length, get_or, take, Option, Some, None, Bool, true, false, refl, sym, ap, ◌∙◌, subst, arith, ◌⊎◌, inl, inr}
-use Rattle.std.specs.Prelude.{slice_get, slice_index_or, nat_lt, ◌↔◌, IsTrue, not, ◌&&◌}
+use Rattle.std.specs.Prelude.{slice_get, slice_index_or, nat_lt, ◌↔◌, IsTrue, not, ◌&&◌, ◌||◌, ◌==◌}
 use Rattle.std.proofs.lemmas.Bool.Decides.{nat_tests}
 use Rattle.std.proofs.lemmas.Option.{slice_get_within, slice_get_read}
 use Rattle.chem_model.specs.Each.{Each}
@@ -9,9 +9,10 @@ use Rattle.env_store.specs.CodeParts.{CodeParts}
 use Rattle.env_store.specs.CodeFacts.{IsCode}
 use Rattle.chem_model.specs.declared.name.Loc.{Loc}
 use Rattle.loc_tree.specs.declared.tree.Spot.{Spot}
-use Rattle.loc_tree.specs.Tree.{Tree, spot, is_root, is_alive_in, is_alive, is_dead_in, is_dead, can_move, bare}
+use Rattle.loc_tree.specs.Tree.{Tree, spot, is_root, is_alive_in, is_alive, is_dead_in, is_dead, can_move, can_fall, bare}
 use Rattle.net_laws.specs.Site.{Site}
 use Rattle.net_laws.specs.Net.{Net}
+use Rattle.net_laws.specs.Moves.{may_go}
 use Rattle.net_laws.proofs.Holds.{each_get}
 use Rattle.reducer.specs.declared.pick.Pick.{Pick}
 use Rattle.reducer.specs.Picks.{Picked, Fires, MayFire}
@@ -85,10 +86,20 @@ dead_in t (Some s) = refl
 pub dead_bare : (t : Tree) (l : Loc) → is_dead (bare t) l ≡ is_dead t l
 dead_bare t l = dead_in t (spot t l)
 
-pub move_bare : (t : Tree) (l target : Loc) → can_move (bare t) l target ≡ can_move t l target
-move_bare t l target =
+goes_bare : (t : Tree) (l target : Loc) → can_move (bare t) l target ≡ can_move t l target
+goes_bare t l target =
     ap (λ b. (b && not (is_root t l)) && (is_alive (bare t) target && is_root t target)) (alive_bare t l)
     ∙ ap (λ b. (is_alive t l && not (is_root t l)) && (b && is_root t target)) (alive_bare t target)
+
+falls_bare : (t : Tree) (l target : Loc) → can_fall (bare t) l target ≡ can_fall t l target
+falls_bare t l target =
+    ap (λ b. (b && not (is_root t l)) && (is_dead (bare t) target && is_root t target)) (alive_bare t l)
+    ∙ ap (λ b. (is_alive t l && not (is_root t l)) && (b && is_root t target)) (dead_bare t target)
+
+pub move_bare : (version : ℕ) (t : Tree) (l target : Loc) → may_go version (bare t) l target ≡ may_go version t l target
+move_bare version t l target =
+    ap (λ b. b || ((version == 2) && can_fall (bare t) l target)) (goes_bare t l target)
+    ∙ ap (λ b. can_move t l target || ((version == 2) && b)) (falls_bare t l target)
 
 module _ (c : CodeParts) (t : Tree) (s : Site) where
   pub to_bare : (p : Pick) (x : Picked) → Fires c t s p x → Fires c (bare t) s p x

@@ -50,6 +50,7 @@ flights_join (s ∷ ss) rs = ap (λ xs. flights_in s.work ++ xs) (flights_join s
 pub more_back : (ss rs : List Slot) (old mid new : Parts) (es fs gs : List Event) → AreBack ss old es mid fs → AreBack rs mid fs new gs → AreBack (ss ++ rs) old es new gs
 more_back ss rs old mid new es fs gs a b = record {
   worked = Each-append HasWork ss rs a.worked b.worked;
+  version = b.version ∙ a.version;
   sites = b.sites ∙ ap (λ xs. xs ++ sites_of rs) a.sites ∙ append_assoc old.sites.items (sites_of ss) (sites_of rs) ∙ ap (λ xs. old.sites.items ++ xs) (sym (sites_join ss rs));
   tree = b.tree ∙ a.tree;
   trace = b.trace ∙ ap (λ xs. xs ++ outs_of rs) a.trace ∙ append_assoc (joined old.trace.items) (outs_of ss) (outs_of rs) ∙ ap (λ xs. joined old.trace.items ++ xs) (sym (outs_join ss rs));
@@ -60,14 +61,15 @@ more_back ss rs old mid new es fs gs a b = record {
 }
 
 -- of one slot with the work of its turn
-pub taken_back : (s : Slot) (w : Work) → s.work ≡ Some w → (old mid new : Parts) (es fs : List Event) → mid.sites.items ≡ old.sites.items ++ s.site ∷ [] → mid.tree ≡ old.tree → mid.trace ≡ old.trace → mid.flights ≡ old.flights → mid.under_way ≡ old.under_way → IsTaken w mid es new fs → AreBack (s ∷ []) old es new fs
-taken_back s w is old mid new es fs sites tree trace flights under t =
+pub taken_back : (s : Slot) (w : Work) → s.work ≡ Some w → (old mid new : Parts) (es fs : List Event) → mid.version ≡ old.version → mid.sites.items ≡ old.sites.items ++ s.site ∷ [] → mid.tree ≡ old.tree → mid.trace ≡ old.trace → mid.flights ≡ old.flights → mid.under_way ≡ old.under_way → IsTaken w mid es new fs → AreBack (s ∷ []) old es new fs
+taken_back s w is old mid new es fs version sites tree trace flights under t =
     let outs_are : outs_of (s ∷ []) ≡ w.made.outs = ap (λ o. outs_in o ++ []) is ∙ append_nil w.made.outs in
     let flights_are : flights_of (s ∷ []) ≡ w.on ++ w.made.sends = ap (λ o. flights_in o ++ []) is ∙ append_nil (w.on ++ w.made.sends) in
     let events_are : events_of (s ∷ []) ≡ w.made.events = ap (λ o. events_in o ++ []) is ∙ append_nil w.made.events in
     let few : old.under_way < 2 ^ 32 → new.under_way < 2 ^ 32 = subst (λ (n : ℕ). n < 2 ^ 32 → new.under_way < 2 ^ 32) under t.few in
     record {
       worked = ((w, is), tt);
+      version = t.version ∙ version;
       sites = t.sites ∙ sites;
       tree = t.tree ∙ tree;
       trace = t.trace ∙ ap (λ v. joined v.items ++ w.made.outs) trace ∙ ap (λ xs. joined old.trace.items ++ xs) (sym outs_are);

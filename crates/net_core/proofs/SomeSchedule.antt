@@ -7,7 +7,7 @@ use Rattle.chem_model.specs.declared.event.AtomId.{AtomId}
 use Rattle.chem_model.specs.declared.event.Event.{Event}
 use Rattle.chem_model.specs.ProgramFacts.{ProgramTerms, IsProgram}
 use Rattle.chem_model.specs.Each.{Each}
-use Rattle.wire_packet.specs.declared.packet.Request.{Request}
+use Rattle.wire_packet.specs.GroupFacts.{RequestParts}
 use Rattle.env_store.specs.CodeParts.{CodeParts}
 use Rattle.env_store.specs.CodeFacts.{IsCode}
 use Rattle.env_store.specs.Reading.{IsCodeOf}
@@ -68,7 +68,7 @@ both_empty (x ∷ xs) ys e = cc
 abbrev MeetsOne : Choice → Type 0
 MeetsOne x = (a : AtomId) × (request_of x ≡ Some a)
 
-all_meet : (qs : List Request) → Each MeetsOne (choices_for qs)
+all_meet : (qs : List RequestParts) → Each MeetsOne (choices_for qs)
 all_meet [] = tt
 all_meet (q ∷ qs) = ((q.id, choice_meets q.ask q.id), all_meet qs)
 
@@ -365,5 +365,5 @@ module _ (p : ProgramTerms) (c : CodeParts) (ok : IsProgram p) (kept : IsCode c)
 
 pub one_schedule_of_rounds : HasOneScheduleOfRounds
 one_schedule_of_rounds p c ok kept is budget =
-    let s = some_rounds p c ok kept is budget (opened_net c) (opened_fine p c ok kept is) in
+    let s = some_rounds p c ok kept is budget (opened_net p.version c) (opened_fine p c ok kept is) in
     (s.0, s.1, s.2, λ other last h. schedules_of_rounds_are_one p c ok kept is budget other s.0 last s.1 h s.2)

@@ -157,7 +157,7 @@ opened_number c t i site =
 
 -- ---- one site more
 
-module _ (c : CodeParts) (kept : IsCode c) (n : ℕ) (old : Parts) (upto : IsUpTo c n old) (site : SiteCode) (at : slice_get c.sites n ≡ Some site) (s : Site) (e : Effects) (opens : Opens c old.tree n site s e) where
+module _ (version : ℕ) (c : CodeParts) (kept : IsCode c) (n : ℕ) (old : Parts) (upto : IsUpTo version c n old) (site : SiteCode) (at : slice_get c.sites n ≡ Some site) (s : Site) (e : Effects) (opens : Opens c old.tree n site s e) where
   abbrev a : Ran
   a = site_made c n site
 
@@ -178,7 +178,7 @@ module _ (c : CodeParts) (kept : IsCode c) (n : ℕ) (old : Parts) (upto : IsUpT
       let here : AreNew (bare old.tree) n (not_in old.tree a.births) = subst (AreNew (bare old.tree) n) (not_in_bare old.tree a.births) head.0 in
       subst (AreNew (bare old.tree) n) (sym opens.births) here
 
-  module _ (new : Parts) (t : Tree) (room : bare t ≡ bare old.tree) (fits : IsOpenedFit c (with_births old.tree n e.births) s)
+  module _ (new : Parts) (t : Tree) (same : new.version ≡ old.version) (room : bare t ≡ bare old.tree) (fits : IsOpenedFit c (with_births old.tree n e.births) s)
       (sites : new.sites.items ≡ old.sites.items ++ s ∷ []) (tree : new.tree ≡ with_births t n e.births) (trace : joined new.trace.items ≡ joined old.trace.items ++ e.outs)
       (flights : joined new.flights.items ≡ joined old.flights.items ++ e.sends) (under : new.under_way ≡ old.under_way + length e.sends) (few : new.under_way < 2 ^ 32) where
     bare_tree : bare new.tree ≡ bare (with_births old.tree n e.births)
@@ -187,7 +187,7 @@ module _ (c : CodeParts) (kept : IsCode c) (n : ℕ) (old : Parts) (upto : IsUpT
     after : net_of c.seen new ≡ with_opened c n site before
     after =
         let o : opened_by c before.tree n site ≡ opened_by c old.tree n site = run_bare c old.tree a (empty_site n 1 (root_of n ∷ [])) in
-        same_net (net_of c.seen new) (with_opened c n site before) refl
+        same_net (net_of c.seen new) (with_opened c n site before) same refl
         (sites ∙ ap (λ (u : Site). old.sites.items ++ u ∷ []) (opens.site ∙ ap (λ (x : Outcome). x.site) (sym o)))
         (bare_tree ∙ sym (births_bare old.tree n e.births) ∙ ap (with_births (bare old.tree) n) (opens.births ∙ sym (not_in_bare old.tree a.births)))
         (trace ∙ ap (λ (os : List Out). joined old.trace.items ++ os) opens.outs)
@@ -218,7 +218,7 @@ module _ (c : CodeParts) (kept : IsCode c) (n : ℕ) (old : Parts) (upto : IsUpT
             let many = upto.many in
             omega arith
 
-    pub opened_next : IsUpTo c (n + 1) new
+    pub opened_next : IsUpTo version c (n + 1) new
     opened_next = record {
       rest = ap (all_opened c (n + 1) (drop (n + 1) c.sites)) after ∙ ap (λ (ss : List SiteCode). all_opened c n ss before) (sym (drop_next c.sites n site at)) ∙ upto.rest;
       new = subst (BearNew c (n + 1) (drop (n + 1) c.sites)) (sym after) head.1;
@@ -242,8 +242,8 @@ module _ (c : CodeParts) (kept : IsCode c) (n : ℕ) (old : Parts) (upto : IsUpT
               | inr last ↦ ap (λ (v : Site). v.number) (sym last.1) ∙ number_is ∙ sym (last.0 ∙ upto.many)
             ]
 
-pub has_tops : (c : CodeParts) (n : ℕ) (old : Parts) → IsUpTo c n old → HasTops c old.tree n
-has_tops c n old upto = record { there = upto.tops; no_others = λ l own h. upto.no_others l (omega arith) h }
+pub has_tops : (version : ℕ) (c : CodeParts) (n : ℕ) (old : Parts) → IsUpTo version c n old → HasTops c old.tree n
+has_tops version c n old upto = record { there = upto.tops; no_others = λ l own h. upto.no_others l (omega arith) h }
 
 -- ---- all sites
 
@@ -251,14 +251,14 @@ drop_all : {X : Type 0} (xs : List X) → drop (length xs) xs ≡ []
 drop_all [] = refl
 drop_all (x ∷ xs) = drop_all xs
 
-pub all_are_opened : (c : CodeParts) (p : Parts) → IsUpTo c (length c.sites) p → net_of c.seen p ≡ opened_net c
-all_are_opened c p h = ap (λ (ss : List SiteCode). all_opened c (length c.sites) ss (net_of c.seen p)) (sym (drop_all c.sites)) ∙ h.rest
+pub all_are_opened : (version : ℕ) (c : CodeParts) (p : Parts) → IsUpTo version c (length c.sites) p → net_of c.seen p ≡ opened_net version c
+all_are_opened version c p h = ap (λ (ss : List SiteCode). all_opened c (length c.sites) ss (net_of c.seen p)) (sym (drop_all c.sites)) ∙ h.rest
 
 -- so the network stands for the program's opening
-pub opened_whole : (q : ProgramTerms) (c : CodeParts) → IsProgram q → IsCode c → IsCodeOf q c → length c.sites < 2 ^ 32 → (p : Parts) → IsUpTo c (length c.sites) p → IsWhole c p 0
+pub opened_whole : (q : ProgramTerms) (c : CodeParts) → IsProgram q → IsCode c → IsCodeOf q c → length c.sites < 2 ^ 32 → (p : Parts) → IsUpTo q.version c (length c.sites) p → IsWhole c p 0
 opened_whole q c ok kept is few p h =
     let opened = opened_stands q c ok kept is in
-    let same = sym (all_are_opened c p h) in
+    let same = sym (all_are_opened q.version c p h) in
     record {
       running = record {
         code = kept;
@@ -277,11 +277,11 @@ opened_whole q c ok kept is few p h =
       flying = h.flying;
     }
 
-pub opened_is : (q : ProgramTerms) (c : CodeParts) → IsProgram q → IsCode c → IsCodeOf q c → (p : Parts) → IsUpTo c (length c.sites) p → Stands (rules_of_group q) (net_of c.seen p) (opening q)
-opened_is q c ok kept is p h = subst (λ (net : Net). Stands (rules_of_group q) net (opening q)) (sym (all_are_opened c p h)) (opened_stands q c ok kept is).0
+pub opened_is : (q : ProgramTerms) (c : CodeParts) → IsProgram q → IsCode c → IsCodeOf q c → (p : Parts) → IsUpTo q.version c (length c.sites) p → Stands (rules_of_group q) (net_of c.seen p) (opening q)
+opened_is q c ok kept is p h = subst (λ (net : Net). Stands (rules_of_group q) net (opening q)) (sym (all_are_opened q.version c p h)) (opened_stands q c ok kept is).0
 
-pub opened_runs : (q : ProgramTerms) (c : CodeParts) → IsProgram q → IsCode c → IsCodeOf q c → (p : Parts) → IsUpTo c (length c.sites) p → RunsCode q c (net_of c.seen p)
-opened_runs q c ok kept is p h = subst (RunsCode q c) (sym (all_are_opened c p h)) (opened_stands q c ok kept is).1
+pub opened_runs : (q : ProgramTerms) (c : CodeParts) → IsProgram q → IsCode c → IsCodeOf q c → (p : Parts) → IsUpTo q.version c (length c.sites) p → RunsCode q c (net_of c.seen p)
+opened_runs q c ok kept is p h = subst (RunsCode q c) (sym (all_are_opened q.version c p h)) (opened_stands q c ok kept is).1
 
 -- ---- before any site
 
@@ -367,9 +367,9 @@ first_alone q c is l h = go (spot (unmarked_roots (length c.sites)) l) refl (amo
     go None e true a f = among_is c.tops l a
     go None e false a f = cc
 
-pub none_opened : (q : ProgramTerms) (c : CodeParts) → IsProgram q → IsCode c → IsCodeOf q c → (p : Parts) → bare p.tree ≡ first c → p.sites.items ≡ [] → joined p.trace.items ≡ [] → joined p.flights.items ≡ [] → p.under_way ≡ 0 → IsUpTo c 0 p
-none_opened q c ok kept is p tree sites trace flights under = record {
-  rest = ap (all_opened c 0 c.sites) same;
+pub none_opened : (q : ProgramTerms) (c : CodeParts) → IsProgram q → IsCode c → IsCodeOf q c → (p : Parts) → p.version ≡ q.version → bare p.tree ≡ first c → p.sites.items ≡ [] → joined p.trace.items ≡ [] → joined p.flights.items ≡ [] → p.under_way ≡ 0 → IsUpTo p.version c 0 p
+none_opened q c ok kept is p version tree sites trace flights under = record {
+  rest = ap (all_opened c 0 c.sites) own;
   new = subst (BearNew c 0 c.sites) (sym same) (openings_bear_new q c ok kept is);
   tops = λ l h. at l ∙ first_tops c l h;
   no_others = λ l less h. first_alone q c is l (ap is_some (sym (at l)) ∙ h);
@@ -384,8 +384,11 @@ none_opened q c ok kept is p tree sites trace flights under = record {
   };
 }
   where
-    same : net_of c.seen p ≡ unopened c
-    same = same_net (net_of c.seen p) (unopened c) refl sites tree trace (ap all_carried flights)
+    own : net_of c.seen p ≡ unopened p.version c
+    own = same_net (net_of c.seen p) (unopened p.version c) refl refl sites tree trace (ap all_carried flights)
+
+    same : net_of c.seen p ≡ unopened q.version c
+    same = same_net (net_of c.seen p) (unopened q.version c) version refl sites tree trace (ap all_carried flights)
 
     at : (l : Loc) → spot p.tree l ≡ spot (first c) l
     at l = ap (λ (t : Tree). spot t l) tree

@@ -56,4 +56,4 @@ abbrev pub NoneEnabledIsQuiet : Type 0
 NoneEnabledIsQuiet =
     (p : ProgramTerms) (c : CodeParts) → IsProgram p → IsCode c → IsCodeOf p c
     → (net : Net) (n : Numbered) → Stands (rules_of_group p) net n → RunsCode p c net
-    → (IsEnabled c net → ⊥) ↔ ((net.packets ≡ []) × Quiet n.seen (erase n))
+    → (IsEnabled c net → ⊥) ↔ ((net.packets ≡ []) × Quiet n.version n.seen (erase n))

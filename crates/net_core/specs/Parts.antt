@@ -45,6 +45,7 @@ IsMessageFlight f = IsSpelledBy (packet.Message (message_in f.bytes)) f.bytes
 -- the network that these parts stand for, where so many names are observed of each declaration
 abbrev pub net_of : List ℕ → Parts → Net
 net_of seen p = record {
+  version = p.version;
   seen = seen;
   sites = p.sites.items;
   tree = bare p.tree;

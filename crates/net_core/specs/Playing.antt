@@ -55,5 +55,5 @@ ListsReplay =
 abbrev pub OpenedPlay : Type 0
 OpenedPlay =
     (p : ProgramTerms) (c : CodeParts) → IsProgram p → IsCode c → IsCodeOf p c
-    → (end : Net) (es : List Event) → DoesAll c (opened_net c) es end
+    → (end : Net) (es : List Event) → DoesAll c (opened_net p.version c) es end
     → IsPlayed p c (opening p) es end × AllMade (1048576 * (length es + 1)) end

@@ -17,4 +17,4 @@ abbrev pub IsNoneWhereQuiet : CodeParts → Net → Option Choice → Type 0
 IsNoneWhereQuiet c net next =
     (p : ProgramTerms) (n : Numbered) → IsProgram p → IsCodeOf p c
     → Stands (rules_of_group p) net n → RunsCode p c net
-    → (next ≡ None) ↔ ((net.packets ≡ []) × Quiet n.seen (erase n))
+    → (next ≡ None) ↔ ((net.packets ≡ []) × Quiet n.version n.seen (erase n))

@@ -19,16 +19,16 @@ use Rattle.net_core.specs.Scheduling.{ScheduleOfRounds}
 -- exactly as many, or nothing is under way and the machine is quiet
 pub record IsRunInRounds (p : ProgramTerms) (c : CodeParts) (budget : ℕ) (es : List Event)
     (end : Net) : Type 0 where
-  pub does : DoesAll c (opened_net c) es end
+  pub does : DoesAll c (opened_net p.version c) es end
   pub played : IsPlayed p c (opening p) es end
   pub within : length es ≤ budget
   pub ends :
       (length es ≡ budget)
-      ⊎ ((end.packets ≡ []) × Quiet played.after.seen (erase played.after))
+      ⊎ ((end.packets ≡ []) × Quiet played.after.version played.after.seen (erase played.after))
 
 -- so is each schedule of rounds
 abbrev pub RoundsReplay : Type 0
 RoundsReplay =
     (p : ProgramTerms) (c : CodeParts) → IsProgram p → IsCode c → IsCodeOf p c
     → (budget : ℕ) (es : List Event) (end : Net)
-    → ScheduleOfRounds c budget es end → IsRunInRounds p c budget es end
+    → ScheduleOfRounds p.version c budget es end → IsRunInRounds p c budget es end

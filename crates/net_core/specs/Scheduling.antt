@@ -184,22 +184,23 @@ pub data AreRounds (c : CodeParts) : ℕ → Net → List Event → Net → Type
       → (es ≡ [] → mid.packets ≡ [] → ⊥) → AreRounds c (budget - length es) mid more new
       → AreRounds c budget net (es ++ more) new
 
--- the schedule of the rounds of a program's code: its events, and the network in the end
-abbrev pub ScheduleOfRounds : CodeParts → ℕ → List Event → Net → Type 0
-ScheduleOfRounds c budget es end = AreRounds c budget (opened_net c) es end
+-- the schedule of the rounds of a program's code, of this version: its events, and the network in
+-- the end
+abbrev pub ScheduleOfRounds : ℕ → CodeParts → ℕ → List Event → Net → Type 0
+ScheduleOfRounds version c budget es end = AreRounds c budget (opened_net version c) es end
 
 -- a program's code has at most one for each budget
 abbrev pub SchedulesOfRoundsAreOne : Type 0
 SchedulesOfRoundsAreOne =
     (p : ProgramTerms) (c : CodeParts) → IsProgram p → IsCode c → IsCodeOf p c
     → (budget : ℕ) (es other : List Event) (end last : Net)
-    → ScheduleOfRounds c budget es end → ScheduleOfRounds c budget other last
+    → ScheduleOfRounds p.version c budget es end → ScheduleOfRounds p.version c budget other last
     → (es ≡ other) × (end ≡ last)
 
 -- and it has one for each
 abbrev pub HasOneScheduleOfRounds : Type 0
 HasOneScheduleOfRounds =
     (p : ProgramTerms) (c : CodeParts) → IsProgram p → IsCode c → IsCodeOf p c
-    → (budget : ℕ) → (es : List Event) × (end : Net) × ScheduleOfRounds c budget es end
+    → (budget : ℕ) → (es : List Event) × (end : Net) × ScheduleOfRounds p.version c budget es end
     × ((other : List Event) (last : Net)
-    → ScheduleOfRounds c budget other last → (other ≡ es) × (last ≡ end))
+    → ScheduleOfRounds p.version c budget other last → (other ≡ es) × (last ≡ end))

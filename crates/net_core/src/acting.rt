@@ -65,7 +65,7 @@ fn move_request(
     atom: &AtomId,
 ) -> Result<Event, Memory>
     requires whole { (events : ℕ) × IsWhole code.now parts.old events }
-    requires may { MayGoAt parts.old.tree parts.old.sites.items number atom.now }
+    requires may { MayGoAt parts.old.version parts.old.tree parts.old.sites.items number atom.now }
     ensures event { IfOk result (λ e. e ≡ event.Move atom.now) }
     ensures moves { OnOk result (Moves (net_of code.now.seen parts.old) atom.now
         (net_of code.now.seen parts.new)) }
@@ -83,12 +83,12 @@ fn move_request(
 }
 
 // The first site that has a request which the choice meets.
-fn met_by(sites: &[Site], tree: &LocTree, choice: &Choice) -> usize
+fn met_by(sites: &[Site], tree: &LocTree, version: u32, choice: &Choice) -> usize
     requires tree { Each (λ (s : site_seen). IsTrue (is_in_tree tree.now s)) sites.now }
-    requires met { (i : ℕ) × IsMet sites.now tree.now choice.now i }
-    ensures { IsMet sites.now tree.now choice.now result }
+    requires met { (i : ℕ) × IsMet version sites.now tree.now choice.now i }
+    ensures { IsMet version sites.now tree.now choice.now result }
 {
-    match meeting_site(sites, tree, choice) {
+    match meeting_site(sites, tree, version, choice) {
         Some(number) => number,
         None => unreachable!(),
     }
@@ -103,7 +103,7 @@ fn meet(
     number: usize,
 ) -> Result<Event, Memory>
     requires whole { (events : ℕ) × IsWhole code.now parts.old events }
-    requires met { IsMet parts.old.sites.items parts.old.tree choice.now number }
+    requires met { IsMet parts.old.version parts.old.sites.items parts.old.tree choice.now number }
     ensures acts { IfOk result (λ e. Acts code.now (net_of code.now.seen parts.old) choice.now
         (Some e) (net_of code.now.seen parts.new)) }
     ensures whole { OnOk result ((events : ℕ) → events < 2 ^ 32
@@ -146,7 +146,7 @@ fn make(
             Ok(None)
         }
         Choice::Move { .. } | Choice::Halt { .. } | Choice::Detect { .. } => {
-            let number = met_by(parts.sites.as_slice(), &parts.tree, choice);
+            let number = met_by(parts.sites.as_slice(), &parts.tree, parts.version, choice);
             let event = meet(alloc, parts, code, choice, number)?;
             Ok(Some(event))
         }

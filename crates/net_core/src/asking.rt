@@ -17,7 +17,8 @@ fn place_for(requests: &[Request], id: AtomId) -> usize
     ensures within { result ≤ length requests.now }
 {
     for place in 0..requests.len() {
-        if !comes_before(requests[place].id, id) {
+        let request = &requests[place];
+        if !comes_before(request.id, id) {
             return place;
         }
     }

@@ -108,7 +108,8 @@ pub(crate) fn move_here(
     atom: &AtomId,
 ) -> Result<Event, Memory>
     requires whole { (c : CodeParts) × (events : ℕ) × IsWhole c parts.old events }
-    requires may { MayMoveAt parts.old.tree parts.old.sites.items number atom.now }
+    requires may { MayMoveAt parts.old.version parts.old.tree parts.old.sites.items number
+        atom.now }
     ensures event { IfOk result (λ e. e ≡ event.Move atom.now) }
     ensures moves { OnOk result (Moves (net_of counts.now parts.old) atom.now
         (net_of counts.now parts.new)) }
@@ -140,7 +141,8 @@ pub(crate) fn move_over(
     atom: &AtomId,
 ) -> Result<Event, Memory>
     requires whole { (events : ℕ) × IsWhole code.now parts.old events }
-    requires may { MayCrossAt parts.old.tree parts.old.sites.items from into atom.now }
+    requires may { MayCrossAt parts.old.version parts.old.tree parts.old.sites.items from into
+        atom.now }
     ensures event { IfOk result (λ e. e ≡ event.Move atom.now) }
     ensures moves { OnOk result (Moves (net_of code.now.seen parts.old) atom.now
         (net_of code.now.seen parts.new)) }

@@ -23,7 +23,7 @@ pub(crate) fn move_at(
     number: usize,
     atom: &AtomId,
 ) -> Result<Effects, Memory>
-    requires may { MayMoveAt tree.old sites.old number atom.now }
+    requires may { MayMoveAt 2 tree.old sites.old number atom.now }
     requires fit { (c : CodeParts) × AllFit c tree.old sites.old }
     ensures ok { IfOk result (λ effects. (s : site_seen) → slice_get sites.old number ≡ Some s
         → MovesAt counts.now tree.old tree.new number atom.now s sites.old sites.new effects) }
@@ -46,7 +46,7 @@ pub(crate) fn cross(
     into: usize,
     atom: &AtomId,
 ) -> Result<Effects, Memory>
-    requires may { MayCrossAt tree.old sites.old from into atom.now }
+    requires may { MayCrossAt 2 tree.old sites.old from into atom.now }
     requires fit { AllFit code.now tree.old sites.old }
     requires numbered { AreNumbered sites.old }
     ensures ok { IfOk result (λ effects. (s u : site_seen) → slice_get sites.old from ≡ Some s

@@ -19,8 +19,8 @@ use std::alloc::Global;
 use std::marker::Model;
 
 /// A network of sites that run the code of a program: what contracts see of it is the code, the
-/// network, with the packets under way as the messages that they spell, and the number of events so
-/// far.
+/// network, with the version of the program and with the packets under way as the messages that
+/// they spell, and the number of events so far.
 ///
 /// Each network keeps the facts of `IsWhole`: its code is a program's, and it stands for some
 /// sound numbered solution; each site meets what its calls need; no site has made more than
@@ -92,6 +92,7 @@ impl Net {
         is_enabled(
             self.parts.sites.as_slice(),
             &self.parts.tree,
+            self.parts.version,
             &self.code,
             self.parts.under_way,
             choice,
@@ -110,6 +111,7 @@ impl Net {
         next_choice(
             self.parts.sites.as_slice(),
             &self.parts.tree,
+            self.parts.version,
             &self.code,
             self.parts.under_way,
         )

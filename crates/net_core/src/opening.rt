@@ -1,6 +1,7 @@
 // The opening of a network.
-ghost use Rattle.std.specs.Prelude.{◌≡◌, ◌+◌, ◌<◌, length, IfOk, OnOk};
+ghost use Rattle.std.specs.Prelude.{◌≡◌, ℕ, ◌+◌, ◌<◌, length, IfOk, OnOk};
 ghost use Rattle.chem_model.specs.Opening.{opening};
+ghost use Rattle.chem_model.specs.ProgramFacts.{ProgramTerms, IsProgram};
 ghost use Rattle.env_store.specs.Reading.{IsCodeOf};
 ghost use Rattle.env_store.specs.Laws.{rules_of_group};
 ghost use Rattle.loc_tree.specs.Tree.{bare};
@@ -47,8 +48,9 @@ fn hand_out(alloc: Global, parts: &mut Parts, effects: Effects, number: u32) -> 
 fn open_site(alloc: Global, parts: &mut Parts, code: &Code, number: u32) -> Result<(), Memory>
     requires program { IsOfProgram code.now }
     requires number { number < length code.now.sites }
-    requires before { IsUpTo code.now number parts.old }
-    ensures { OnOk result (IsUpTo code.now (number + 1) parts.new) }
+    requires before { (version : ℕ) × IsUpTo version code.now number parts.old }
+    ensures { OnOk result ((version : ℕ) → IsUpTo version code.now number parts.old
+        → IsUpTo version code.now (number + 1) parts.new) }
 {
     let _tops = &code.tops;
     let (site, effects) = opening(alloc, code, &parts.tree, number)?;
@@ -67,8 +69,9 @@ fn open_site(alloc: Global, parts: &mut Parts, code: &Code, number: u32) -> Resu
 // Opens each site, in order.
 fn open_each(alloc: Global, parts: &mut Parts, code: &Code) -> Result<(), Memory>
     requires program { IsOfProgram code.now }
-    requires none { IsUpTo code.now 0 parts.old }
-    ensures { OnOk result (IsUpTo code.now (length code.now.sites) parts.new) }
+    requires none { (version : ℕ) × IsUpTo version code.now 0 parts.old }
+    ensures { OnOk result ((version : ℕ) → IsUpTo version code.now 0 parts.old
+        → IsUpTo version code.now (length code.now.sites) parts.new) }
 {
     for number in 0..code.sites.len() as u32 {
         open_site(alloc, parts, code, number)?;
@@ -76,14 +79,15 @@ fn open_each(alloc: Global, parts: &mut Parts, code: &Code) -> Result<(), Memory
     Ok(())
 }
 
-// The parts of the network in which all sites are opened.
-fn open_all(alloc: Global, code: &Code) -> Result<Parts, Memory>
-    requires { IsOfProgram code.now }
-    ensures { IfOk result (λ parts. IsUpTo code.now (length code.now.sites) parts) }
+// The parts of the network of this version in which all sites are opened.
+fn open_all(alloc: Global, version: u32, code: &Code) -> Result<Parts, Memory>
+    requires { (p : ProgramTerms) × IsProgram p × IsCodeOf p code.now × (version ≡ p.version) }
+    ensures { IfOk result (λ parts. IsUpTo version code.now (length code.now.sites) parts) }
 {
     let _known = &code.tops;
     let tree = first_tree(alloc, code)?;
     let mut parts = Parts {
+        version,
         sites: Vec::new(alloc),
         tree,
         trace: Vec::new(alloc),
@@ -101,10 +105,11 @@ fn open_all(alloc: Global, code: &Code) -> Result<Parts, Memory>
 
 impl Net {
     /// The network of a program's code before any event: each site is opened, in order, and the
-    /// packets under way are what the openings send. It stands for the program's opening.
+    /// packets under way are what the openings send. Its version is the program's, and it stands
+    /// for the program's opening.
     pub fn start(alloc: Global, program: &Program, code: &Code) -> Result<Net, Memory>
         requires { IsCodeOf program.now code.now }
-        ensures opened { IfOk result (λ net. net.net ≡ opened_net code.now) }
+        ensures opened { IfOk result (λ net. net.net ≡ opened_net program.now.version code.now) }
         ensures code { IfOk result (λ net. net.code ≡ code.now) }
         ensures events { IfOk result (λ net. net.events ≡ 0) }
         ensures stands { IfOk result (λ net.
@@ -113,7 +118,7 @@ impl Net {
     {
         let _tops = &program.tops;
         let _known = &code.tops;
-        let parts = open_all(alloc, code)?;
+        let parts = open_all(alloc, program.version, code)?;
         match code.copy(alloc) {
             Ok(code) => Ok(Net {
                 code,

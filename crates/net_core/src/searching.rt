@@ -2,7 +2,7 @@
 ghost use Rattle.std.specs.Prelude.{◌≡◌, ℕ, ◌<◌, ◌^◌, ◌↔◌, length, slice_get, Some};
 ghost use Rattle.std.specs.Prelude.{IfSome, IfNone, IsTrue, true};
 ghost use Rattle.chem_model.specs.Each.{Each};
-ghost use Rattle.wire_packet.specs.declared.packet.Request.{Request};
+ghost use Rattle.wire_packet.specs.GroupFacts.{RequestParts};
 ghost use Rattle.env_store.specs.CodeParts.{CodeParts};
 ghost use Rattle.net_laws.specs.Site.{Site};
 ghost use Rattle.net_laws.specs.Net.{Net};
@@ -83,13 +83,13 @@ pub(crate) fn opening_of(sites: &[Site], tree: &LocTree, code: &Code, number: u3
 
 // ---- requests
 
-// Whether the choice meets a request of the site.
-fn meets(site: &Site, tree: &LocTree, choice: &Choice) -> bool
+// Whether the choice meets a request of the site, in a network of this version.
+fn meets(site: &Site, tree: &LocTree, version: u32, choice: &Choice) -> bool
     requires { IsTrue (is_in_tree tree.now site.now) }
-    ensures { result ≡ meets tree.now choice.now site.now }
+    ensures { result ≡ meets version tree.now choice.now site.now }
 {
     match *choice {
-        Choice::Move { atom } => move_ready(site, tree, &atom),
+        Choice::Move { atom } => move_ready(site, tree, version, &atom),
         Choice::Halt { atom } => halt_ready(site, tree, &atom),
         Choice::Detect { atom } => dead_for(site, tree, &atom).is_some(),
         Choice::React { .. } | Choice::Deliver { .. } => false,
@@ -97,13 +97,19 @@ fn meets(site: &Site, tree: &LocTree, choice: &Choice) -> bool
 }
 
 // The first site that has a request which the choice meets.
-pub(crate) fn meeting_site(sites: &[Site], tree: &LocTree, choice: &Choice) -> Option<usize>
+pub(crate) fn meeting_site(
+    sites: &[Site],
+    tree: &LocTree,
+    version: u32,
+    choice: &Choice,
+) -> Option<usize>
     requires { Each (λ (s : Site). IsTrue (is_in_tree tree.now s)) sites.now }
-    ensures none { IfNone result (NoneMeets sites.now tree.now choice.now (length sites.now)) }
-    ensures some { IfSome result (IsMet sites.now tree.now choice.now) }
+    ensures none { IfNone result
+        (NoneMeets version sites.now tree.now choice.now (length sites.now)) }
+    ensures some { IfSome result (IsMet version sites.now tree.now choice.now) }
 {
     for number in 0..sites.len() {
-        if meets(&sites[number], tree, choice) {
+        if meets(&sites[number], tree, version, choice) {
             return Some(number);
         }
     }
@@ -123,15 +129,15 @@ pub(crate) fn choice_for(request: &Request) -> Choice
 }
 
 // Of the requests of a site that may be met the one with the least id.
-fn least_at(site: &Site, tree: &LocTree) -> Option<Request>
+fn least_at(site: &Site, tree: &LocTree, version: u32) -> Option<Request>
     requires { IsTrue (is_in_tree tree.now site.now) }
-    ensures none { IfNone result ((r : Request) → IsMeetable tree.now site.now r → ⊥) }
-    ensures some { IfSome result (IsLeastAt tree.now site.now) }
+    ensures none { IfNone result ((r : RequestParts) → IsMeetable version tree.now site.now r → ⊥) }
+    ensures some { IfSome result (IsLeastAt version tree.now site.now) }
 {
     site_is_kept(site);
     let mut index = 0;
     while let Some(request) = site.request_at(index) {
-        if meets(site, tree, &choice_for(request)) {
+        if meets(site, tree, version, &choice_for(request)) {
             return Some(*request);
         }
         index += 1;
@@ -163,13 +169,13 @@ fn lesser(best: Option<Request>, other: Option<Request>) -> Option<Request>
 }
 
 // Of the requests of all sites that may be met the one with the least id.
-fn least_request(sites: &[Site], tree: &LocTree) -> Option<Request>
+fn least_request(sites: &[Site], tree: &LocTree, version: u32) -> Option<Request>
     requires { Each (λ (s : Site). IsTrue (is_in_tree tree.now s)) sites.now }
-    ensures { IsLeast sites.now tree.now (length sites.now) result }
+    ensures { IsLeast version sites.now tree.now (length sites.now) result }
 {
     let mut best: Option<Request> = None;
     for number in 0..sites.len() {
-        best = lesser(best, least_at(&sites[number], tree));
+        best = lesser(best, least_at(&sites[number], tree, version));
     }
     best
 }
@@ -180,33 +186,34 @@ fn least_request(sites: &[Site], tree: &LocTree) -> Option<Request>
 pub(crate) fn is_enabled(
     sites: &[Site],
     tree: &LocTree,
+    version: u32,
     code: &Code,
     packets: u32,
     choice: &Choice,
 ) -> bool
     requires tree { Each (λ (s : Site). IsTrue (is_in_tree tree.now s)) sites.now }
     requires code { Each (λ (s : Site). IsTrue (is_in_code code.now tree.now s)) sites.now }
-    ensures { (net : Net) → HasSites sites.now tree.now net → length net.packets ≡ packets
-        → (IsTrue result ↔ Allows code.now net choice.now) }
+    ensures { (net : Net) → HasSites sites.now tree.now net → net.version ≡ version
+        → length net.packets ≡ packets → (IsTrue result ↔ Allows code.now net choice.now) }
 {
     match choice {
         Choice::React { site, pick } => may_react(sites, tree, code, *site, pick),
         Choice::Deliver { flight } => *flight < packets,
         Choice::Move { .. } | Choice::Halt { .. } | Choice::Detect { .. } => {
-            meeting_site(sites, tree, choice).is_some()
+            meeting_site(sites, tree, version, choice).is_some()
         }
     }
 }
 
 // The choice that meets the request with the least id.
-fn first_request(sites: &[Site], tree: &LocTree) -> Option<Choice>
+fn first_request(sites: &[Site], tree: &LocTree, version: u32) -> Option<Choice>
     requires { Each (λ (s : Site). IsTrue (is_in_tree tree.now s)) sites.now }
     ensures none { IfNone result ((c : CodeParts) (net : Net) → HasSites sites.now tree.now net
-        → NoneMeetsAny c net) }
+        → net.version ≡ version → NoneMeetsAny c net) }
     ensures some { IfSome result (λ x. (c : CodeParts) (net : Net)
-        → HasSites sites.now tree.now net → IsFirstMeeting c net x) }
+        → HasSites sites.now tree.now net → net.version ≡ version → IsFirstMeeting c net x) }
 {
-    match least_request(sites, tree) {
+    match least_request(sites, tree, version) {
         Some(request) => Some(choice_for(&request)),
         None => None,
     }
@@ -216,6 +223,7 @@ fn first_request(sites: &[Site], tree: &LocTree) -> Option<Choice>
 pub(crate) fn next_choice(
     sites: &[Site],
     tree: &LocTree,
+    version: u32,
     code: &Code,
     packets: u32,
 ) -> Option<Choice>
@@ -223,9 +231,10 @@ pub(crate) fn next_choice(
     requires code { Each (λ (s : Site). IsTrue (is_in_code code.now tree.now s)) sites.now }
     requires few { length sites.now < 2 ^ 32 }
     ensures none { IfNone result ((net : Net) → HasSites sites.now tree.now net
-        → length net.packets ≡ packets → (x : Choice) → Allows code.now net x → ⊥) }
+        → net.version ≡ version → length net.packets ≡ packets
+        → (x : Choice) → Allows code.now net x → ⊥) }
     ensures some { IfSome result (λ x. (net : Net) → HasSites sites.now tree.now net
-        → length net.packets ≡ packets → IsNext code.now net x) }
+        → net.version ≡ version → length net.packets ≡ packets → IsNext code.now net x) }
 {
     if packets > 0 {
         return Some(Choice::Deliver { flight: 0 });
@@ -233,5 +242,5 @@ pub(crate) fn next_choice(
     if let Some((site, pick)) = first_reaction(sites, tree, code) {
         return Some(Choice::React { site, pick });
     }
-    first_request(sites, tree)
+    first_request(sites, tree, version)
 }

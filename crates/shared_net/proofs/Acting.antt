@@ -8,9 +8,10 @@ use Rattle.chem_model.specs.Each.{Each}
 use Rattle.wire_packet.specs.declared.packet.Ask.{Ask}
 use Rattle.wire_packet.specs.declared.packet.Ask.TheVariants as request
 use Rattle.env_store.specs.CodeParts.{CodeParts}
-use Rattle.loc_tree.specs.Tree.{Tree, with_room}
+use Rattle.loc_tree.specs.Tree.{Tree, is_alive, with_room}
 use Rattle.net_laws.specs.Site.{Site}
-use Rattle.net_laws.specs.Meeting.{continuation_made, sent_here}
+use Rattle.net_laws.specs.Moves.{continuation_made, moved_made}
+use Rattle.net_laws.specs.Meeting.{sent_here}
 use Rattle.net_laws.specs.Holding.{drop_request}
 use Rattle.net_laws.specs.Opened.{AreNew}
 use Rattle.net_laws.specs.Posting.{Outcome}
@@ -111,7 +112,7 @@ module _ (seen : List ℕ) (t : Tree) (s : Site) (a : AtomId) (u : Tree) (new : 
 module _ (seen : List ℕ) (t : Tree) (from into : Site) (a : AtomId) (u : Tree) (left new : Site) (e : Effects) where
   pub crossing_sent : (turn : Turn) → AfterCrossing turn seen t from into a u left new e → Each IsMessageFlight e.sends
   crossing_sent (Did place) h =
-      let made = continuation_made seen into.number h.asked.loc into.made h.cont in
+      let made = moved_made (is_alive t h.target) seen into.number h.asked.loc into.made h.cont in
       are_message_flights (sent_here u made (take_in (pack h.asked.loc (drop_request a from)) into)).sends e.sends h.answers.sends
   crossing_sent NotEnabled h = none_sent e h.0.none
   crossing_sent Nothing h = none_sent e h.0.none

@@ -5,7 +5,7 @@ use Rattle.chem_model.specs.declared.event.AtomId.{AtomId}
 use Rattle.chem_model.specs.declared.event.Event.{Event}
 use Rattle.wire_packet.specs.declared.packet.Ask.{Ask}
 use Rattle.wire_packet.specs.declared.packet.Ask.TheVariants as request
-use Rattle.wire_packet.specs.declared.packet.Request.{Request}
+use Rattle.wire_packet.specs.GroupFacts.{RequestParts}
 use Rattle.env_store.specs.CodeParts.{CodeParts}
 use Rattle.loc_tree.specs.Tree.{Tree}
 use Rattle.net_laws.specs.Site.{Site}
@@ -18,26 +18,27 @@ use Rattle.shared_net.specs.declared.choosing.Chosen.TheVariants as choice
 use Rattle.shared_net.specs.declared.turn.Turn.{Turn}
 use Rattle.shared_net.specs.declared.turn.Turn.TheVariants.{Did}
 use Rattle.shared_net.specs.Passes.{PassKept}
-use Rattle.shared_net.specs.Choosing.{may_meet, IsLeastMet, IsToGo}
+use Rattle.shared_net.specs.Choosing.{may_meet, IsToGo}
 use Rattle.shared_net.specs.Offers.{Offers}
 use Rattle.shared_net.specs.Making.{event_for, IsEventOf, FitsHere, AfterAsk}
 use Rattle.shared_net.proofs.Requests.{asked_there, one_member}
 use Rattle.shared_net.proofs.Choices.{can_go_now}
 use Rattle.shared_net.proofs.Offering.{offers_as, made_fits}
 
-module _ (t : Tree) (s : Site) (a : AtomId) (least : IsLeastMet t s a) where
+-- it may be met, in version 2 at least
+module _ (t : Tree) (s : Site) (a : AtomId) (met : may_meet 2 t s a ≡ true) where
   pub is_asked : IsSome (request_with a s.requests)
-  is_asked = ap is_some (asked_there t s a least.met).1
+  is_asked = ap is_some (asked_there 2 t s a met).1
 
-  module _ (q : Request) (here : request_with a s.requests ≡ Some q) where
+  module _ (q : RequestParts) (here : request_with a s.requests ≡ Some q) where
     own : q.id ≡ a
     own = request_id s.requests a q here
 
     pub own_here : request_with q.id s.requests ≡ Some q
     own_here = ap (λ (i : AtomId). request_with i s.requests) own ∙ here
 
-    pub own_met : may_meet t s q.id ≡ true
-    own_met = ap (may_meet t s) own ∙ least.met
+    pub own_met : may_meet 2 t s q.id ≡ true
+    own_met = ap (may_meet 2 t s) own ∙ met
 
     pub ask_event : (c : CodeParts) (e : Event) → e ≡ event_for q.ask q.id → IsEventOf c s (choice.Ask a) e
     ask_event c e is = (q, (here, is ∙ ap (event_for q.ask) own))
@@ -49,18 +50,18 @@ module _ (t : Tree) (s : Site) (a : AtomId) (least : IsLeastMet t s a) where
       pub ask_fits : (place : ℕ) → turn ≡ Did place → FitsHere s (event_for q.ask q.id)
       ask_fits place at = test.0 (made_fits old held e fits turn place new after offered at)
 
-    pub ask_does : (turn : Turn) (counts seen : List ℕ) (u : Tree) (new : Site) (e : Effects) → counts ≡ seen → AfterAsk turn q.ask counts t s q.id u new e → (r : Request) → request_with a s.requests ≡ Some r → AfterAsk turn r.ask seen t s a u new e
+    pub ask_does : (turn : Turn) (counts seen : List ℕ) (u : Tree) (new : Site) (e : Effects) → counts ≡ seen → AfterAsk turn q.ask counts t s q.id u new e → (r : RequestParts) → request_with a s.requests ≡ Some r → AfterAsk turn r.ask seen t s a u new e
     ask_does turn counts seen u new e same h r there =
         let is : q ≡ r = one_member (request_with a s.requests) q r here there in
-        subst (λ (x : Request). AfterAsk turn x.ask seen t s a u new e) is
+        subst (λ (x : RequestParts). AfterAsk turn x.ask seen t s a u new e) is
         (subst (λ (i : AtomId). AfterAsk turn q.ask seen t s i u new e) own
         (subst (λ (ns : List ℕ). AfterAsk turn q.ask ns t s q.id u new e) same h))
 
   -- ---- and one to go
 
   module _ (goes : IsToGo a s) where
-    pub go_can : can_go t a s ≡ true
-    go_can = can_go_now t s a goes.asked goes.here least.met goes.target goes.cont goes.asks
+    pub go_can : can_go 2 t a s ≡ true
+    go_can = can_go_now 2 t s a goes.asked goes.here met goes.target goes.cont goes.asks
 
     pub go_event : (c : CodeParts) (e : Event) → e ≡ event_for (request.Go goes.target goes.cont) a → IsEventOf c s (choice.Ask a) e
     go_event c e is = (goes.asked, (goes.here, is ∙ ap (λ (v : Ask). event_for v a) (sym goes.asks)))

@@ -1,5 +1,5 @@
 -- Proposals of events that may not fit.
-use Rattle.std.proofs.Common.{◌≡◌, ℕ, ◌<◌, length, refl, ap, ◌∙◌, subst, arith, ◌⊎◌, inl, inr}
+use Rattle.std.proofs.Common.{◌≡◌, ℕ, length, refl, ap, ◌∙◌, subst, arith, ◌⊎◌, inl, inr}
 use Rattle.chem_model.specs.declared.event.Event.{Event}
 use Rattle.trace_history.specs.Kept.{BookKept}
 use Rattle.shared_net.specs.declared.turn.Turn.{Turn}

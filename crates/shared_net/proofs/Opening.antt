@@ -219,7 +219,7 @@ none_spelled mails h i mail at = subst (AreSpelled []) (sym (each_get (λ (m : L
 
 pub none_opened : (q : ProgramTerms) (c : CodeParts) → IsProgram q → IsCode c → IsCodeOf q c → (ss : List Site) (t : Tree) (ms : List (List (List ℕ))) → ss ≡ [] → bare t ≡ with_tops (unmarked_roots (length c.sites)) c.tops → length ms ≡ length c.sites → Each (λ mail. mail ≡ []) ms → IsUpTo c 0 ss t ms
 none_opened q c ok kept is ss t ms sites tree boxes none = record {
-  net = unopened c;
+  net = unopened q.version c;
   rest = refl;
   new = openings_bear_new q c ok kept is;
   sites_are = sites;
@@ -230,10 +230,16 @@ none_opened q c ok kept is ss t ms sites tree boxes none = record {
   many = ap length sites;
 }
 
-pub all_are_opened : (c : CodeParts) (n : ℕ) (ss : List Site) (t : Tree) (ms : List (List (List ℕ))) → n ≡ length c.sites → IsUpTo c n ss t ms → IsOpenedAs c t ss ms
-all_are_opened c n ss t ms end h =
+-- the version is nothing to an opening
+opened_as : (c : CodeParts) (i : ℕ) (sites : List SiteCode) (net : Net) (version : ℕ) → all_opened c i sites (record net { version = version }) ≡ record (all_opened c i sites net) { version = version }
+opened_as c i [] net version = refl
+opened_as c i (site ∷ sites) net version = opened_as c (i + 1) sites (with_opened c i site net) version
+
+pub all_are_opened : (c : CodeParts) (n : ℕ) (ss : List Site) (t : Tree) (ms : List (List (List ℕ))) → n ≡ length c.sites → IsUpTo c n ss t ms → (version : ℕ) → IsOpenedAs version c t ss ms
+all_are_opened c n ss t ms end h version =
     let past : drop n c.sites ≡ [] = ap (λ k. drop k c.sites) end ∙ drop_all c.sites in
-    let all : h.net ≡ opened_net c = ap (λ (sites : List SiteCode). all_opened c n sites h.net) (sym past) ∙ h.rest in
+    let own : h.net ≡ opened_net h.net.version c = ap (λ (sites : List SiteCode). all_opened c n sites h.net) (sym past) ∙ h.rest in
+    let all : record h.net { version = version } ≡ opened_net version c = ap (λ (net : Net). record net { version = version }) own ∙ sym (opened_as c 0 c.sites (unopened h.net.version c) version) in
     record {
       tree = subst (λ (net : Net). IsSameTree net.tree t) all h.tree;
       sites_are = h.sites_are ∙ ap (λ (net : Net). net.sites) all;

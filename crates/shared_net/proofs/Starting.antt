@@ -16,8 +16,8 @@ opened_long c i (site ∷ sites) net =
     let rest = opened_long c (i + 1) sites (with_opened c i site net) in
     omega (arith, rest, length-append net.sites ((opened_by c net.tree i site).site ∷ []))
 
-pub sites_long : (p : ProgramTerms) (c : CodeParts) (t : Tree) (sites : List Site) (mails : List (List (List ℕ))) → IsCodeOf p c → IsOpenedAs c t sites mails → length sites ≡ length p.sites
+pub sites_long : (p : ProgramTerms) (c : CodeParts) (t : Tree) (sites : List Site) (mails : List (List (List ℕ))) → IsCodeOf p c → IsOpenedAs p.version c t sites mails → length sites ≡ length p.sites
 sites_long p c t sites mails code opened =
-    let none : length (unopened c).sites ≡ 0 = refl in
-    let all = opened_long c 0 c.sites (unopened c) in
+    let none : length (unopened p.version c).sites ≡ 0 = refl in
+    let all = opened_long c 0 c.sites (unopened p.version c) in
     omega (arith, ap length opened.sites_are, all, none, code.no_other_sites)

@@ -1,9 +1,9 @@
 -- What a site does next.
-use Rattle.std.specs.Prelude.{◌≡◌, Bool, true, false, ◌||◌, Some, is_some, IsTrue}
+use Rattle.std.specs.Prelude.{◌≡◌, ℕ, Bool, true, false, ◌||◌, Some, is_some, IsTrue}
 use Rattle.chem_model.specs.declared.name.Name.{Name}
 use Rattle.chem_model.specs.declared.event.AtomId.{AtomId}
 use Rattle.wire_packet.specs.declared.packet.Ask.TheVariants as request
-use Rattle.wire_packet.specs.declared.packet.Request.{Request}
+use Rattle.wire_packet.specs.GroupFacts.{RequestParts}
 use Rattle.env_store.specs.CodeParts.{CodeParts}
 use Rattle.loc_tree.specs.Tree.{Tree}
 use Rattle.net_laws.specs.Site.{Site}
@@ -28,22 +28,22 @@ pub record CanAct (c : CodeParts) (t : Tree) (s : Site) : Type 0 where
 
 -- ---- requests
 
--- the site has a request with this id, and the rule for it lets it be met: to go, to halt, or to
--- detect a failure
-abbrev pub may_meet : Tree → Site → AtomId → Bool
-may_meet t s a = can_go t a s || (can_halt t a s || is_some (dead_for t a s))
+-- the site has a request with this id, and the rule for it lets it be met in a program of this
+-- version: to go, to halt, or to detect a failure
+abbrev pub may_meet : ℕ → Tree → Site → AtomId → Bool
+may_meet version t s a = can_go version t a s || (can_halt t a s || is_some (dead_for t a s))
 
-abbrev pub NoneMeets : Tree → Site → Type 0
-NoneMeets t s = (b : AtomId) → may_meet t s b ≡ false
+abbrev pub NoneMeets : ℕ → Tree → Site → Type 0
+NoneMeets version t s = (b : AtomId) → may_meet version t s b ≡ false
 
 -- of those that may be met it has the least id
-pub record IsLeastMet (t : Tree) (s : Site) (a : AtomId) : Type 0 where
-  pub met : may_meet t s a ≡ true
-  pub least : (b : AtomId) → may_meet t s b ≡ true → precedes b a ≡ false
+pub record IsLeastMet (version : ℕ) (t : Tree) (s : Site) (a : AtomId) : Type 0 where
+  pub met : may_meet version t s a ≡ true
+  pub least : (b : AtomId) → may_meet version t s b ≡ true → precedes b a ≡ false
 
 -- the request asks to go
 pub record IsToGo (a : AtomId) (s : Site) : Type 0 where
-  pub asked : Request
+  pub asked : RequestParts
   pub target : Name
   pub cont : Name
   pub here : request_with a s.requests ≡ Some asked
@@ -51,12 +51,17 @@ pub record IsToGo (a : AtomId) (s : Site) : Type 0 where
 
 -- ---- choices
 
--- the reaction that is ready; where none is, the request with the least id that may be met; and
--- nothing where there is neither, or where the site hasn't what the calls need
-abbrev pub Chooses : CodeParts → Tree → Site → Chosen → Type 0
-Chooses c t s (chosen.Pick p) = CanAct c t s × IsReady c t s p
-Chooses c t s (chosen.Ask a) = CanAct c t s × (NoneFires c t s × IsLeastMet t s a)
-Chooses c t s chosen.Nothing = CanAct c t s → NoneFires c t s × NoneMeets t s
+-- the reaction that is ready, whatever the version
+abbrev pub ChoosesPick : CodeParts → Tree → Site → Pick → Type 0
+ChoosesPick c t s p = CanAct c t s × IsReady c t s p
+
+-- where none is ready, the request with the least id that may be met; and nothing where there is
+-- neither, or where the site hasn't what the calls need
+abbrev pub Chooses : ℕ → CodeParts → Tree → Site → Chosen → Type 0
+Chooses version c t s (chosen.Pick p) = ChoosesPick c t s p
+Chooses version c t s (chosen.Ask a) =
+    CanAct c t s × (NoneFires c t s × IsLeastMet version t s a)
+Chooses version c t s chosen.Nothing = CanAct c t s → NoneFires c t s × NoneMeets version t s
 
 -- the guard of the pick opens no location
 abbrev pub OpensNone : CodeParts → Site → Pick → Type 0

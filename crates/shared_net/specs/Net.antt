@@ -1,13 +1,17 @@
 -- What contracts see of a shared network. What stands behind its locks no clause can name.
-use Rattle.std.specs.Prelude.{ℕ, refl}
+use Rattle.std.specs.Prelude.{ℕ, ◌<◌, ◌≤◌, refl}
 use Rattle.std.specs.Coded.{Coded, code_by, coded×, coded_ℕ}
-use Rattle.chem_model.specs.ProgramFacts.{ProgramTerms}
+use Rattle.chem_model.specs.ProgramFacts.{ProgramTerms, most_sites}
 use Rattle.chem_model.specs.ProgramCode.{program_code}
 
 pub record NetKept : Type 0 where
   pub program : ProgramTerms
   pub budget : ℕ
   pub sites : ℕ
+
+-- a program may have so many sites, by the version that allows more
+abbrev pub IsCountOfSites : ℕ → Type 0
+IsCountOfSites count = (0 < count) × (count ≤ most_sites 2)
 
 abbrev pub net_code : Coded NetKept
 net_code =

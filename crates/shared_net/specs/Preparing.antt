@@ -20,11 +20,11 @@ IsMailOf ps mails =
     (i : ℕ) (mail : List (List ℕ)) → slice_get mails i ≡ Some mail
     → AreSpelled (messages_to i ps) mail
 
--- sites and tree are those of the network that the code opens, and what the openings send is the
--- mail of the sites, one mail for each
-pub record IsOpenedAs (c : CodeParts) (t : Tree) (sites : List Site)
+-- sites and tree are those of the network that the code opens for a program of this version, and
+-- what the openings send is the mail of the sites, one mail for each
+pub record IsOpenedAs (version : ℕ) (c : CodeParts) (t : Tree) (sites : List Site)
     (mails : List (List (List ℕ))) : Type 0 where
-  pub tree : IsSameTree (opened_net c).tree t
-  pub sites_are : sites ≡ (opened_net c).sites
+  pub tree : IsSameTree (opened_net version c).tree t
+  pub sites_are : sites ≡ (opened_net version c).sites
   pub boxes : length mails ≡ length sites
-  pub mail : IsMailOf (opened_net c).packets mails
+  pub mail : IsMailOf (opened_net version c).packets mails

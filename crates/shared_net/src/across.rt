@@ -44,7 +44,7 @@ fn after_crossing(
     turn: Turn,
 ) -> Result<Effects, Memory>
     requires act { CanAct code.now tree.old site.old }
-    requires goes { can_go tree.old atom.now site.old ≡ true }
+    requires goes { can_go 2 tree.old atom.now site.old ≡ true }
     requires fits { (place : ℕ) → turn ≡ turns.Did place
         → FitsAcross code.now tree.old site.old into.old atom.now }
     ensures after { IfOk result (AfterCrossing turn code.now.seen tree.old site.old into.old
@@ -68,9 +68,8 @@ fn after_crossing(
 /// site, which can take the request's location in, and the book has it possible. Where it isn't
 /// possible, the request is dropped.
 ///
-/// The program is for rules that depend on its version. There is none so far. Where there is no
-/// memory, both sites and the tree stay; either no event was made, or one was, and the pass has
-/// exactly its receipt.
+/// The program is the one with which the site chose. Where there is no memory, both sites and the
+/// tree stay; either no event was made, or one was, and the pass has exactly its receipt.
 pub fn make_across<L: Run>(
     alloc: Global,
     site: &mut Site,
@@ -82,7 +81,8 @@ pub fn make_across<L: Run>(
     pass: &mut Pass<L>,
     atom: &AtomId,
 ) -> Result<Made, Memory>
-    requires chosen { Chooses code.now tree.old site.old (choice.Ask atom.now) }
+    requires chosen { Chooses program.now.version code.now tree.old site.old
+        (choice.Ask atom.now) }
     requires goes { IsToGo atom.now site.old }
     ensures made { IfOk result (λ made. MakesAcross code.now tree.old site.old into.old atom.now
         locked.old.book pass.old made tree.new site.new into.new locked.new.book pass.new) }

@@ -2,9 +2,8 @@
 ghost use Rattle.std.specs.Prelude.{◌≡◌, ◌↔◌, Ok, IfNone, IfSome, IsTrue};
 ghost use Rattle.reducer.specs.Ready.{NoneFires, IsReady};
 ghost use Rattle.site_solution.specs.InTree.{is_in_tree};
-ghost use Rattle.shared_net.specs.declared.choosing.Chosen.TheVariants as choice;
 ghost use Rattle.shared_net.specs.Choosing.{CanAct, may_meet, NoneMeets, IsLeastMet};
-ghost use Rattle.shared_net.specs.Choosing.{IsToGo, Chooses, OpensNone};
+ghost use Rattle.shared_net.specs.Choosing.{IsToGo, ChoosesPick, Chooses, OpensNone};
 ghost use Rattle.shared_net.specs.inside.Choosing.{LeadsTo};
 
 use chem_model::{AtomId, Memory, Name, Program};
@@ -44,26 +43,26 @@ pub(crate) fn can_act(site: &Site, code: &Code, tree: &LocTree) -> bool
     site.in_tree(tree) && site.in_code(code, tree) && site.can_draw(tree)
 }
 
-// Whether the site has a request with this id that may be met.
-fn may_meet(site: &Site, tree: &LocTree, atom: &AtomId) -> bool
+// Whether the site has a request with this id that may be met in a program of this version.
+fn may_meet(site: &Site, tree: &LocTree, version: u32, atom: &AtomId) -> bool
     requires { IsTrue (is_in_tree tree.now site.now) }
-    ensures { result ≡ may_meet tree.now site.now atom.now }
+    ensures { result ≡ may_meet version tree.now site.now atom.now }
 {
-    move_ready(site, tree, atom)
+    move_ready(site, tree, version, atom)
         || halt_ready(site, tree, atom)
         || dead_for(site, tree, atom).is_some()
 }
 
 // Of the requests that may be met the one with the least id.
-fn least_met(site: &Site, tree: &LocTree) -> Option<AtomId>
+fn least_met(site: &Site, tree: &LocTree, version: u32) -> Option<AtomId>
     requires { IsTrue (is_in_tree tree.now site.now) }
-    ensures none { IfNone result (NoneMeets tree.now site.now) }
-    ensures some { IfSome result (IsLeastMet tree.now site.now) }
+    ensures none { IfNone result (NoneMeets version tree.now site.now) }
+    ensures some { IfSome result (IsLeastMet version tree.now site.now) }
 {
     site_is_kept(site);
     let mut index = 0;
     while let Some(request) = site.request_at(index) {
-        if may_meet(site, tree, &request.id) {
+        if may_meet(site, tree, version, &request.id) {
             return Some(request.id);
         }
         index += 1;
@@ -75,18 +74,17 @@ fn least_met(site: &Site, tree: &LocTree) -> Option<AtomId>
 /// id that may be met. It is nothing exactly where there is neither, or where the site, the tree
 /// and the code don't fit together, as the tests of the site tell.
 ///
-/// The program is for rules that depend on its version. There is none so far.
+/// The program is for its version: in version 2 a request to go to a dead location may be met too.
 pub fn choose(site: &Site, program: &Program, code: &Code, tree: &LocTree) -> Chosen
-    ensures { Chooses code.now tree.now site.now result }
+    ensures { Chooses program.now.version code.now tree.now site.now result }
 {
-    let _ = program;
     if !can_act(site, code, tree) {
         return Chosen::Nothing;
     }
     if let Some(pick) = ready(site, code, tree) {
         return Chosen::Pick(pick);
     }
-    match least_met(site, tree) {
+    match least_met(site, tree, program.version) {
         Some(atom) => Chosen::Ask(atom),
         None => Chosen::Nothing,
     }
@@ -94,7 +92,7 @@ pub fn choose(site: &Site, program: &Program, code: &Code, tree: &LocTree) -> Ch
 
 /// Whether the pick that the site chose opens no location.
 pub(crate) fn opens_none(site: &Site, code: &Code, tree: &LocTree, pick: &Pick) -> bool
-    requires { Chooses code.now tree.now site.now (choice.Pick pick.now) }
+    requires { ChoosesPick code.now tree.now site.now pick.now }
     ensures { IsTrue result ↔ OpensNone code.now site.now pick.now }
 {
     let _ = tree;

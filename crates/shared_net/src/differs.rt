@@ -1,3 +1,4 @@
+// The first place at which receipts and journal differ.
 use chem_model::{Event, Program};
 use trace_history::Book;
 

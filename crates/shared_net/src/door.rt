@@ -3,7 +3,7 @@ ghost use Rattle.std.specs.Prelude.{◌≡◌, ◌≢◌, IfOk, OnErr};
 ghost use Rattle.chem_model.specs.Each.{Each};
 ghost use Rattle.shared_net.specs.declared.choosing.Chosen.TheVariants as choice;
 ghost use Rattle.shared_net.specs.Mail.{IsMessageFlight};
-ghost use Rattle.shared_net.specs.Choosing.{Chooses, OpensNone, IsToGo};
+ghost use Rattle.shared_net.specs.Choosing.{ChoosesPick, Chooses, OpensNone, IsToGo};
 ghost use Rattle.shared_net.specs.Offers.{Turned};
 ghost use Rattle.shared_net.specs.Offers.{MayGain};
 
@@ -35,7 +35,7 @@ pub(crate) trait Desk<L: Run> {
         pass: &mut Pass<L>,
         pick: &Pick,
     ) -> Result<Made, Memory>
-        requires chosen { Chooses code.now tree.now site.old (choice.Pick pick.now) }
+        requires chosen { ChoosesPick code.now tree.now site.old pick.now }
         requires none_born { OpensNone code.now site.old pick.now }
         ensures pass { IfOk result (λ made. Turned pass.old made.turn pass.new) }
         ensures sends { IfOk result (λ made. Each IsMessageFlight made.effects.sends) }
@@ -51,7 +51,7 @@ pub(crate) trait Desk<L: Run> {
         pass: &mut Pass<L>,
         chosen: &Chosen,
     ) -> Result<Made, Memory>
-        requires chosen { Chooses code.now tree.old site.old chosen.now }
+        requires chosen { Chooses program.now.version code.now tree.old site.old chosen.now }
         requires some { chosen.now ≢ choice.Nothing }
         ensures pass { IfOk result (λ made. Turned pass.old made.turn pass.new) }
         ensures sends { IfOk result (λ made. Each IsMessageFlight made.effects.sends) }
@@ -68,7 +68,8 @@ pub(crate) trait Desk<L: Run> {
         pass: &mut Pass<L>,
         atom: &AtomId,
     ) -> Result<Made, Memory>
-        requires chosen { Chooses code.now tree.old site.old (choice.Ask atom.now) }
+        requires chosen { Chooses program.now.version code.now tree.old site.old
+            (choice.Ask atom.now) }
         requires goes { IsToGo atom.now site.old }
         ensures pass { IfOk result (λ made. Turned pass.old made.turn pass.new) }
         ensures sends { IfOk result (λ made. Each IsMessageFlight made.effects.sends) }

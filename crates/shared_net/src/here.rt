@@ -5,7 +5,7 @@ ghost use Rattle.site_solution.specs.Held.{queues_of, taken_at};
 ghost use Rattle.reducer.specs.Picks.{Picked, Picks, MayFire, IsPick};
 ghost use Rattle.shared_net.specs.declared.choosing.Chosen.TheVariants as choice;
 ghost use Rattle.shared_net.specs.Mail.{IsMessageFlight};
-ghost use Rattle.shared_net.specs.Choosing.{CanAct, Chooses, OpensNone};
+ghost use Rattle.shared_net.specs.Choosing.{CanAct, ChoosesPick, OpensNone};
 ghost use Rattle.shared_net.specs.Offers.{Turned, MayHaveCommitted};
 ghost use Rattle.shared_net.specs.Offers.{MayGain};
 ghost use Rattle.shared_net.specs.Making.{IsEventOf, AfterPick, StaysFitAt, BearsNone};
@@ -100,7 +100,7 @@ pub fn make_here<L: Run>(
     pass: &mut Pass<L>,
     pick: &Pick,
 ) -> Result<Made, Memory>
-    requires chosen { Chooses code.now tree.now site.old (choice.Pick pick.now) }
+    requires chosen { ChoosesPick code.now tree.now site.old pick.now }
     requires none_born { OpensNone code.now site.old pick.now }
     ensures made { IfOk result (λ made. MakesHere code.now tree.now site.old pick.now
         locked.old.book pass.old made site.new locked.new.book pass.new) }

@@ -6,6 +6,7 @@ ghost use Rattle.shared_net.specs.Agrees.{row_of};
 ghost use Rattle.shared_net.specs.Causes.{DifferInNumber};
 ghost use Rattle.shared_net.specs.Closes.{HaveBudget, Closes};
 ghost use Rattle.shared_net.specs.Mail.{IsMessageText};
+ghost use Rattle.shared_net.specs.Net.{IsCountOfSites};
 ghost use Rattle.shared_net.specs.Passes.{new_passes};
 ghost use Rattle.shared_net.specs.Preparing.{IsOpenedAs};
 
@@ -56,8 +57,8 @@ pub(crate) struct Parts {
 }
 
 impl Model for Parts {
-    ghost use Rattle.std.specs.Prelude.{◌≡◌, ◌<◌, ◌≤◌, vec_len};
-    ghost use Rattle.shared_net.specs.Net.{NetKept, net_code};
+    ghost use Rattle.std.specs.Prelude.{◌≡◌, vec_len};
+    ghost use Rattle.shared_net.specs.Net.{NetKept, net_code, IsCountOfSites};
 
     ghost Value = { NetKept };
 
@@ -71,12 +72,12 @@ impl Model for Parts {
 
     ghost invariant = { λ n.
         (vec_len n.mail.list ≡ vec_len n.sites.list)
-        × (0 < vec_len n.sites.list) × (vec_len n.sites.list ≤ 64) };
+        × IsCountOfSites (vec_len n.sites.list) };
 }
 
 /// The network of a run on threads: the program with its code, the budget, and behind locks the
 /// tree, each site, the mailbox of each site, and the book. It is seen as its program, its budget
-/// and how many sites it has, 1 to 64.
+/// and how many sites it has, 1 to 256.
 ///
 /// Locks are taken in the order tree, sites, one mailbox, book. The locks of two sites are held
 /// only under the tree's write lock.
@@ -122,12 +123,12 @@ fn lock_mail(alloc: Global, mails: Vec<Texts>) -> Result<LockedMail, Memory>
     Ok(LockedMail { list: locked })
 }
 
-// As many sites are opened as the program has, 1 to 64, each with its mail. It does nothing.
+// As many sites are opened as the program has, 1 to 256, each with its mail. It does nothing.
 fn are_opened(program: &Program, code: &Code, tree: &LocTree, sites: &Sites, mail: &Mails)
     requires code { IsCodeOf program.now code.now }
-    requires opened { IsOpenedAs code.now tree.now sites.now mail.now }
+    requires opened { IsOpenedAs program.now.version code.now tree.now sites.now mail.now }
     ensures count { length sites.now ≡ length program.now.sites }
-    ensures some { (0 < length program.now.sites) × (length program.now.sites ≤ 64) }
+    ensures some { IsCountOfSites (length program.now.sites) }
     ensures boxes { length mail.now ≡ length sites.now }
 {
     let _tops = &program.tops;
@@ -178,7 +179,7 @@ fn parts_of(
     sites: LockedSites,
     mail: LockedMail,
 ) -> Result<Parts, Memory>
-    requires some { (0 < vec_len sites.list) × (vec_len sites.list ≤ 64) }
+    requires some { IsCountOfSites (vec_len sites.list) }
     requires boxes { vec_len mail.list ≡ vec_len sites.list }
     ensures { IfOk result (λ parts. parts ≡ record {
       program = program.now;
@@ -216,7 +217,7 @@ fn lock_all(
     sites: Sites,
     mail: Mails,
 ) -> Result<Parts, Memory>
-    requires some { (0 < length sites) × (length sites ≤ 64) }
+    requires some { IsCountOfSites (length sites) }
     requires boxes { length mail ≡ length sites }
     requires spelled { Each (Each IsMessageText) mail }
     ensures { IfOk result (λ parts. parts ≡ record {
@@ -247,7 +248,7 @@ impl<L: Run> SharedNet<L> {
     ) -> Result<(SharedNet<L>, Passes<L>), Memory>
         requires code { IsCodeOf program.now code.now }
         requires passes { (1 ≤ passes) × (passes ≤ 16) }
-        requires budget { budget ≤ 1000000 }
+        requires budget { budget ≤ 4000000 }
         requires name { blank.name ≡ L.name }
         requires parts { blank.parts ≡ L.parts }
         requires one_each { blank.parts ≡ passes }
@@ -283,7 +284,7 @@ impl<L: Run> SharedNet<L> {
     /// How many sites there are.
     pub fn sites(&self) -> u32
         ensures count { result ≡ self.now.sites }
-        ensures some { (0 < result) × (result ≤ 64) }
+        ensures some { IsCountOfSites result }
     {
         self.parts.count()
     }
@@ -321,7 +322,7 @@ impl Parts {
     /// How many sites there are.
     pub(crate) fn count(&self) -> u32
         ensures count { result ≡ self.now.sites }
-        ensures some { (0 < result) × (result ≤ 64) }
+        ensures some { IsCountOfSites result }
     {
         self.sites.list.len() as u32
     }

@@ -1,5 +1,5 @@
 // What stands behind the locks of a run at its opening.
-ghost use Rattle.std.specs.Prelude.{◌≡◌, ◌+◌, ◌<◌, ◌≤◌, [], length, IfOk, OnOk};
+ghost use Rattle.std.specs.Prelude.{◌≡◌, ℕ, ◌+◌, ◌<◌, ◌≤◌, [], length, IfOk, OnOk};
 ghost use Rattle.chem_model.specs.Each.{Each};
 ghost use Rattle.chem_model.specs.Opening.{opening};
 ghost use Rattle.chem_model.specs.ProgramFacts.{IsProgram};
@@ -149,8 +149,8 @@ fn begin(alloc: Global, code: &Code) -> Result<Begun, Memory>
 // Opens each site, in order.
 fn open_each(alloc: Global, begun: &mut Begun, code: &Code) -> Result<(), Memory>
     requires { IsUpTo code.now 0 begun.old.sites.items begun.old.tree begun.old.mails.items }
-    ensures { OnOk result (IsOpenedAs code.now begun.new.tree begun.new.sites.items
-        begun.new.mails.items) }
+    ensures { OnOk result ((version : ℕ) → IsOpenedAs version code.now begun.new.tree
+        begun.new.sites.items begun.new.mails.items) }
 {
     let _known = &code.tops;
     for number in 0..code.sites.len() as u32 {
@@ -162,8 +162,8 @@ fn open_each(alloc: Global, begun: &mut Begun, code: &Code) -> Result<(), Memory
 // The network of a program's code, opened.
 fn open_all(alloc: Global, code: &Code) -> Result<Begun, Memory>
     requires { IsOfProgram code.now }
-    ensures { IfOk result (λ begun. IsOpenedAs code.now begun.tree begun.sites.items
-        begun.mails.items) }
+    ensures { IfOk result (λ begun. (version : ℕ) → IsOpenedAs version code.now begun.tree
+        begun.sites.items begun.mails.items) }
 {
     let mut begun = begin(alloc, code)?;
     match open_each(alloc, &mut begun, code) {
@@ -198,8 +198,8 @@ fn open_book<L: Run>(
 fn opened_stands(program: &Program, code: &Code)
     requires { IsCodeOf program.now code.now }
     ensures is { IsProgram program.now }
-    ensures stands { Stands (rules_of_group program.now) (opened_net code.now)
-        (opening program.now) }
+    ensures stands { Stands (rules_of_group program.now)
+        (opened_net program.now.version code.now) (opening program.now) }
 {
     let _tops = &program.tops;
     let _known = &code.tops;
@@ -218,15 +218,15 @@ pub fn prepare<L: Run>(
 ) -> Result<(Opened<L>, Passes<L>), Memory>
     requires code { IsCodeOf program.now code.now }
     requires passes { (1 ≤ passes) × (passes ≤ 16) }
-    requires budget { budget ≤ 1000000 }
+    requires budget { budget ≤ 4000000 }
     requires name { blank.name ≡ L.name }
     requires parts { blank.parts ≡ L.parts }
     requires one_each { blank.parts ≡ passes }
     requires program { program.now ≡ L.program }
     ensures opened { IfOk result (λ r.
-        IsOpenedAs code.now r.0.tree r.0.sites r.0.mail) }
+        IsOpenedAs program.now.version code.now r.0.tree r.0.sites r.0.mail) }
     ensures stands { IfOk result (λ _. Stands (rules_of_group program.now)
-        (opened_net code.now) (opening program.now)) }
+        (opened_net program.now.version code.now) (opening program.now)) }
     ensures book { IfOk result (λ r.
         r.0.locked.book ≡ record { program = program.now; journal = [] }) }
     ensures mail { IfOk result (λ r. Each (Each IsMessageText) r.0.mail) }

@@ -1,3 +1,4 @@
+// Receipts: an event that a worker made, with its place in the journal.
 ghost use Rattle.std.specs.Prelude.{◌≡◌, IfOk};
 
 use chem_model::{Event, Items, Memory};

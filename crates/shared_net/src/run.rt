@@ -13,5 +13,5 @@ pub trait Run: Ledger {
 impl Run for Brand {
     ghost use Rattle.std.specs.Prelude.{[]};
 
-    ghost program = { record { seen = []; sites = []; tops = 0; spell = [] } };
+    ghost program = { record { version = 1; seen = []; sites = []; tops = 0; spell = [] } };
 }

@@ -1,3 +1,4 @@
+// What a turn of a worker came to.
 ghost use Rattle.std.specs.Prelude.{◌≡◌, Ok};
 
 use chem_model::Memory;

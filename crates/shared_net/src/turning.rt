@@ -2,7 +2,7 @@
 ghost use Rattle.std.specs.Prelude.{◌≡◌, ◌≢◌, ◌<◌, IfOk, OnErr};
 ghost use Rattle.chem_model.specs.Each.{Each};
 ghost use Rattle.shared_net.specs.declared.choosing.Chosen.TheVariants as choice;
-ghost use Rattle.shared_net.specs.Choosing.{Chooses, OpensNone, IsToGo};
+ghost use Rattle.shared_net.specs.Choosing.{ChoosesPick, Chooses, OpensNone, IsToGo};
 ghost use Rattle.shared_net.specs.Mail.{IsMessageFlight};
 ghost use Rattle.shared_net.specs.Offers.{Turned};
 ghost use Rattle.shared_net.specs.Offers.{MayGain};
@@ -23,7 +23,7 @@ use chem_model::{AtomId, Memory};
 use env_store::Code;
 use loc_tree::LocTree;
 use reducer::Pick;
-use site_solution::Site;
+use site_solution::{Effects, Site};
 use std::alloc::Global;
 use std::sync::{Mutex, Wait};
 use wire_packet::Flights;
@@ -62,15 +62,14 @@ impl Parts {
 
     // Puts each flight into the mailbox of its target, and drops those whose target is no site.
     // Whether one went into a mailbox.
-    fn post<R: Wait>(&self, rt: &R, alloc: Global, flights: &Flights) -> Result<bool, Memory>
-        requires { Each IsMessageFlight flights.now }
+    fn post<R: Wait>(&self, rt: &R, flights: Flights) -> Result<bool, Memory>
+        requires { Each IsMessageFlight flights }
     {
         let mut posted = false;
-        for flight in flights.as_slice() {
+        for flight in flights.into_vec() {
             let target = flight.target as usize;
             if target < self.mail.list.len() {
-                let text = flight.bytes.copy(alloc)?;
-                self.mail.list[target].lock(rt).put(text)?;
+                self.mail.list[target].lock(rt).put(flight.bytes)?;
                 posted = true;
             }
         }
@@ -94,16 +93,18 @@ impl Parts {
             return Ok(false);
         }
         let flights = arrive(alloc, site, tree, &mail)?;
-        self.post(rt, alloc, &flights)
+        self.post(rt, flights)
     }
 
     // Posts what an event sent, and answers its turn.
-    fn send<R: Wait>(&self, rt: &R, alloc: Global, made: &Made) -> Result<Turn, Memory>
-        requires { Each IsMessageFlight made.now.effects.sends }
-        ensures { IfOk result (λ turn. turn ≡ made.now.turn) }
+    fn send<R: Wait>(&self, rt: &R, made: Made) -> Result<Turn, Memory>
+        requires { Each IsMessageFlight made.effects.sends }
+        ensures { IfOk result (λ turn. turn ≡ made.turn) }
     {
-        self.post(rt, alloc, &made.effects.sends)?;
-        Ok(made.turn)
+        let Made { turn, effects } = made;
+        let Effects { sends, .. } = effects;
+        self.post(rt, sends)?;
+        Ok(turn)
     }
 
     // ---- under the tree's read lock
@@ -118,7 +119,7 @@ impl Parts {
         code: &Code,
         pick: &Pick,
     ) -> Result<Turn, Memory>
-        requires chosen { Chooses code.now tree.now site.old (choice.Pick pick.now) }
+        requires chosen { ChoosesPick code.now tree.now site.old pick.now }
         requires none_born { OpensNone code.now site.old pick.now }
         ensures turn { IfOk result (λ turn. Turned pass.old turn pass.new) }
         ensures gain { OnErr result (MayGain pass.old pass.new) }
@@ -126,7 +127,7 @@ impl Parts {
         let mut desk = enter(hands.rt, hands.door);
         let made = desk.here(hands.alloc, site, tree, code, pass, pick)?;
         drop(desk);
-        self.send(hands.rt, hands.alloc, &made)
+        self.send(hands.rt, made)
     }
 
     // What the site does next, where that leaves the tree as it is.
@@ -182,7 +183,7 @@ impl Parts {
         code: &Code,
         chosen: &Chosen,
     ) -> Result<Turn, Memory>
-        requires chosen { Chooses code.now tree.old site.old chosen.now }
+        requires chosen { Chooses self.now.program.version code.now tree.old site.old chosen.now }
         requires some { chosen.now ≢ choice.Nothing }
         ensures turn { IfOk result (λ turn. Turned pass.old turn pass.new) }
         ensures gain { OnErr result (MayGain pass.old pass.new) }
@@ -190,7 +191,7 @@ impl Parts {
         let mut desk = enter(hands.rt, hands.door);
         let made = desk.wide(hands.alloc, site, tree, &self.program, code, pass, chosen)?;
         drop(desk);
-        self.send(hands.rt, hands.alloc, &made)
+        self.send(hands.rt, made)
     }
 
     // Makes the move to a location of another site.
@@ -204,7 +205,8 @@ impl Parts {
         code: &Code,
         atom: &AtomId,
     ) -> Result<Turn, Memory>
-        requires chosen { Chooses code.now tree.old site.old (choice.Ask atom.now) }
+        requires chosen { Chooses self.now.program.version code.now tree.old site.old
+            (choice.Ask atom.now) }
         requires goes { IsToGo atom.now site.old }
         ensures turn { IfOk result (λ turn. Turned pass.old turn pass.new) }
         ensures gain { OnErr result (MayGain pass.old pass.new) }
@@ -221,7 +223,7 @@ impl Parts {
             atom,
         )?;
         drop(desk);
-        self.send(hands.rt, hands.alloc, &made)
+        self.send(hands.rt, made)
     }
 
     // Meets a request of the site: a move to another site takes that site's lock too.
@@ -235,7 +237,8 @@ impl Parts {
         code: &Code,
         atom: &AtomId,
     ) -> Result<Turn, Memory>
-        requires chosen { Chooses code.now tree.old site.old (choice.Ask atom.now) }
+        requires chosen { Chooses self.now.program.version code.now tree.old site.old
+            (choice.Ask atom.now) }
         ensures turn { IfOk result (λ turn. Turned pass.old turn pass.new) }
         ensures gain { OnErr result (MayGain pass.old pass.new) }
     {

@@ -12,7 +12,7 @@ ghost use Rattle.reducer.specs.Reacting.{ran_by};
 ghost use Rattle.shared_net.specs.declared.choosing.Chosen.TheVariants as choice;
 ghost use Rattle.shared_net.specs.declared.turn.Turn.TheVariants as turns;
 ghost use Rattle.shared_net.specs.Mail.{IsMessageFlight};
-ghost use Rattle.shared_net.specs.Choosing.{CanAct, may_meet, Chooses};
+ghost use Rattle.shared_net.specs.Choosing.{CanAct, may_meet, ChoosesPick, Chooses};
 ghost use Rattle.shared_net.specs.Offers.{Turned, MayHaveCommitted};
 ghost use Rattle.shared_net.specs.Offers.{MayGain};
 ghost use Rattle.shared_net.specs.Making.{event_for, IsEventOf, FitsHere, IsSameTree};
@@ -123,7 +123,7 @@ fn react_wide<L: Run>(
     pass: &mut Pass<L>,
     pick: &Pick,
 ) -> Result<Made, Memory>
-    requires { Chooses code.now tree.old site.old (choice.Pick pick.now) }
+    requires { ChoosesPick code.now tree.old site.old pick.now }
     ensures made { IfOk result (λ made. MakesWide code.now tree.old site.old
         (choice.Pick pick.now) locked.old.book pass.old made
         tree.new site.new locked.new.book pass.new) }
@@ -165,7 +165,7 @@ fn meet(
     requires there { IsTrue (is_in_tree tree.old site.old) }
     requires draws { CanDraw tree.old site.old }
     requires here { request_with request.now.id site.old.requests ≡ Some request.now }
-    requires met { may_meet tree.old site.old request.now.id ≡ true }
+    requires met { may_meet 2 tree.old site.old request.now.id ≡ true }
     requires fits { FitsHere site.old (event_for request.now.ask request.now.id) }
     ensures ok { IfOk result (MeetsAsk request.now.ask counts.now tree.old site.old
         request.now.id tree.new site.new) }
@@ -195,7 +195,7 @@ fn after_ask(
     requires there { IsTrue (is_in_tree tree.old site.old) }
     requires draws { CanDraw tree.old site.old }
     requires here { request_with request.now.id site.old.requests ≡ Some request.now }
-    requires met { may_meet tree.old site.old request.now.id ≡ true }
+    requires met { may_meet 2 tree.old site.old request.now.id ≡ true }
     requires fits { (place : ℕ) → turn ≡ turns.Did place
         → FitsHere site.old (event_for request.now.ask request.now.id) }
     ensures after { IfOk result (AfterAsk turn request.now.ask counts.now tree.old site.old
@@ -214,7 +214,7 @@ fn after_ask(
     }
 }
 
-// Meets a request that the site chose.
+// Meets a request that may be met, in version 2 at least.
 fn ask_wide<L: Run>(
     alloc: Global,
     site: &mut Site,
@@ -224,7 +224,8 @@ fn ask_wide<L: Run>(
     pass: &mut Pass<L>,
     atom: &AtomId,
 ) -> Result<Made, Memory>
-    requires { Chooses code.now tree.old site.old (choice.Ask atom.now) }
+    requires act { CanAct code.now tree.old site.old }
+    requires met { may_meet 2 tree.old site.old atom.now ≡ true }
     ensures made { IfOk result (λ made. MakesWide code.now tree.old site.old
         (choice.Ask atom.now) locked.old.book pass.old made
         tree.new site.new locked.new.book pass.new) }
@@ -247,9 +248,8 @@ fn ask_wide<L: Run>(
 /// hosts, and the book has it possible. Where it isn't possible, the messages that it takes, or its
 /// request, are dropped. Births are added to the tree.
 ///
-/// The program is for rules that depend on its version. There is none so far. Where there is no
-/// memory, site and tree stay; either no event was made, or one was, and the pass has exactly its
-/// receipt.
+/// The program is the one with which the site chose. Where there is no memory, site and tree stay;
+/// either no event was made, or one was, and the pass has exactly its receipt.
 pub fn make_wide<L: Run>(
     alloc: Global,
     site: &mut Site,
@@ -260,7 +260,7 @@ pub fn make_wide<L: Run>(
     pass: &mut Pass<L>,
     chosen: &Chosen,
 ) -> Result<Made, Memory>
-    requires chosen { Chooses code.now tree.old site.old chosen.now }
+    requires chosen { Chooses program.now.version code.now tree.old site.old chosen.now }
     requires some { chosen.now ≢ choice.Nothing }
     ensures made { IfOk result (λ made. MakesWide code.now tree.old site.old chosen.now
         locked.old.book pass.old made tree.new site.new locked.new.book pass.new) }

@@ -15,7 +15,7 @@ use Rattle.chem_model.specs.Opening.{opening}
 use Rattle.chem_model.specs.Apply.{apply_if, replay_from}
 use Rattle.wire_packet.specs.declared.packet.Ask.{Ask}
 use Rattle.wire_packet.specs.declared.packet.Ask.TheVariants as request
-use Rattle.wire_packet.specs.declared.packet.Request.{Request}
+use Rattle.wire_packet.specs.GroupFacts.{RequestParts}
 use Rattle.trace_history.specs.declared.book.Commit.{Commit}
 use Rattle.trace_history.specs.declared.book.Commit.TheVariants.{Place, NotEnabled}
 use Rattle.trace_history.specs.Kept.{BookKept, solution, is_enabled}
@@ -378,7 +378,7 @@ module _ (net new : NetParts) (book after : BookKept) (x : Choice) (m : IsMade n
       go None a b = absurd (not_none x meets a)
       go (Some e) a b = record { added = e ∷ []; runs = made e new.net a; code = m.code; book_is = b; one = m.one }
 
-pub are_requests : (qs : List Request) → Each MeetsRequest (choices_for qs)
+pub are_requests : (qs : List RequestParts) → Each MeetsRequest (choices_for qs)
 are_requests [] = tt
 are_requests (q ∷ qs) = (go q.ask q.id, are_requests qs)
   where
@@ -544,7 +544,7 @@ round_falls budget net new book after o few within r more = go r.added r.book_is
 -- ---- the whole run
 
 -- where the machine is quiet, no event is possible
-stuck_where : StuckIsQuiet → (b : BookKept) (n : Numbered) → IsSound n → solution b ≡ Some n → Quiet n.seen (erase n) → IsStuck b
+stuck_where : StuckIsQuiet → (b : BookKept) (n : Numbered) → IsSound n → solution b ≡ Some n → Quiet n.version n.seen (erase n) → IsStuck b
 stuck_where law b n sound leads quiet = λ e. ap (λ (o : Option Numbered). is_some (apply_if o e)) leads ∙ ap (λ (o : Option Numbered). is_some o) ((law n sound).1 quiet e)
 
 module _ (law : StuckIsQuiet) (budget : ℕ) (net end : NetParts) (book after : BookKept) (o : AreOne book net) (within : length book.journal ≤ budget) (r : HaveRun (Rounds budget net.code net book) net book end after) where
@@ -574,7 +574,7 @@ module _ (law : StuckIsQuiet) (budget : ℕ) (net end : NetParts) (book after : 
     ends = run_ends;
   }
 
-  pub whole : book.journal ≡ [] → net.net ≡ opened_net net.code → RoundsOf book.program net.code budget after.journal
+  pub whole : book.journal ≡ [] → net.net ≡ opened_net book.program.version net.code → RoundsOf book.program net.code budget after.journal
   whole empty opened = (o.is_code, o.of_program, end.net, schedule)
     where
       left : budget - length book.journal ≡ budget
@@ -583,8 +583,8 @@ module _ (law : StuckIsQuiet) (budget : ℕ) (net end : NetParts) (book after : 
       journal : after.journal ≡ r.added
       journal = ap (λ (b : BookKept). b.journal) r.book_is ∙ ap (λ (es : List Event). es ++ r.added) empty
 
-      schedule : AreRounds net.code budget (opened_net net.code) after.journal end.net
+      schedule : AreRounds net.code budget (opened_net book.program.version net.code) after.journal end.net
       schedule =
-          subst (λ (es : List Event). AreRounds net.code budget (opened_net net.code) es end.net) (sym journal)
+          subst (λ (es : List Event). AreRounds net.code budget (opened_net book.program.version net.code) es end.net) (sym journal)
           (subst (λ (n : Net). AreRounds net.code budget n r.added end.net) opened
           (subst (λ (k : ℕ). AreRounds net.code k net.net r.added end.net) left r.runs))

@@ -39,4 +39,4 @@ pub record RunsInRounds (net : NetParts) (old : BookKept) (budget : ℕ) (new : 
 -- the schedule of a program's run in rounds, by this code of the program
 abbrev pub RoundsOf : ProgramTerms → CodeParts → ℕ → List Event → Type 0
 RoundsOf p c budget journal =
-    IsCode c × IsCodeOf p c × (end : Net) × ScheduleOfRounds c budget journal end
+    IsCode c × IsCodeOf p c × (end : Net) × ScheduleOfRounds p.version c budget journal end

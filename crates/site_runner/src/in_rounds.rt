@@ -41,7 +41,7 @@ fn few_under_way(net: &Net)
 // Makes an enabled choice, and commits its event to the book.
 fn make(alloc: Global, net: &mut Net, book: &mut Book, choice: &Choice) -> Result<(), Memory>
     requires allowed { Allows net.old.code net.old.net choice.now }
-    requires room { length book.old.journal < 1000000 }
+    requires room { length book.old.journal < 4000000 }
     requires one { AreOne book.old net.old }
     ensures { OnOk result (IsMade net.old book.old choice.now net.new book.new) }
 {
@@ -56,7 +56,7 @@ fn make(alloc: Global, net: &mut Net, book: &mut Book, choice: &Choice) -> Resul
 // One choice after another, each the one that comes next, until none is enabled or the journal has
 // `budget` events.
 fn go_on(alloc: Global, net: &mut Net, book: &mut Book, budget: u32) -> Result<(), Memory>
-    requires budget { budget ≤ 1000000 }
+    requires budget { budget ≤ 4000000 }
     requires within { length book.old.journal ≤ budget }
     requires one { AreOne book.old net.old }
     ensures goes { OnOk result (HaveRun
@@ -77,7 +77,7 @@ fn go_on(alloc: Global, net: &mut Net, book: &mut Book, budget: u32) -> Result<(
 // The reaction that is ready at a site, where it opens a location.
 fn open_at(alloc: Global, net: &mut Net, book: &mut Book, site: u32) -> Result<(), Memory>
     requires site { site < length net.old.net.sites }
-    requires room { length book.old.journal < 1000000 }
+    requires room { length book.old.journal < 4000000 }
     requires one { AreOne book.old net.old }
     ensures { OnOk result (HaveRun
         (HasTurn (Opens net.old.code) (ReadyOpensNone net.old.code) net.old.net site)
@@ -92,7 +92,7 @@ fn open_at(alloc: Global, net: &mut Net, book: &mut Book, site: u32) -> Result<(
 // In the order of sites, while the budget leaves an event: the reaction that is ready there, where
 // it opens a location.
 fn open_all(alloc: Global, net: &mut Net, book: &mut Book, budget: u32) -> Result<(), Memory>
-    requires budget { budget ≤ 1000000 }
+    requires budget { budget ≤ 4000000 }
     requires within { length book.old.journal ≤ budget }
     requires one { AreOne book.old net.old }
     ensures opens { OnOk result (HaveRun
@@ -114,7 +114,7 @@ fn open_all(alloc: Global, net: &mut Net, book: &mut Book, budget: u32) -> Resul
 // Meets a request where it can be met.
 fn meet_one(alloc: Global, net: &mut Net, book: &mut Book, choice: &Choice) -> Result<(), Memory>
     requires request { MeetsRequest choice.now }
-    requires room { length book.old.journal < 1000000 }
+    requires room { length book.old.journal < 4000000 }
     requires one { AreOne book.old net.old }
     ensures { OnOk result (HaveRun
         (HasTurn (Meets net.old.code) (Forbids net.old.code) net.old.net choice.now)
@@ -129,7 +129,7 @@ fn meet_one(alloc: Global, net: &mut Net, book: &mut Book, choice: &Choice) -> R
 // The requests that stand now, in the order of their ids, while the budget leaves an event: each is
 // met where it can be at its turn.
 fn meet_all(alloc: Global, net: &mut Net, book: &mut Book, budget: u32) -> Result<(), Memory>
-    requires budget { budget ≤ 1000000 }
+    requires budget { budget ≤ 4000000 }
     requires within { length book.old.journal ≤ budget }
     requires one { AreOne book.old net.old }
     ensures meets { OnOk result (HaveRun
@@ -150,7 +150,7 @@ fn meet_all(alloc: Global, net: &mut Net, book: &mut Book, budget: u32) -> Resul
 
 // Commits events that are possible one after another.
 fn commit_all(alloc: Global, book: &mut Book, events: &[Event]) -> Result<(), Memory>
-    requires room { length book.old.journal + length events.now ≤ 1000000 }
+    requires room { length book.old.journal + length events.now ≤ 4000000 }
     requires follow { CanFollow book.old events.now }
     ensures { OnOk result (book.new ≡ and_then book.old events.now) }
 {
@@ -179,7 +179,7 @@ fn end_round(
     events: &[Event],
     budget: u32,
 ) -> Result<(), Memory>
-    requires budget { budget ≤ 1000000 }
+    requires budget { budget ≤ 4000000 }
     requires room { length book.old.journal + length events.now ≤ budget }
     requires follow { CanFollow book.old events.now }
     requires one { AreOne (and_then book.old events.now) net.old }
@@ -203,7 +203,7 @@ fn one_round<R: Threads + Sync>(
     budget: u32,
 ) -> Result<Net, Memory>
     requires workers { (1 ≤ workers) × (workers ≤ 16) }
-    requires budget { budget ≤ 1000000 }
+    requires budget { budget ≤ 4000000 }
     requires enough { length book.old.journal + length net.net.sites ≤ budget }
     requires one { AreOne book.old net }
     ensures round { IfOk result (λ after. HaveRun
@@ -243,7 +243,7 @@ fn make_rounds<R: Threads + Sync>(
     budget: u32,
 ) -> Result<(), Memory>
     requires workers { (1 ≤ workers) × (workers ≤ 16) }
-    requires budget { budget ≤ 1000000 }
+    requires budget { budget ≤ 4000000 }
     requires within { length book.old.journal ≤ budget }
     requires one { AreOne book.old net }
     ensures rounds { OnOk result ((end : NetParts) × HaveRun
@@ -287,11 +287,12 @@ pub fn rounds<R: Threads + Sync>(
     budget: u32,
 ) -> Result<Done, Memory>
     requires workers { (1 ≤ workers) × (workers ≤ 16) }
-    requires budget { budget ≤ 1000000 }
+    requires budget { budget ≤ 4000000 }
     requires within { length book.journal ≤ budget }
     requires one { StandForOne book net }
     ensures run { IfOk result (λ done. RunsInRounds net book budget done.book) }
-    ensures whole { IfOk result (λ done. book.journal ≡ [] → net.net ≡ opened_net net.code
+    ensures whole { IfOk result (λ done. book.journal ≡ []
+        → net.net ≡ opened_net book.program.version net.code
         → RoundsOf book.program net.code budget done.book.journal) }
     ensures how { IfOk result (λ done. done.how ≡ how.Rounds) }
     ensures left { OnErr result (length book.journal < budget) }

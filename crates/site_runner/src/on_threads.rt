@@ -174,7 +174,7 @@ pub fn free_from_opening<L: Run + Send + Sync, G: Gate, R: Threads + Wait + Sync
 ) -> Result<Done, Memory>
     requires code { IsCodeOf program.now code.now }
     requires workers { (1 ≤ workers) × (workers ≤ 16) }
-    requires budget { budget ≤ 1000000 }
+    requires budget { budget ≤ 4000000 }
     requires name { blank.name ≡ L.name }
     requires parts { blank.parts ≡ L.parts }
     requires one_each { blank.parts ≡ workers }

@@ -38,11 +38,12 @@ pub trait Team {
     ) -> Result<Done, Memory>
         requires ready { ready }
         requires workers { (1 ≤ workers) × (workers ≤ 16) }
-        requires budget { budget ≤ 1000000 }
+        requires budget { budget ≤ 4000000 }
         requires within { length book.journal ≤ budget }
         requires one { StandForOne book net }
         ensures run { IfOk result (λ done. RunsInRounds net book budget done.book) }
-        ensures whole { IfOk result (λ done. book.journal ≡ [] → net.net ≡ opened_net net.code
+        ensures whole { IfOk result (λ done. book.journal ≡ []
+            → net.net ≡ opened_net book.program.version net.code
             → RoundsOf book.program net.code budget done.book.journal) }
         ensures how { IfOk result (λ done. done.how ≡ how.Rounds) }
         ensures left { OnErr result (length book.journal < budget) };
@@ -66,7 +67,7 @@ pub trait FreeTeam<G> {
         requires ready { free_ready }
         requires code { IsCodeOf program.now code.now }
         requires workers { (1 ≤ workers) × (workers ≤ 16) }
-        requires budget { budget ≤ 1000000 }
+        requires budget { budget ≤ 4000000 }
         ensures run { IfOk result (λ done. IsFinished program.now budget done.book) }
         ensures how { IfOk result (λ done. IsFree (length program.now.sites) (first_workers workers)
             program.now budget done.book.journal done.how) };

@@ -7,7 +7,7 @@ use Rattle.chem_model.specs.declared.event.AtomId.{AtomId}
 use Rattle.chem_model.specs.declared.event.Event.{Event}
 use Rattle.chem_model.specs.Each.{Each}
 use Rattle.wire_packet.specs.declared.packet.Ask.TheVariants as ask
-use Rattle.wire_packet.specs.declared.packet.Request.{Request}
+use Rattle.wire_packet.specs.GroupFacts.{RequestParts}
 use Rattle.env_store.specs.CodeParts.{CodeParts}
 use Rattle.loc_tree.specs.Tree.{Tree, IsFresh}
 use Rattle.net_laws.specs.Site.{Site}
@@ -78,14 +78,15 @@ pub record DetectsAt (seen : List ℕ) (t : Tree) (i : ℕ) (a : AtomId) (s : Si
   pub detects : IsDetection seen a t s after e
   pub sites : new ≡ slice_set old i after
 
--- ---- moves
+-- ---- moves, where a location may move or in version 2 fall
 
 -- to a location that the site itself hosts
-pub record MayMoveAt (t : Tree) (sites : List Site) (i : ℕ) (a : AtomId) : Type 0 where
-  pub site : Site
-  pub site_is : slice_get sites i ≡ Some site
-  pub can : can_go t a site ≡ true
-  pub hosted : leads_into a site site ≡ true
+pub record MayMoveAt (version : ℕ) (t : Tree) (sites : List Site) (i : ℕ) (a : AtomId) : Type 0
+  where
+    pub site : Site
+    pub site_is : slice_get sites i ≡ Some site
+    pub can : can_go version t a site ≡ true
+    pub hosted : leads_into a site site ≡ true
 
 pub record MovesAt (seen : List ℕ) (t u : Tree) (i : ℕ) (a : AtomId) (s : Site)
     (old new : List Site) (e : Effects) : Type 0 where
@@ -94,15 +95,16 @@ pub record MovesAt (seen : List ℕ) (t u : Tree) (i : ℕ) (a : AtomId) (s : Si
   pub sites : new ≡ slice_set old i after
 
 -- to a location that another one hosts
-pub record MayCrossAt (t : Tree) (sites : List Site) (i j : ℕ) (a : AtomId) : Type 0 where
-  pub from : Site
-  pub into : Site
-  pub from_is : slice_get sites i ≡ Some from
-  pub into_is : slice_get sites j ≡ Some into
-  pub away : i ≡ j → ⊥
-  pub can : can_go t a from ≡ true
-  pub hosted : leads_into a from into ≡ true
-  pub joins : can_join a from into ≡ true
+pub record MayCrossAt (version : ℕ) (t : Tree) (sites : List Site) (i j : ℕ) (a : AtomId) : Type 0
+  where
+    pub from : Site
+    pub into : Site
+    pub from_is : slice_get sites i ≡ Some from
+    pub into_is : slice_get sites j ≡ Some into
+    pub away : i ≡ j → ⊥
+    pub can : can_go version t a from ≡ true
+    pub hosted : leads_into a from into ≡ true
+    pub joins : can_join a from into ≡ true
 
 pub record CrossesAt (seen : List ℕ) (t u : Tree) (i j : ℕ) (a : AtomId) (from into : Site)
     (old new : List Site) (e : Effects) : Type 0 where
@@ -112,16 +114,16 @@ pub record CrossesAt (seen : List ℕ) (t u : Tree) (i j : ℕ) (a : AtomId) (fr
   pub sites : new ≡ slice_set (slice_set old i left) j after
 
 -- to wherever the request leads
-pub record MayGoAt (t : Tree) (sites : List Site) (i : ℕ) (a : AtomId) : Type 0 where
+pub record MayGoAt (version : ℕ) (t : Tree) (sites : List Site) (i : ℕ) (a : AtomId) : Type 0 where
   pub site : Site
   pub site_is : slice_get sites i ≡ Some site
-  pub can : can_go t a site ≡ true
+  pub can : can_go version t a site ≡ true
 
 -- the site with this number has a request to go to a location
 pub record HasGoal (sites : List Site) (i : ℕ) (a : AtomId) (target : Loc) : Type 0 where
   pub site : Site
   pub site_is : slice_get sites i ≡ Some site
-  pub request : Request
+  pub request : RequestParts
   pub here : request_with a site.requests ≡ Some request
   pub cont : Name
   pub asks : request.ask ≡ ask.Go (name.Place target) cont

@@ -9,6 +9,7 @@ use Rattle.net_core.specs.Parts.{joined}
 
 -- all that the parts stand for is the same
 pub record AreAsBefore (old new : Parts) : Type 0 where
+  pub version : new.version ≡ old.version
   pub sites : new.sites.items ≡ old.sites.items
   pub tree : bare new.tree ≡ bare old.tree
   pub trace : new.trace.items ≡ old.trace.items
@@ -27,6 +28,7 @@ pub record HaveRoom (p : Parts) (births sends : ℕ) : Type 0 where
 pub record HandsOut (n : ℕ) (e : Effects) (old new : Parts) : Type 0 where
   pub roomy : Tree
   pub room : bare roomy ≡ bare old.tree
+  pub version : new.version ≡ old.version
   pub sites : new.sites.items ≡ old.sites.items
   pub tree : new.tree ≡ with_births roomy n e.births
   pub trace : joined new.trace.items ≡ joined old.trace.items ++ e.outs

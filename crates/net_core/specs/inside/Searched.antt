@@ -2,7 +2,7 @@
 use Rattle.std.specs.Prelude.{◌≡◌, ℕ, suc, ◌<◌, List, [], ◌∷◌, Bool, true, false, Option, Some}
 use Rattle.std.specs.Prelude.{None, cond, slice_get, is_some}
 use Rattle.chem_model.specs.declared.event.AtomId.{AtomId}
-use Rattle.wire_packet.specs.declared.packet.Request.{Request}
+use Rattle.wire_packet.specs.GroupFacts.{RequestParts}
 use Rattle.env_store.specs.CodeParts.{CodeParts}
 use Rattle.loc_tree.specs.Tree.{Tree, bare}
 use Rattle.net_laws.specs.Site.{Site}
@@ -23,63 +23,65 @@ pub record HasSites (sites : List Site) (t : Tree) (net : Net) : Type 0 where
 
 -- ---- requests
 
--- the choice meets a request of the site
-abbrev pub meets : Tree → Choice → Site → Bool
-meets t (choice.React i p) s = false
-meets t (choice.Deliver f) s = false
-meets t (choice.Move a) s = can_go t a s
-meets t (choice.Halt a) s = can_halt t a s
-meets t (choice.Detect a) s = is_some (dead_for t a s)
+-- the choice meets a request of the site, in a network of this version
+abbrev pub meets : ℕ → Tree → Choice → Site → Bool
+meets version t (choice.React i p) s = false
+meets version t (choice.Deliver f) s = false
+meets version t (choice.Move a) s = can_go version t a s
+meets version t (choice.Halt a) s = can_halt t a s
+meets version t (choice.Detect a) s = is_some (dead_for t a s)
 
 -- the site at this place is one that meets it, and none does
-pub record IsMet (sites : List Site) (t : Tree) (x : Choice) (i : ℕ) : Type 0 where
+pub record IsMet (version : ℕ) (sites : List Site) (t : Tree) (x : Choice) (i : ℕ) : Type 0 where
   pub site : Site
   pub site_is : slice_get sites i ≡ Some site
-  pub met : meets t x site ≡ true
+  pub met : meets version t x site ≡ true
 
-abbrev pub NoneMeets : List Site → Tree → Choice → ℕ → Type 0
-NoneMeets sites t x n =
-    (i : ℕ) (s : Site) → i < n → slice_get sites i ≡ Some s → meets t x s ≡ false
+abbrev pub NoneMeets : ℕ → List Site → Tree → Choice → ℕ → Type 0
+NoneMeets version sites t x n =
+    (i : ℕ) (s : Site) → i < n → slice_get sites i ≡ Some s → meets version t x s ≡ false
 
 -- the choice that meets a request
-abbrev pub choice_for : Request → Choice
+abbrev pub choice_for : RequestParts → Choice
 choice_for q = choice_by q.ask q.id
 
 -- the site has the request, and the tree has what its rule needs
-pub record IsMeetable (t : Tree) (s : Site) (q : Request) : Type 0 where
+pub record IsMeetable (version : ℕ) (t : Tree) (s : Site) (q : RequestParts) : Type 0 where
   pub here : request_with q.id s.requests ≡ Some q
-  pub met : meets t (choice_for q) s ≡ true
+  pub met : meets version t (choice_for q) s ≡ true
 
 -- how many of the first requests have an id that precedes this one
-abbrev pub place_for : AtomId → List Request → ℕ
+abbrev pub place_for : AtomId → List RequestParts → ℕ
 place_for a [] = 0
 place_for a (q ∷ qs) = cond (precedes q.id a) (suc (place_for a qs)) 0
 
 -- the one with the least id
-pub record IsLeastAt (t : Tree) (s : Site) (q : Request) : Type 0 where
-  pub meetable : IsMeetable t s q
-  pub least : (r : Request) → IsMeetable t s r → precedes r.id q.id ≡ false
+pub record IsLeastAt (version : ℕ) (t : Tree) (s : Site) (q : RequestParts) : Type 0 where
+  pub meetable : IsMeetable version t s q
+  pub least : (r : RequestParts) → IsMeetable version t s r → precedes r.id q.id ≡ false
 
 -- of two the one with the lesser id, and else the first
-abbrev pub lesser_of : Option Request → Option Request → Option Request
+abbrev pub lesser_of : Option RequestParts → Option RequestParts → Option RequestParts
 lesser_of None o = o
 lesser_of (Some q) None = Some q
 lesser_of (Some q) (Some r) = cond (precedes r.id q.id) (Some r) (Some q)
 
 -- of the first n sites' requests it is the one with the least id
-pub record IsLeastOf (sites : List Site) (t : Tree) (n : ℕ) (q : Request) : Type 0 where
+pub record IsLeastOf (version : ℕ) (sites : List Site) (t : Tree) (n : ℕ) (q : RequestParts)
+    : Type 0 where
   pub number : ℕ
   pub site : Site
   pub site_is : slice_get sites number ≡ Some site
-  pub meetable : IsMeetable t site q
+  pub meetable : IsMeetable version t site q
   pub least :
-      (i : ℕ) (s : Site) (r : Request) → i < n → slice_get sites i ≡ Some s → IsMeetable t s r
-      → precedes r.id q.id ≡ false
+      (i : ℕ) (s : Site) (r : RequestParts) → i < n → slice_get sites i ≡ Some s
+      → IsMeetable version t s r → precedes r.id q.id ≡ false
 
-abbrev pub IsLeast : List Site → Tree → ℕ → Option Request → Type 0
-IsLeast sites t n None =
-    (i : ℕ) (s : Site) (r : Request) → i < n → slice_get sites i ≡ Some s → IsMeetable t s r → ⊥
-IsLeast sites t n (Some q) = IsLeastOf sites t n q
+abbrev pub IsLeast : ℕ → List Site → Tree → ℕ → Option RequestParts → Type 0
+IsLeast version sites t n None =
+    (i : ℕ) (s : Site) (r : RequestParts) → i < n → slice_get sites i ≡ Some s
+    → IsMeetable version t s r → ⊥
+IsLeast version sites t n (Some q) = IsLeastOf version sites t n q
 
 -- ---- of a network
 

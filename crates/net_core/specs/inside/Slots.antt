@@ -86,6 +86,7 @@ flights_of (s ∷ ss) = flights_in s.work ++ flights_of ss
 -- what the work of a turn left is behind what the parts and the journal had
 pub record IsTaken (w : Work) (old : Parts) (before : List Event) (new : Parts)
     (after : List Event) : Type 0 where
+  pub version : new.version ≡ old.version
   pub sites : new.sites.items ≡ old.sites.items
   pub tree : new.tree ≡ old.tree
   pub trace : joined new.trace.items ≡ joined old.trace.items ++ w.made.outs
@@ -98,6 +99,7 @@ pub record IsTaken (w : Work) (old : Parts) (before : List Event) (new : Parts)
 pub record AreBack (slots : List Slot) (old : Parts) (before : List Event) (new : Parts)
     (after : List Event) : Type 0 where
   pub worked : Each HasWork slots
+  pub version : new.version ≡ old.version
   pub sites : new.sites.items ≡ old.sites.items ++ sites_of slots
   pub tree : new.tree ≡ old.tree
   pub trace : joined new.trace.items ≡ joined old.trace.items ++ outs_of slots

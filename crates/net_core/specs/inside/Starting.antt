@@ -10,10 +10,10 @@ use Rattle.net_core.specs.declared.parts.Parts.{Parts}
 use Rattle.net_core.specs.Parts.{net_of}
 use Rattle.net_core.specs.Whole.{AllFit, AreFlying}
 
--- the sites with numbers below n are opened: the others still lead to the opened network, and bear
--- new locations; of the sites to come the tree has the site-level locations alone
-pub record IsUpTo (c : CodeParts) (n : ℕ) (p : Parts) : Type 0 where
-  pub rest : all_opened c n (drop n c.sites) (net_of c.seen p) ≡ opened_net c
+-- the sites with numbers below n are opened: the others still lead to the opened network of this
+-- version, and bear new locations; of the sites to come the tree has the site-level locations alone
+pub record IsUpTo (version : ℕ) (c : CodeParts) (n : ℕ) (p : Parts) : Type 0 where
+  pub rest : all_opened c n (drop n c.sites) (net_of c.seen p) ≡ opened_net version c
   pub new : BearNew c n (drop n c.sites) (net_of c.seen p)
   pub tops :
       (l : Loc) → Contains c.tops l

@@ -25,7 +25,7 @@ with_flights (f ∷ fs) mails = with_flights fs (with_text f.target f.bytes mail
 pub record IsUpTo (c : CodeParts) (n : ℕ) (sites : List Site) (t : Tree)
     (mails : List (List (List ℕ))) : Type 0 where
   pub net : Net
-  pub rest : all_opened c n (drop n c.sites) net ≡ opened_net c
+  pub rest : all_opened c n (drop n c.sites) net ≡ opened_net net.version c
   pub new : BearNew c n (drop n c.sites) net
   pub sites_are : sites ≡ net.sites
   pub tree : IsSameTree net.tree t

@@ -12,7 +12,7 @@ use Rattle.net_core.proofs.acting.move_request.Goals as goal
 
 pub goal_at-goal-requires : goal.goal_at-goal-requires
 goal_at-goal-requires c =
-    let g = has_goal c.args.parts.now.tree c.args.parts.now.sites.items c.args.number c.args.atom.now c.requires.may in
+    let g = has_goal c.args.parts.now.version c.args.parts.now.tree c.args.parts.now.sites.items c.args.number c.args.atom.now c.requires.may in
     (g.0, subst (λ (us : List Site). HasGoal us c.args.number c.args.atom.now g.0) (sym c.as_slice.ensures.value) g.1)
 
 pub move_here-requires-clause-may : goal.move_here-requires-clause-may
@@ -20,10 +20,10 @@ move_here-requires-clause-may c =
     let old = c.args.parts.now in
     let code = c.args.code.now in
     let running = c.requires.whole.1.running in
-    let g = has_goal old.tree old.sites.items c.args.number c.args.atom.now c.requires.may in
+    let g = has_goal old.version old.tree old.sites.items c.args.number c.args.atom.now c.requires.may in
     let is : c.goal_at-goal.result ≡ g.0 = c.goal_at-goal.ensures g.0 (subst (λ (us : List Site). HasGoal us c.args.number c.args.atom.now g.0) (sym c.as_slice.ensures.value) g.1) in
     let own : g.0.site ≡ c.args.number = ap (λ (l : Loc). l.site) (sym is) ∙ c.if-into-number.true in
-    let may : MayGoAt (bare old.tree) old.sites.items c.args.number c.args.atom.now = record { site = c.requires.may.site; site_is = c.requires.may.site_is; can = c.requires.may.can } in
+    let may : MayGoAt old.version (bare old.tree) old.sites.items c.args.number c.args.atom.now = record { site = c.requires.may.site; site_is = c.requires.may.site_is; can = c.requires.may.can } in
     let here = goes_here code running.code (net_of code.seen old) running.some c.args.number c.args.atom.now may g.0 g.1 own in
     record { site = here.site; site_is = here.site_is; can = here.can; hosted = here.hosted }
 
@@ -32,11 +32,11 @@ move_over-requires-clause-may c =
     let old = c.args.parts.now in
     let code = c.args.code.now in
     let running = c.requires.whole.1.running in
-    let g = has_goal old.tree old.sites.items c.args.number c.args.atom.now c.requires.may in
+    let g = has_goal old.version old.tree old.sites.items c.args.number c.args.atom.now c.requires.may in
     let is : c.goal_at-goal.result ≡ g.0 = c.goal_at-goal.ensures g.0 (subst (λ (us : List Site). HasGoal us c.args.number c.args.atom.now g.0) (sym c.as_slice.ensures.value) g.1) in
-    let may : MayGoAt (bare old.tree) old.sites.items c.args.number c.args.atom.now = record { site = c.requires.may.site; site_is = c.requires.may.site_is; can = c.requires.may.can } in
+    let may : MayGoAt old.version (bare old.tree) old.sites.items c.args.number c.args.atom.now = record { site = c.requires.may.site; site_is = c.requires.may.site_is; can = c.requires.may.can } in
     let over = goes_over code running.code (net_of code.seen old) running.some c.args.number c.args.atom.now may g.0 g.1 (λ own. c.if-into-number.false (ap (λ (l : Loc). l.site) is ∙ own)) in
-    let all = subst (λ (l : Loc). MayCrossAt (bare old.tree) old.sites.items c.args.number l.site c.args.atom.now) (sym is) over in
+    let all = subst (λ (l : Loc). MayCrossAt old.version (bare old.tree) old.sites.items c.args.number l.site c.args.atom.now) (sym is) over in
     record { from = all.from; into = all.into; from_is = all.from_is; into_is = all.into_is; away = all.away; can = all.can; hosted = all.hosted; joins = all.joins }
 
 pub returns-then-into-number-clause-whole : goal.returns-then-into-number-clause-whole

@@ -34,15 +34,15 @@ bring_to_target-requires-clause-can c = λ s at.
 pub returns-in_err-more-clause-whole : goal.returns-in_err-more-clause-whole
 returns-in_err-more-clause-whole c = λ code events whole.
     let all : (with_items c.args.parts.now.sites c.bring_to_target.new.sites).items ≡ c.bring_to_target.new.sites = with_items_is c.args.parts.now.sites c.bring_to_target.new.sites (c.bring_to_target.auto.sites ∙ c.deref_mut.ensures.len) in
-    let new : Parts = record { sites = with_items c.args.parts.now.sites c.bring_to_target.new.sites; tree = c.args.parts.now.tree; trace = c.args.parts.now.trace; flights = c.reserve.new.self; under_way = c.args.parts.now.under_way } in
-    let same : AreAsBefore c.args.parts.now new = record { sites = all ∙ c.in_err-more.ensures.err ∙ c.deref_mut.ensures.value; tree = refl; trace = refl; flights = c.in_ok-reserve.ensures.items; under_way = refl } in
+    let new : Parts = record { version = c.args.parts.now.version; sites = with_items c.args.parts.now.sites c.bring_to_target.new.sites; tree = c.args.parts.now.tree; trace = c.args.parts.now.trace; flights = c.reserve.new.self; under_way = c.args.parts.now.under_way } in
+    let same : AreAsBefore c.args.parts.now new = record { version = refl; sites = all ∙ c.in_err-more.ensures.err ∙ c.deref_mut.ensures.value; tree = refl; trace = refl; flights = c.in_ok-reserve.ensures.items; under_way = refl } in
     as_before_whole code c.args.parts.now new events same whole
 
 pub returns-in_err-more-clause-err : goal.returns-in_err-more-clause-err
 returns-in_err-more-clause-err c =
     let all : (with_items c.args.parts.now.sites c.bring_to_target.new.sites).items ≡ c.bring_to_target.new.sites = with_items_is c.args.parts.now.sites c.bring_to_target.new.sites (c.bring_to_target.auto.sites ∙ c.deref_mut.ensures.len) in
-    let new : Parts = record { sites = with_items c.args.parts.now.sites c.bring_to_target.new.sites; tree = c.args.parts.now.tree; trace = c.args.parts.now.trace; flights = c.reserve.new.self; under_way = c.args.parts.now.under_way } in
-    let same : AreAsBefore c.args.parts.now new = record { sites = all ∙ c.in_err-more.ensures.err ∙ c.deref_mut.ensures.value; tree = refl; trace = refl; flights = c.in_ok-reserve.ensures.items; under_way = refl } in
+    let new : Parts = record { version = c.args.parts.now.version; sites = with_items c.args.parts.now.sites c.bring_to_target.new.sites; tree = c.args.parts.now.tree; trace = c.args.parts.now.trace; flights = c.reserve.new.self; under_way = c.args.parts.now.under_way } in
+    let same : AreAsBefore c.args.parts.now new = record { version = refl; sites = all ∙ c.in_err-more.ensures.err ∙ c.deref_mut.ensures.value; tree = refl; trace = refl; flights = c.in_ok-reserve.ensures.items; under_way = refl } in
     on_err ((seen : List ℕ) → net_of seen new ≡ net_of seen c.args.parts.now) c.from_residual-in_err-more.result (λ seen. as_before_net seen c.args.parts.now new same)
 
 pub overflow_add-parts : goal.overflow_add-parts
@@ -67,10 +67,10 @@ returns-clause-ok c = λ seen.
     let b = brought_in c.args.parts.now.tree flight here.0 c.in_ok-more.more c.deref_mut.result.now c.args.parts.now.sites.items c.bring_to_target.new.sites c.deref_mut.ensures.value c.in_ok-more.ensures.ok here.1 in
     let all : (with_items c.args.parts.now.sites c.bring_to_target.new.sites).items ≡ c.bring_to_target.new.sites = with_items_is c.args.parts.now.sites c.bring_to_target.new.sites (c.bring_to_target.auto.sites ∙ c.deref_mut.ensures.len) in
     let put = subst (λ (us : List Site). IsBrought c.args.parts.now.tree flight.target here.0 (message_in flight.bytes) b.on c.args.parts.now.sites.items us) (sym all) b.brought in
-    let new : Parts = record { sites = with_items c.args.parts.now.sites c.bring_to_target.new.sites; tree = c.args.parts.now.tree; trace = c.args.parts.now.trace; flights = c.replace.new.flights; under_way = c.args.parts.now.under_way - 1 + c.len-count.result } in
+    let new : Parts = record { version = c.args.parts.now.version; sites = with_items c.args.parts.now.sites c.bring_to_target.new.sites; tree = c.args.parts.now.tree; trace = c.args.parts.now.trace; flights = c.replace.new.flights; under_way = c.args.parts.now.under_way - 1 + c.len-count.result } in
     let left = flights_left c.args.parts.now.flights.items c.reserve.new.self.items c.as_slice.result.now c.replace.new.flights.items c.args.flight c.place_of-piece.result.0 c.place_of-piece.result.1 c.in_ok-more.more
     c.in_ok-reserve.ensures.items c.as_slice.ensures.value c.place_of-piece.ensures c.replace.ensures in
-    delivers c.requires.whole.0 c.args.parts.now new c.requires.whole.1 c.args.flight flight b.on c.in_ok-more.more here.0 c.requires.whole.2 found here.1 put b.goes refl refl left seen
+    delivers c.requires.whole.0 c.args.parts.now new c.requires.whole.1 c.args.flight flight b.on c.in_ok-more.more here.0 c.requires.whole.2 found here.1 put b.goes refl refl refl left seen
 
 pub returns-clause-whole : goal.returns-clause-whole
 returns-clause-whole c = λ code events whole.
@@ -81,8 +81,8 @@ returns-clause-whole c = λ code events whole.
     let b = brought_in c.args.parts.now.tree flight here.0 c.in_ok-more.more c.deref_mut.result.now c.args.parts.now.sites.items c.bring_to_target.new.sites c.deref_mut.ensures.value c.in_ok-more.ensures.ok here.1 in
     let all : (with_items c.args.parts.now.sites c.bring_to_target.new.sites).items ≡ c.bring_to_target.new.sites = with_items_is c.args.parts.now.sites c.bring_to_target.new.sites (c.bring_to_target.auto.sites ∙ c.deref_mut.ensures.len) in
     let put = subst (λ (us : List Site). IsBrought c.args.parts.now.tree flight.target here.0 (message_in flight.bytes) b.on c.args.parts.now.sites.items us) (sym all) b.brought in
-    let new : Parts = record { sites = with_items c.args.parts.now.sites c.bring_to_target.new.sites; tree = c.args.parts.now.tree; trace = c.args.parts.now.trace; flights = c.replace.new.flights; under_way = c.args.parts.now.under_way - 1 + c.len-count.result } in
+    let new : Parts = record { version = c.args.parts.now.version; sites = with_items c.args.parts.now.sites c.bring_to_target.new.sites; tree = c.args.parts.now.tree; trace = c.args.parts.now.trace; flights = c.replace.new.flights; under_way = c.args.parts.now.under_way - 1 + c.len-count.result } in
     let left = flights_left c.args.parts.now.flights.items c.reserve.new.self.items c.as_slice.result.now c.replace.new.flights.items c.args.flight c.place_of-piece.result.0 c.place_of-piece.result.1 c.in_ok-more.more
     c.in_ok-reserve.ensures.items c.as_slice.ensures.value c.place_of-piece.ensures c.replace.ensures in
     let fit : AllFit code c.args.parts.now.tree c.deref_mut.result.now = subst (λ (us : List Site). AllFit code c.args.parts.now.tree us) (sym c.deref_mut.ensures.value) (fit_full code c.args.parts.now.tree c.args.parts.now.sites.items whole.running.fit) in
-    delivered_whole code c.args.parts.now new events c.args.flight flight b.on c.in_ok-more.more here.0 whole found here.1 put b.goes refl refl left (subst (λ (us : List Site). AllFit code c.args.parts.now.tree us) (sym all) (c.in_ok-more.ensures.fit code fit)) (ap (λ (n : ℕ). c.args.parts.now.under_way - 1 + n) c.len-count.ensures.count)
+    delivered_whole code c.args.parts.now new events c.args.flight flight b.on c.in_ok-more.more here.0 whole found here.1 put b.goes refl refl refl left (subst (λ (us : List Site). AllFit code c.args.parts.now.tree us) (sym all) (c.in_ok-more.ensures.fit code fit)) (ap (λ (n : ℕ). c.args.parts.now.under_way - 1 + n) c.len-count.ensures.count)

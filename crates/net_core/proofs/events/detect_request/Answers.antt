@@ -7,7 +7,8 @@ use Rattle.loc_tree.specs.Tree.{Tree}
 use Rattle.net_laws.specs.Site.{Site}
 use Rattle.net_laws.specs.Net.{Net}
 use Rattle.net_laws.specs.Holding.{drop_request}
-use Rattle.net_laws.specs.Meeting.{continuation_made, sent_here}
+use Rattle.net_laws.specs.Moves.{continuation_made}
+use Rattle.net_laws.specs.Meeting.{sent_here}
 use Rattle.failure.specs.Deaths.{dead_for}
 use Rattle.net_core.specs.declared.parts.Parts.{Parts}
 use Rattle.net_core.specs.Acting.{Detects}
@@ -53,7 +54,7 @@ returns-clause-detects c =
     let there : slice_get c.deref_mut.result.now c.args.number ≡ Some s = ap (λ (us : List Site). slice_get us c.args.number) c.deref_mut.ensures.value ∙ here in
     let does = c.in_ok-effects.ensures.ok s there in
     let e = c.in_ok-effects.effects in
-    let new : Parts = record { sites = with_items mid.sites c.detect_at.new.sites; tree = mid.tree; trace = c.add_piece.new.pieces; flights = c.add_flights.new.flights; under_way = c.add_flights.new.under_way } in
+    let new : Parts = record { version = mid.version; sites = with_items mid.sites c.detect_at.new.sites; tree = mid.tree; trace = c.add_piece.new.pieces; flights = c.add_flights.new.flights; under_way = c.add_flights.new.under_way } in
     let all : new.sites.items ≡ c.detect_at.new.sites = with_items_is mid.sites c.detect_at.new.sites (c.detect_at.auto.sites ∙ c.deref_mut.ensures.len) in
     let detects : DetectsAt c.args.counts.now mid.tree c.args.number c.args.atom.now s mid.sites.items new.sites.items e =
     subst (λ (us : List Site). DetectsAt c.args.counts.now mid.tree c.args.number c.args.atom.now s mid.sites.items us e) (sym all)
@@ -61,7 +62,7 @@ returns-clause-detects c =
     let can : is_some (dead_for mid.tree c.args.atom.now s) ≡ true = ap (λ (t : Tree). is_some (dead_for t c.args.atom.now s)) same.tree ∙ c.requires.may.can in
     let number = (as_before_whole c.requires.whole.0 c.args.parts.now mid c.requires.whole.1 same c.requires.whole.2).running.some.stands.hosts c.args.number s here in
     subst (λ (n : Net). Detects n c.args.atom.now (net_of c.args.counts.now new)) (as_before_net c.args.counts.now c.args.parts.now mid same)
-    (detects_net c.args.counts.now mid new c.args.number c.args.atom.now s e here number.number can detects refl c.add_piece.ensures c.add_flights.ensures.flights)
+    (detects_net c.args.counts.now mid new refl c.args.number c.args.atom.now s e here number.number can detects refl c.add_piece.ensures c.add_flights.ensures.flights)
 
 pub returns-clause-whole : goal.returns-clause-whole
 returns-clause-whole c = λ code events seen few whole.
@@ -72,7 +73,7 @@ returns-clause-whole c = λ code events seen few whole.
     let there : slice_get c.deref_mut.result.now c.args.number ≡ Some s = ap (λ (us : List Site). slice_get us c.args.number) c.deref_mut.ensures.value ∙ here in
     let does = c.in_ok-effects.ensures.ok s there in
     let e = c.in_ok-effects.effects in
-    let new : Parts = record { sites = with_items mid.sites c.detect_at.new.sites; tree = mid.tree; trace = c.add_piece.new.pieces; flights = c.add_flights.new.flights; under_way = c.add_flights.new.under_way } in
+    let new : Parts = record { version = mid.version; sites = with_items mid.sites c.detect_at.new.sites; tree = mid.tree; trace = c.add_piece.new.pieces; flights = c.add_flights.new.flights; under_way = c.add_flights.new.under_way } in
     let all : new.sites.items ≡ c.detect_at.new.sites = with_items_is mid.sites c.detect_at.new.sites (c.detect_at.auto.sites ∙ c.deref_mut.ensures.len) in
     let detects : DetectsAt c.args.counts.now mid.tree c.args.number c.args.atom.now s mid.sites.items new.sites.items e =
     subst (λ (us : List Site). DetectsAt c.args.counts.now mid.tree c.args.number c.args.atom.now s mid.sites.items us e) (sym all)
@@ -82,7 +83,7 @@ returns-clause-whole c = λ code events seen few whole.
     let number = before.running.some.stands.hosts c.args.number s here in
     let made : Detects (net_of code.seen mid) c.args.atom.now (net_of code.seen new) =
     subst (λ (ks : List ℕ). Detects (net_of ks mid) c.args.atom.now (net_of ks new)) (sym seen)
-    (detects_net c.args.counts.now mid new c.args.number c.args.atom.now s e here number.number can detects refl c.add_piece.ensures c.add_flights.ensures.flights) in
+    (detects_net c.args.counts.now mid new refl c.args.number c.args.atom.now s e here number.number can detects refl c.add_piece.ensures c.add_flights.ensures.flights) in
     let old_fit : AllFit code mid.tree c.deref_mut.result.now = subst (λ (us : List Site). AllFit code mid.tree us) (sym c.deref_mut.ensures.value) (fit_full code mid.tree mid.sites.items before.running.fit) in
     let fit : AllStayFit code mid.tree new.sites.items = subst (λ (us : List Site). AllStayFit code mid.tree us) (sym all) (c.in_ok-effects.ensures.fit code old_fit) in
     let d = detects.detects in

@@ -1,14 +1,15 @@
-use Rattle.std.proofs.Common.{◌≡◌, ◌<◌, ◌≤◌, ◌+◌, ◌∙◌, ◌^◌, List, Some, length, slice_get, sym, ap, subst, true, arith}
+use Rattle.std.proofs.Common.{◌≡◌, ℕ, ◌<◌, ◌≤◌, ◌+◌, ◌∙◌, ◌^◌, List, Some, length, slice_get, refl, sym, ap, subst, true, arith}
 use Rattle.std.specs.Vec.{with_items}
 use Rattle.std.specs.Prelude.{slice_set}
 use Rattle.std.proofs.lemmas.List.{with_items_is}
 use Rattle.chem_model.specs.declared.event.Event.TheVariants as event
-use Rattle.loc_tree.specs.Tree.{Tree}
+use Rattle.loc_tree.specs.Tree.{Tree, is_alive}
 use Rattle.net_laws.specs.Site.{Site}
 use Rattle.net_laws.specs.Net.{Net}
 use Rattle.net_laws.specs.Holding.{drop_request}
 use Rattle.net_laws.specs.Parcels.{pack, take_in}
-use Rattle.net_laws.specs.Meeting.{continuation_made, sent_here}
+use Rattle.net_laws.specs.Moves.{moved_made}
+use Rattle.net_laws.specs.Meeting.{sent_here}
 use Rattle.migration.specs.Moves.{can_go}
 use Rattle.net_core.specs.declared.parts.Parts.{Parts}
 use Rattle.net_core.specs.Acting.{Moves}
@@ -19,10 +20,33 @@ use Rattle.net_core.specs.Whole.{AllFit}
 use Rattle.net_core.proofs.Carrying.{all_carry}
 use Rattle.net_core.proofs.Deliveries.{as_before_net, as_before_whole, set_length}
 use Rattle.net_core.proofs.Fitting.{fit_full}
-use Rattle.net_core.proofs.Going.{crosses_net, goal_here}
-use Rattle.net_core.proofs.Handed.{continuation_few, flights_long, event_whole, stay_bare}
+use Rattle.net_core.proofs.Going.{crosses_net, goal_here, can_two}
+use Rattle.net_core.proofs.Handed.{moved_few, flights_long, event_whole, stay_bare}
 use Rattle.net_core.proofs.Reaching.{are_numbered}
 use Rattle.net_core.proofs.events.move_over.Goals as goal
+
+pub cross-requires-clause-may : goal.cross-requires-clause-may
+cross-requires-clause-may c =
+    let old = c.args.parts.now in
+    let mid = c.make_room.new.parts in
+    let same = c.in_ok-make_room.ensures.same in
+    let may = c.requires.may in
+    let i = c.args.from in
+    let j = c.args.into in
+    let a = c.args.atom.now in
+    let here : slice_get mid.sites.items i ≡ Some may.from = ap (λ (us : List Site). slice_get us i) same.sites ∙ may.from_is in
+    let there : slice_get mid.sites.items j ≡ Some may.into = ap (λ (us : List Site). slice_get us j) same.sites ∙ may.into_is in
+    let can : can_go mid.version mid.tree a may.from ≡ true = ap (λ (t : Tree). can_go mid.version t a may.from) same.tree ∙ ap (λ (v : ℕ). can_go v old.tree a may.from) same.version ∙ may.can in
+    record {
+      from = may.from;
+      into = may.into;
+      from_is = ap (λ (us : List Site). slice_get us i) c.deref_mut.ensures.value ∙ here;
+      into_is = ap (λ (us : List Site). slice_get us j) c.deref_mut.ensures.value ∙ there;
+      away = may.away;
+      can = can_two mid.version mid.tree a may.from can;
+      hosted = may.hosted;
+      joins = may.joins;
+    }
 
 pub cross-requires-clause-fit : goal.cross-requires-clause-fit
 cross-requires-clause-fit c =
@@ -63,16 +87,16 @@ add_flights-requires-clause-few c =
     let number = (before.running.some.stands.hosts j u there).number in
     let first : slice_get c.deref_mut.result.now i ≡ Some s = ap (λ (us : List Site). slice_get us i) c.deref_mut.ensures.value ∙ here in
     let second : slice_get c.deref_mut.result.now j ≡ Some u = ap (λ (us : List Site). slice_get us j) c.deref_mut.ensures.value ∙ there in
-    let new : Parts = record { sites = with_items mid.sites c.cross.new.sites; tree = c.cross.new.tree; trace = mid.trace; flights = mid.flights; under_way = mid.under_way } in
+    let new : Parts = record { version = mid.version; sites = with_items mid.sites c.cross.new.sites; tree = c.cross.new.tree; trace = mid.trace; flights = mid.flights; under_way = mid.under_way } in
     let all : new.sites.items ≡ c.cross.new.sites = with_items_is mid.sites c.cross.new.sites (c.cross.auto.sites ∙ c.deref_mut.ensures.len) in
     let moves : CrossesAt code.seen mid.tree c.cross.new.tree i j a s u mid.sites.items new.sites.items e =
     subst (λ (us : List Site). CrossesAt code.seen mid.tree c.cross.new.tree i j a s u mid.sites.items us e) (sym all)
     (subst (λ (us : List Site). CrossesAt code.seen mid.tree c.cross.new.tree i j a s u us c.cross.new.sites e) c.deref_mut.ensures.value (c.in_ok-effects.ensures.ok s u first second)) in
     let d = moves.moves in
     let load = take_in (pack d.asked.loc (drop_request a s)) u in
-    let o = sent_here c.cross.new.tree (continuation_made code.seen u.number d.asked.loc u.made d.cont) load in
+    let o = sent_here c.cross.new.tree (moved_made (is_alive mid.tree d.target) code.seen u.number d.asked.loc u.made d.cont) load in
     let long : length e.sends ≡ length o.sends = flights_long o.sends e.sends d.answers.sends in
-    let one : length o.sends ≤ 1 = continuation_few c.cross.new.tree code.seen u.number d.asked.loc u.made d.cont load in
+    let one : length o.sends ≤ 1 = moved_few c.cross.new.tree (is_alive mid.tree d.target) code.seen u.number d.asked.loc u.made d.cont load in
     let room : mid.under_way + 1 < 2 ^ 32 = c.in_ok-make_room.ensures.room.numbers in
     omega (arith, long, one, room)
 
@@ -95,21 +119,21 @@ returns-clause-moves c =
     let number = (before.running.some.stands.hosts j u there).number in
     let first : slice_get c.deref_mut.result.now i ≡ Some s = ap (λ (us : List Site). slice_get us i) c.deref_mut.ensures.value ∙ here in
     let second : slice_get c.deref_mut.result.now j ≡ Some u = ap (λ (us : List Site). slice_get us j) c.deref_mut.ensures.value ∙ there in
-    let new : Parts = record { sites = with_items mid.sites c.cross.new.sites; tree = c.cross.new.tree; trace = mid.trace; flights = mid.flights; under_way = mid.under_way } in
+    let new : Parts = record { version = mid.version; sites = with_items mid.sites c.cross.new.sites; tree = c.cross.new.tree; trace = mid.trace; flights = mid.flights; under_way = mid.under_way } in
     let all : new.sites.items ≡ c.cross.new.sites = with_items_is mid.sites c.cross.new.sites (c.cross.auto.sites ∙ c.deref_mut.ensures.len) in
     let moves : CrossesAt code.seen mid.tree c.cross.new.tree i j a s u mid.sites.items new.sites.items e =
     subst (λ (us : List Site). CrossesAt code.seen mid.tree c.cross.new.tree i j a s u mid.sites.items us e) (sym all)
     (subst (λ (us : List Site). CrossesAt code.seen mid.tree c.cross.new.tree i j a s u us c.cross.new.sites e) c.deref_mut.ensures.value (c.in_ok-effects.ensures.ok s u first second)) in
     let d = moves.moves in
     let load = take_in (pack d.asked.loc (drop_request a s)) u in
-    let o = sent_here c.cross.new.tree (continuation_made code.seen u.number d.asked.loc u.made d.cont) load in
+    let o = sent_here c.cross.new.tree (moved_made (is_alive mid.tree d.target) code.seen u.number d.asked.loc u.made d.cont) load in
     let long : length e.sends ≡ length o.sends = flights_long o.sends e.sends d.answers.sends in
-    let one : length o.sends ≤ 1 = continuation_few c.cross.new.tree code.seen u.number d.asked.loc u.made d.cont load in
+    let one : length o.sends ≤ 1 = moved_few c.cross.new.tree (is_alive mid.tree d.target) code.seen u.number d.asked.loc u.made d.cont load in
     let room : mid.under_way + 1 < 2 ^ 32 = c.in_ok-make_room.ensures.room.numbers in
-    let end : Parts = record { sites = new.sites; tree = new.tree; trace = c.add_piece.new.pieces; flights = c.add_flights.new.flights; under_way = c.add_flights.new.under_way } in
-    let can : can_go mid.tree a s ≡ true = ap (λ (t : Tree). can_go t a s) same.tree ∙ c.requires.may.can in
-    let goal_is : d.target.site ≡ j = goal_here code (net_of code.seen mid) before.running.some j a s u d.asked d.target d.cont there d.here d.asks can c.requires.may.hosted in
-    let made : Moves (net_of code.seen mid) a (net_of code.seen end) = crosses_net code.seen mid end i j a s u e here there c.requires.may.away number can moves goal_is c.add_piece.ensures c.add_flights.ensures.flights in
+    let end : Parts = record { version = new.version; sites = new.sites; tree = new.tree; trace = c.add_piece.new.pieces; flights = c.add_flights.new.flights; under_way = c.add_flights.new.under_way } in
+    let can : can_go mid.version mid.tree a s ≡ true = ap (λ (t : Tree). can_go mid.version t a s) same.tree ∙ ap (λ (v : ℕ). can_go v old.tree a s) same.version ∙ c.requires.may.can in
+    let goal_is : d.target.site ≡ j = goal_here mid.version code (net_of code.seen mid) before.running.some j a s u d.asked d.target d.cont there d.here d.asks can c.requires.may.hosted in
+    let made : Moves (net_of code.seen mid) a (net_of code.seen end) = crosses_net code.seen mid end refl i j a s u e here there c.requires.may.away number can moves goal_is c.add_piece.ensures c.add_flights.ensures.flights in
     subst (λ (n : Net). Moves n a (net_of code.seen end)) (as_before_net code.seen old mid same) made
 
 pub returns-clause-whole : goal.returns-clause-whole
@@ -131,21 +155,21 @@ returns-clause-whole c = λ events few whole.
     let number = (before.running.some.stands.hosts j u there).number in
     let first : slice_get c.deref_mut.result.now i ≡ Some s = ap (λ (us : List Site). slice_get us i) c.deref_mut.ensures.value ∙ here in
     let second : slice_get c.deref_mut.result.now j ≡ Some u = ap (λ (us : List Site). slice_get us j) c.deref_mut.ensures.value ∙ there in
-    let new : Parts = record { sites = with_items mid.sites c.cross.new.sites; tree = c.cross.new.tree; trace = mid.trace; flights = mid.flights; under_way = mid.under_way } in
+    let new : Parts = record { version = mid.version; sites = with_items mid.sites c.cross.new.sites; tree = c.cross.new.tree; trace = mid.trace; flights = mid.flights; under_way = mid.under_way } in
     let all : new.sites.items ≡ c.cross.new.sites = with_items_is mid.sites c.cross.new.sites (c.cross.auto.sites ∙ c.deref_mut.ensures.len) in
     let moves : CrossesAt code.seen mid.tree c.cross.new.tree i j a s u mid.sites.items new.sites.items e =
     subst (λ (us : List Site). CrossesAt code.seen mid.tree c.cross.new.tree i j a s u mid.sites.items us e) (sym all)
     (subst (λ (us : List Site). CrossesAt code.seen mid.tree c.cross.new.tree i j a s u us c.cross.new.sites e) c.deref_mut.ensures.value (c.in_ok-effects.ensures.ok s u first second)) in
     let d = moves.moves in
     let load = take_in (pack d.asked.loc (drop_request a s)) u in
-    let o = sent_here c.cross.new.tree (continuation_made code.seen u.number d.asked.loc u.made d.cont) load in
+    let o = sent_here c.cross.new.tree (moved_made (is_alive mid.tree d.target) code.seen u.number d.asked.loc u.made d.cont) load in
     let long : length e.sends ≡ length o.sends = flights_long o.sends e.sends d.answers.sends in
-    let one : length o.sends ≤ 1 = continuation_few c.cross.new.tree code.seen u.number d.asked.loc u.made d.cont load in
+    let one : length o.sends ≤ 1 = moved_few c.cross.new.tree (is_alive mid.tree d.target) code.seen u.number d.asked.loc u.made d.cont load in
     let room : mid.under_way + 1 < 2 ^ 32 = c.in_ok-make_room.ensures.room.numbers in
-    let end : Parts = record { sites = new.sites; tree = new.tree; trace = c.add_piece.new.pieces; flights = c.add_flights.new.flights; under_way = c.add_flights.new.under_way } in
-    let can : can_go mid.tree a s ≡ true = ap (λ (t : Tree). can_go t a s) same.tree ∙ c.requires.may.can in
-    let goal_is : d.target.site ≡ j = goal_here code (net_of code.seen mid) before.running.some j a s u d.asked d.target d.cont there d.here d.asks can c.requires.may.hosted in
-    let made : Moves (net_of code.seen mid) a (net_of code.seen end) = crosses_net code.seen mid end i j a s u e here there c.requires.may.away number can moves goal_is c.add_piece.ensures c.add_flights.ensures.flights in
+    let end : Parts = record { version = new.version; sites = new.sites; tree = new.tree; trace = c.add_piece.new.pieces; flights = c.add_flights.new.flights; under_way = c.add_flights.new.under_way } in
+    let can : can_go mid.version mid.tree a s ≡ true = ap (λ (t : Tree). can_go mid.version t a s) same.tree ∙ ap (λ (v : ℕ). can_go v old.tree a s) same.version ∙ c.requires.may.can in
+    let goal_is : d.target.site ≡ j = goal_here mid.version code (net_of code.seen mid) before.running.some j a s u d.asked d.target d.cont there d.here d.asks can c.requires.may.hosted in
+    let made : Moves (net_of code.seen mid) a (net_of code.seen end) = crosses_net code.seen mid end refl i j a s u e here there c.requires.may.away number can moves goal_is c.add_piece.ensures c.add_flights.ensures.flights in
     let fit : AllStayFit code end.tree end.sites.items = subst (λ (us : List Site). AllStayFit code end.tree us) (sym all) c.in_ok-effects.ensures.fit in
     event_whole code mid end (event.Move a) events before few (move a _ made) (stay_bare code end.tree end.sites.items fit)
     (ap length moves.sites ∙ set_length (slice_set mid.sites.items i moves.left) j moves.after ∙ set_length mid.sites.items i moves.left)

@@ -1,4 +1,4 @@
-use Rattle.std.proofs.Common.{◌≡◌, ◌≤◌, ◌∙◌, List, Some, length, slice_get, sym, ap, subst, arith}
+use Rattle.std.proofs.Common.{◌≡◌, ◌≤◌, ◌∙◌, List, Some, length, slice_get, refl, sym, ap, subst, arith}
 use Rattle.std.specs.Vec.{with_items}
 use Rattle.std.proofs.lemmas.List.{with_items_is}
 use Rattle.loc_tree.specs.Tree.{Tree, bare}
@@ -53,7 +53,7 @@ add_births-requires-clause-new c =
     let all : (with_items mid.sites c.react_at.new.sites).items ≡ c.react_at.new.sites = with_items_is mid.sites c.react_at.new.sites (c.react_at.auto.sites ∙ c.deref_mut.ensures.len) in
     let reacts : ReactsAt code mid.tree i p s x mid.sites.items (with_items mid.sites c.react_at.new.sites).items c.in_ok-event.event e =
     subst (λ (us : List Site). ReactsAt code mid.tree i p s x mid.sites.items us c.in_ok-event.event e) (sym all) does in
-    let half : Parts = record { sites = with_items mid.sites c.react_at.new.sites; tree = mid.tree; trace = mid.trace; flights = mid.flights; under_way = mid.under_way } in
+    let half : Parts = record { version = mid.version; sites = with_items mid.sites c.react_at.new.sites; tree = mid.tree; trace = mid.trace; flights = mid.flights; under_way = mid.under_way } in
     subst (AreNew mid.tree i) (sym c.as_slice-2.ensures.members) (births_new code before.running.code mid half before.running.some i s p x here number fires c.in_ok-event.event e reacts)
 
 pub add_births-requires-clause-room : goal.add_births-requires-clause-room
@@ -157,10 +157,10 @@ returns-clause-reacts c =
     let all : (with_items mid.sites c.react_at.new.sites).items ≡ c.react_at.new.sites = with_items_is mid.sites c.react_at.new.sites (c.react_at.auto.sites ∙ c.deref_mut.ensures.len) in
     let reacts : ReactsAt code mid.tree i p s x mid.sites.items (with_items mid.sites c.react_at.new.sites).items c.in_ok-event.event e =
     subst (λ (us : List Site). ReactsAt code mid.tree i p s x mid.sites.items us c.in_ok-event.event e) (sym all) does in
-    let new : Parts = record { sites = with_items mid.sites c.react_at.new.sites; tree = c.add_births.new.tree; trace = c.add_piece.new.pieces; flights = c.add_flights.new.flights; under_way = c.add_flights.new.under_way } in
+    let new : Parts = record { version = mid.version; sites = with_items mid.sites c.react_at.new.sites; tree = c.add_births.new.tree; trace = c.add_piece.new.pieces; flights = c.add_flights.new.flights; under_way = c.add_flights.new.under_way } in
     let tree : new.tree ≡ with_births mid.tree i e.births = c.add_births.ensures ∙ ap (with_births mid.tree i) c.as_slice-2.ensures.members in
     let made : Reacts code (net_of code.seen mid) i p.group p.guard c.in_ok-event.event (net_of code.seen new) =
-    reacts_net code before.running.code mid new before.running.some i s p x here number fires c.in_ok-event.event e reacts
+    reacts_net code before.running.code mid new before.running.some i s p x here number fires c.in_ok-event.event e reacts refl
     (ap bare tree ∙ sym (births_bare mid.tree i e.births)) c.add_piece.ensures c.add_flights.ensures.flights in
     subst (λ (n : Net). Reacts code n i p.group p.guard c.in_ok-event.event (net_of code.seen new)) (as_before_net code.seen old mid same) made
 
@@ -187,10 +187,10 @@ returns-clause-whole c = λ events few whole.
     let all : (with_items mid.sites c.react_at.new.sites).items ≡ c.react_at.new.sites = with_items_is mid.sites c.react_at.new.sites (c.react_at.auto.sites ∙ c.deref_mut.ensures.len) in
     let reacts : ReactsAt code mid.tree i p s x mid.sites.items (with_items mid.sites c.react_at.new.sites).items c.in_ok-event.event e =
     subst (λ (us : List Site). ReactsAt code mid.tree i p s x mid.sites.items us c.in_ok-event.event e) (sym all) does in
-    let new : Parts = record { sites = with_items mid.sites c.react_at.new.sites; tree = c.add_births.new.tree; trace = c.add_piece.new.pieces; flights = c.add_flights.new.flights; under_way = c.add_flights.new.under_way } in
+    let new : Parts = record { version = mid.version; sites = with_items mid.sites c.react_at.new.sites; tree = c.add_births.new.tree; trace = c.add_piece.new.pieces; flights = c.add_flights.new.flights; under_way = c.add_flights.new.under_way } in
     let tree : new.tree ≡ with_births mid.tree i e.births = c.add_births.ensures ∙ ap (with_births mid.tree i) c.as_slice-2.ensures.members in
     let made : Reacts code (net_of code.seen mid) i p.group p.guard c.in_ok-event.event (net_of code.seen new) =
-    reacts_net code before.running.code mid new before.running.some i s p x here number fires c.in_ok-event.event e reacts
+    reacts_net code before.running.code mid new before.running.some i s p x here number fires c.in_ok-event.event e reacts refl
     (ap bare tree ∙ sym (births_bare mid.tree i e.births)) c.add_piece.ensures c.add_flights.ensures.flights in
     let weights = c.weigh-born.ensures s x (ap (λ (us : List Site). slice_get us i) c.as_slice.ensures.value ∙ c.requires.may.site_is) picks in
     let coded = (fits_at code (bare mid.tree) mid.sites.items i s before.running.fit here).in_code in

@@ -23,7 +23,7 @@ pub move_within-requires-clause-can_draw : goal.move_within-requires-clause-can_
 move_within-requires-clause-can_draw c = (fits_or c.requires.fit.0 c.args.tree.now c.args.sites.now c.args.number c.requires.may.site c.index-sites-number.result c.requires.fit.1 c.requires.may.site_is).draws
 
 pub move_within-requires-clause-ready : goal.move_within-requires-clause-ready
-move_within-requires-clause-ready c = asked_at c.args.sites.now c.args.number c.index-sites-number.result (λ (s : Site). can_go c.args.tree.now c.args.atom.now s ≡ true) c.requires.may.site c.requires.may.site_is c.requires.may.can
+move_within-requires-clause-ready c = asked_at c.args.sites.now c.args.number c.index-sites-number.result (λ (s : Site). can_go 2 c.args.tree.now c.args.atom.now s ≡ true) c.requires.may.site c.requires.may.site_is c.requires.may.can
 
 pub move_within-requires-clause-hosted : goal.move_within-requires-clause-hosted
 move_within-requires-clause-hosted c = asked_at c.args.sites.now c.args.number c.index-sites-number.result (λ (s : Site). leads_into c.args.atom.now s s ≡ true) c.requires.may.site c.requires.may.site_is c.requires.may.hosted

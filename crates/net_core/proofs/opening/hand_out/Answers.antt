@@ -26,6 +26,7 @@ returns-in-Ok c =
     record {
       roomy = t;
       room = same.tree;
+      version = same.version;
       sites = same.sites;
       tree = c.add_births.ensures ∙ ap (λ (ls : List Loc). with_births t c.args.number ls) c.as_slice.ensures.members;
       trace = c.add_piece.ensures ∙ ap (λ (os : List (List Out)). joined os ++ e.outs) same.trace;

@@ -35,8 +35,8 @@ returns-in-Ok g c =
     let served : Pairwise (IsServed code old.tree (joined old.flights.items) quota) (map slot_of old.sites.items) done =
     subst (λ (ss : List Slot). Pairwise (IsServed code old.tree (joined old.flights.items) quota) ss done) slots
     (subst (λ (fs : List Flight). Pairwise (IsServed code old.tree fs quota) c.as_mut_slice.result.now done) mail c.lend.ensures) in
-    let start : Parts = record { sites = c.replace-sites.new.dest; tree = old.tree; trace = old.trace; flights = c.replace-flights.new.dest; under_way = 0 } in
+    let start : Parts = record { version = old.version; sites = c.replace-sites.new.dest; tree = old.tree; trace = old.trace; flights = c.replace-flights.new.dest; under_way = 0 } in
     let whole : (with_items c.in_ok-slots.slots done).items ≡ done = with_items_is c.in_ok-slots.slots done (c.lend.auto.slots ∙ c.as_mut_slice.ensures.len) in
     let back : AreBack done start c.new-journal.result new es = subst (λ (ss : List Slot). AreBack ss start c.new-journal.result new es) whole c.in-Ok.ensures in
-    has_round code old new quota es done served back.worked (back.sites ∙ ap (λ ss. ss.items ++ sites_of done) c.replace-sites.ensures.after ∙ ap (λ xs. xs ++ sites_of done) c.new-2.ensures.items) (ap bare back.tree) back.trace
+    has_round code old new quota es done served back.worked back.version (back.sites ∙ ap (λ ss. ss.items ++ sites_of done) c.replace-sites.ensures.after ∙ ap (λ xs. xs ++ sites_of done) c.new-2.ensures.items) (ap bare back.tree) back.trace
     (back.flights ∙ ap (λ fs. joined fs.items ++ flights_of done) c.replace-flights.ensures.after ∙ ap (λ xs. joined xs ++ flights_of done) c.new.ensures.items) (let count = back.count in omega arith) (back.few (omega arith)) (back.events ∙ ap (λ xs. xs ++ events_of done) c.new-journal.ensures) c.requires.few.0 c.requires.few.2

@@ -4,8 +4,8 @@ use Rattle.net_core.proofs.FirstRequests.{none_least_none, least_first}
 use Rattle.net_core.proofs.searching.first_request.Goals as goal
 
 pub returns-in-Some-clause-some : goal.returns-in-Some-clause-some
-returns-in-Some-clause-some c = λ code net parts.
-    subst (IsFirstMeeting code net) (sym c.choice_for.ensures) (least_first c.args.sites.now c.args.tree.now code net parts c.in-Some.request c.in-Some.ensures)
+returns-in-Some-clause-some c = λ code net parts same.
+    subst (IsFirstMeeting code net) (sym c.choice_for.ensures) (least_first c.args.version c.args.sites.now c.args.tree.now code net parts same c.in-Some.request c.in-Some.ensures)
 
 pub returns-in-None-clause-none : goal.returns-in-None-clause-none
-returns-in-None-clause-none c = λ code net parts. none_least_none c.args.sites.now c.args.tree.now code net parts c.in-None.ensures
+returns-in-None-clause-none c = λ code net parts same. none_least_none c.args.version c.args.sites.now c.args.tree.now code net parts same c.in-None.ensures

@@ -9,8 +9,9 @@ pub returns-then-meets-clause-some : goal.returns-then-meets-clause-some
 returns-then-meets-clause-some c =
     let t = c.args.tree.now in
     let s = c.args.site.now in
-    let met : meets t (choice_for c.in-Some.request.now) s ≡ true = ap (λ (x : Choice). meets t x s) (sym c.choice_for.ensures) ∙ sym c.meets.ensures ∙ c.if-meets.true in
-    least_here t s c.loop-request.index c.in-Some.request.now c.site_is_kept.ensures.asked.rising (sym c.in-Some.ensures) met c.loop-request.invariant
+    let v = c.args.version in
+    let met : meets v t (choice_for c.in-Some.request.now) s ≡ true = ap (λ (x : Choice). meets v t x s) (sym c.choice_for.ensures) ∙ sym c.meets.ensures ∙ c.if-meets.true in
+    least_here v t s c.loop-request.index c.in-Some.request.now c.site_is_kept.ensures.asked.rising (sym c.in-Some.ensures) met c.loop-request.invariant
 
 pub overflow_add-index : goal.overflow_add-index
 overflow_add-index c =
@@ -24,4 +25,4 @@ loop-request-smaller c =
     omega arith
 
 pub returns-clause-none : goal.returns-clause-none
-returns-clause-none c = none_at_all c.args.tree.now c.args.site.now c.loop-request.index (sym c.in_default.ensures) c.loop-request.invariant
+returns-clause-none c = none_at_all c.args.version c.args.tree.now c.args.site.now c.loop-request.index (sym c.in_default.ensures) c.loop-request.invariant

@@ -8,7 +8,8 @@ pub loop-number-preserved : goal.loop-number-preserved
 loop-number-preserved c =
     let sites = c.args.sites.now in
     let t = c.args.tree.now in
+    let v = c.args.version in
     let n = c.loop-number.number in
     let s = c.index-sites-number.result in
-    let more = least_step sites t n s c.loop-number.best c.least_at.result (member_at sites n s c.loop-number-test.true c.index-sites-number.is) c.loop-number.invariant (answer_is sites t s c.least_at.result c.least_at.ensures.none c.least_at.ensures.some) in
-    subst (IsLeast sites t (n + 1)) (sym c.lesser-best.ensures) more
+    let more = least_step v sites t n s c.loop-number.best c.least_at.result (member_at sites n s c.loop-number-test.true c.index-sites-number.is) c.loop-number.invariant (answer_is v sites t s c.least_at.result c.least_at.ensures.none c.least_at.ensures.some) in
+    subst (IsLeast v sites t (n + 1)) (sym c.lesser-best.ensures) more

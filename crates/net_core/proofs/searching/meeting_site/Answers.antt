@@ -18,5 +18,5 @@ returns-then-meets-clause-some c = record {
 
 pub loop-number-preserved : goal.loop-number-preserved
 loop-number-preserved c =
-    meets_next c.args.sites.now c.args.tree.now c.args.choice.now c.loop-number.number c.index-sites-number.result
+    meets_next c.args.version c.args.sites.now c.args.tree.now c.args.choice.now c.loop-number.number c.index-sites-number.result
     (member_at c.args.sites.now c.loop-number.number c.index-sites-number.result c.loop-number-test.true c.index-sites-number.is) (sym c.meets.ensures ∙ c.if-meets.false) c.loop-number.invariant

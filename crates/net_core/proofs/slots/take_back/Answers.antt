@@ -12,10 +12,10 @@ returns-in-Some c =
     let w : Work = c.in-Some.work in
     let is : s.work ≡ Some w = search rules in
     let old = c.args.parts.now in
-    let mid : Parts = record { sites = c.push.new.self; tree = old.tree; trace = old.trace; flights = old.flights; under_way = old.under_way } in
+    let mid : Parts = record { version = old.version; sites = c.push.new.self; tree = old.tree; trace = old.trace; flights = old.flights; under_way = old.under_way } in
     let es = c.args.journal.now in
     let new = c.take_work.new.parts in
     let fs = c.take_work.new.journal in
     on_ok (IsTaken w mid es new fs) (AreBack (s ∷ []) old es new fs) c.take_work.result
-    (λ t. taken_back s w is old mid new es fs c.in_ok-push.ensures.items refl refl refl refl t)
+    (λ t. taken_back s w is old mid new es fs refl c.in_ok-push.ensures.items refl refl refl refl t)
     c.take_work.ensures

@@ -12,11 +12,12 @@ returns c =
     let old = c.args.parts.now in
     let mid = c.send.new in
     let last = c.send-2.new in
-    let new : Parts = record { sites = old.sites; tree = old.tree; trace = c.add_piece.new.pieces; flights = last.flights; under_way = last.under_way } in
+    let new : Parts = record { version = old.version; sites = old.sites; tree = old.tree; trace = c.add_piece.new.pieces; flights = last.flights; under_way = last.under_way } in
     on_ok_both (joined last.flights.items ≡ joined mid.flights.items ++ w.made.sends) (last.under_way ≡ mid.under_way + length w.made.sends)
     (IsTaken w old c.args.journal.now new c.append.new.self)
     c.send-2.result
     (λ flights count. record {
+      version = search rules;
       sites = search rules;
       tree = search rules;
       trace = search rules;

@@ -8,7 +8,7 @@ use Rattle.site_runner.proofs.one_thread.run_on.Goals as goal
 
 pub loop-place-init : goal.loop-place-init
 loop-place-init c =
-    let program : ProgramTerms = record { seen = c.program.inside.seen; sites = c.program.inside.sites; tops = c.program.inside.tops; spell = c.program.inside.spell } in (
+    let program : ProgramTerms = record { version = c.program.inside.version; seen = c.program.inside.seen; sites = c.program.inside.sites; tops = c.program.inside.tops; spell = c.program.inside.spell } in (
       begins c.args.book.now c.args.budget c.replays.ensures.0 c.replays.ensures.1,
       some_site program c.args.book.now.program c.program.invariant (c.program.view_is ∙ c.program-program.ensures),
       sym (c.len-place.ensures.count ∙ ap length c.journal.ensures),

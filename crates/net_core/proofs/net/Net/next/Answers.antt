@@ -17,8 +17,8 @@ returns c =
     let net = net_of code.seen p in
     let count = carried_length (joined p.flights.items) ∙ sym c.self.invariant.flying.counted in
     let parts : HasSites c.as_slice.result.now p.tree net = record { sites_are = sym c.as_slice.ensures.value; tree_is = refl } in
-    let none = none_of c.as_slice.result.now p.tree code p.under_way net parts count c.next_choice.result c.next_choice.ensures.none in
-    let some = some_of c.as_slice.result.now p.tree code p.under_way net parts count c.next_choice.result c.next_choice.ensures.some in
+    let none = none_of p.version c.as_slice.result.now p.tree code p.under_way net parts refl count c.next_choice.result c.next_choice.ensures.none in
+    let some = some_of p.version c.as_slice.result.now p.tree code p.under_way net parts refl count c.next_choice.result c.next_choice.ensures.some in
     let quiet = none_where_quiet code net c.self.invariant.running.code c.next_choice.result none some in
     record {
       none = subst (λ (v : NetParts). IfNone c.next_choice.result ((x : Choice) → Allows v.code v.net x → ⊥)) c.self.view_is none;
