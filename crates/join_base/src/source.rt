@@ -36,7 +36,7 @@ pub trait Source {
 /// Reads to the end. A text with more than `limit` bytes is `TooLong`, as soon as one byte more was
 /// taken. The source has lost what was taken, also where no text comes of it.
 pub fn read_all<S: Source>(alloc: Global, source: &mut S, limit: u32) -> Result<Text, ReadEnd>
-    requires { limit ≤ 1048576 }
+    requires { limit ≤ 134217728 }
     ensures all { IfOk result (λ text. Consumes (S.left source.old) (S.left source.new) text) }
     ensures end { OnOk result (IsAtEnd (S.left source.new)) }
     ensures short { IfOk result (λ text. length text ≤ limit) }

@@ -5,7 +5,7 @@ use Rattle.std.proofs.lemmas.Slice.Eq.{bytes_eq-Decides}
 use Rattle.chem_model.specs.Each.{IsIn}
 use Rattle.join_lex.specs.declared.token.Key.{Key}
 use Rattle.join_lex.specs.declared.token.Key.TheVariants as key
-use Rattle.join_lex.specs.Spelling.{first_version, key_bytes, in_word, is_lower, IsStretch}
+use Rattle.join_lex.specs.Spelling.{second_version, key_bytes, in_word, is_lower, IsStretch}
 use Rattle.join_lex.specs.inside.Scan.{key_at}
 
 -- Two words are tested to be equal, or not to be.
@@ -26,8 +26,10 @@ key-run key.Go = record { head = 103; more = _; is = refl; starts = refl; passes
 key-run key.Fail = record { head = 102; more = _; is = refl; starts = refl; passes = (refl, (refl, (refl, tt))) }
 key-run key.Halt = record { head = 104; more = _; is = refl; starts = refl; passes = (refl, (refl, (refl, tt))) }
 key-run key.Void = record { head = 110; more = _; is = refl; starts = refl; passes = (refl, (refl, (refl, tt))) }
+key-run key.Add = record { head = 97; more = _; is = refl; starts = refl; passes = (refl, (refl, tt)) }
+key-run key.Same = record { head = 115; more = _; is = refl; starts = refl; passes = (refl, (refl, (refl, tt))) }
 
-pub read_back : (k : Key) → key_at first_version.keywords (key_bytes k) ≡ Some k
+pub read_back : (k : Key) → key_at second_version.keywords (key_bytes k) ≡ Some k
 read_back key.Observe = refl
 read_back key.Site = refl
 read_back key.Def = refl
@@ -37,11 +39,13 @@ read_back key.Go = refl
 read_back key.Fail = refl
 read_back key.Halt = refl
 read_back key.Void = refl
+read_back key.Add = refl
+read_back key.Same = refl
 
 -- Two keywords have two spellings.
 pub one_key : (j k : Key) → key_bytes j ≡ key_bytes k → j ≡ k
 one_key j k e =
-    let same : Some j ≡ Some k = sym (read_back j) ∙ ap (key_at first_version.keywords) e ∙ read_back k in cc
+    let same : Some j ≡ Some k = sym (read_back j) ∙ ap (key_at second_version.keywords) e ∙ read_back k in cc
 
 pub key_at-none : (keys : List Key) (w : List ℕ) → ((k : Key) → IsIn k keys → w ≢ key_bytes k) → key_at keys w ≡ None
 key_at-none [] w n = refl

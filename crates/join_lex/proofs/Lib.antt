@@ -3,3 +3,4 @@ pub mod ScanLaws
 pub mod StepLaws
 pub mod TokenFacts
 pub mod Passed
+pub mod VersionLaws

@@ -11,7 +11,7 @@ use Rattle.join_lex.specs.declared.token.Kind2.{Kind2}
 use Rattle.join_lex.specs.declared.token.Token.{Token}
 use Rattle.join_lex.specs.Spelling.{Version}
 use Rattle.join_lex.specs.Tokens.{TokensOfText}
-use Rattle.join_lex.specs.Lexical.{Fault, too_long, no_token, large_number, Piece, Gap, Word, bytes_of, BeginsWith, IsSmall, NoToken, LargeNumber, BreaksAt, Splits, tokens_at, StandFor, AreTokensOf, IsFirstFault, NamesFault, IsOrMemory, kind_of, HasOneOutcome}
+use Rattle.join_lex.specs.Lexical.{Fault, too_long, no_token, large_number, Piece, Gap, Word, bytes_of, BeginsWith, IsSmall, NoToken, LargeNumber, BreaksAt, Splits, tokens_at, StandFor, AreTokensIn, IsFirstFaultIn, Names, IsOrMemory, kind_of, IsOneOutcome}
 use Rattle.join_lex.specs.inside.Scan.{scan, piece_of, ScanFails}
 use Rattle.join_lex.specs.inside.Steps.{StepsTo}
 use Rattle.join_lex.proofs.Passed.{Passed}
@@ -44,11 +44,11 @@ stepped version text at len k old new l m e t =
       tokens = t;
     }
 
-total : List Piece → ℕ
+pub total : List Piece → ℕ
 total [] = 0
 total (p ∷ ps) = length (bytes_of p) + total ps
 
-tokens_at-more : (at : ℕ) (ps qs : List Piece) → tokens_at at (ps ++ qs) ≡ tokens_at at ps ++ tokens_at (at + total ps) qs
+pub tokens_at-more : (at : ℕ) (ps qs : List Piece) → tokens_at at (ps ++ qs) ≡ tokens_at at ps ++ tokens_at (at + total ps) qs
 unfolding total
 tokens_at-more at [] qs = ap (λ n. tokens_at n qs) (omega arith)
 tokens_at-more at (Gap g ∷ ps) qs = tokens_at-more (at + length g) ps qs ∙ ap (λ n. tokens_at (at + length g) ps ++ tokens_at n qs) (omega arith)
@@ -81,12 +81,12 @@ tokens_at-some at rest kind k len e l = rw e (ap (λ n. record { kind = k; span 
 pub tokens_at-none : (at : ℕ) (rest : List ℕ) (kind : Option Kind2) (len : ℕ) → kind ≡ None → tokens_at at (piece_of rest kind len ∷ []) ≡ []
 tokens_at-none at rest kind len e = rw e refl
 
-pub stops-refused : (version : Version) (text : List ℕ) (at : ℕ) (tokens : List Token) (e : Front) → length text ≤ 1048576 → at < length text → Passed version text at tokens → ScanFails version at (drop at text) e → NamesFault version e text
+pub stops-refused : (version : Version) (text : List ℕ) (at : ℕ) (tokens : List Token) (e : Front) → length text ≤ 1048576 → at < length text → Passed version text at tokens → ScanFails version at (drop at text) e → Names (λ fault place. IsFirstFaultIn version fault place text) e
 stops-refused version text at tokens front.Memory s l p h = tt
 stops-refused version text at tokens (front.Refused k place) s l p h =
     by_kind (subst (λ r. Sound version (drop at text) r) h.1 (scan-sound version (drop at text) (not-empty text at l)))
   where
-    by_kind : (k ≡ Lex2) ⊎ ((k ≡ Lex3) × LargeNumber version (drop at text)) → NamesFault version (front.Refused k place) text
+    by_kind : (k ≡ Lex2) ⊎ ((k ≡ Lex3) × LargeNumber version (drop at text)) → Names (λ fault place. IsFirstFaultIn version fault place text) (front.Refused k place)
     by_kind (inl e) =
         let none : scan version (drop at text) ≡ Err Lex2 = rw e at h.1 in (
           no_token,
@@ -121,7 +121,7 @@ stops-refused version text at tokens (front.Refused k place) s l p h =
 abbrev pub Ends : Version → List ℕ → Type 0
 Ends version rest = (p : Piece) (more : List ℕ) → BeginsWith version p rest more → IsSmall version p → ⊥
 
-found-small : (version : Version) (p : Piece) (text more : List ℕ) → BeginsWith version p text more → IsSmall version p → scan version text ≡ Ok p
+pub found-small : (version : Version) (p : Piece) (text more : List ℕ) → BeginsWith version p text more → IsSmall version p → scan version text ≡ Ok p
 found-small version p text more b s = (begins-found version p text more b).0 s
 
 found-large : (version : Version) (rest : List ℕ) → LargeNumber version rest → scan version rest ≡ Err Lex3
@@ -130,16 +130,16 @@ found-large version rest (n, word, more, b, l) = (begins-found version _ rest mo
 pub ends-empty : (version : Version) → Ends version []
 ends-empty version p more b s = let e : Err Lex2 ≡ Ok p = found-small version p [] more b s in cc
 
-ends-none : (version : Version) (rest : List ℕ) → NoToken version rest → Ends version rest
+pub ends-none : (version : Version) (rest : List ℕ) → NoToken version rest → Ends version rest
 ends-none version rest bad p more b s = bad.1 p more b
 
-ends-large : (version : Version) (rest : List ℕ) → LargeNumber version rest → Ends version rest
+pub ends-large : (version : Version) (rest : List ℕ) → LargeNumber version rest → Ends version rest
 ends-large version rest bad p more b s =
     let e = found-small version p rest more b s in
     let l = found-large version rest bad in
     cc
 
-same-rest : (version : Version) (p : Piece) (text more next : List ℕ) → BeginsWith version p text more → BeginsWith version p text next → more ≡ next
+pub same-rest : (version : Version) (p : Piece) (text more next : List ℕ) → BeginsWith version p text more → BeginsWith version p text next → more ≡ next
 same-rest version p text more next b c =
     let d : drop (length (bytes_of p)) text ≡ more = rw b.whole (drop-append_seam (bytes_of p) more) in
     let e : drop (length (bytes_of p)) text ≡ next = rw c.whole (drop-append_seam (bytes_of p) next) in
@@ -180,11 +180,11 @@ against version text tokens A p s f ends =
     subst A (sym o.1) f.bad
 
 -- A text is pieces up to its end, or up to where no token starts or a large number does.
-record Ending (version : Version) (text : List ℕ) : Type 0 where
-  pieces : List Piece
-  rest : List ℕ
-  split : Splits version pieces text rest
-  end : (rest ≡ []) ⊎ (NoToken version rest ⊎ LargeNumber version rest)
+pub record Ending (version : Version) (text : List ℕ) : Type 0 where
+  pub pieces : List Piece
+  pub rest : List ℕ
+  pub split : Splits version pieces text rest
+  pub end : (rest ≡ []) ⊎ (NoToken version rest ⊎ LargeNumber version rest)
 
 ending-scanned : (version : Version) (n : ℕ) (text : List ℕ) → length text ≤ n + 1 → text ≢ [] → ((more : List ℕ) → length more ≤ n → Ending version more) → (r : Result Piece Kind) → scan version text ≡ r → Sound version text r → Ending version text
 ending-scanned version n text l some further (Ok p) e s =
@@ -196,17 +196,17 @@ ending-scanned version n text l some further (Err k) e (inl is) =
 ending-scanned version n text l some further (Err k) e (inr (is, large)) =
     record { pieces = []; rest = text; split = refl; end = inr (inr large) }
 
-ending : (version : Version) (n : ℕ) (text : List ℕ) → length text ≤ n → Ending version text
+pub ending : (version : Version) (n : ℕ) (text : List ℕ) → length text ≤ n → Ending version text
 ending version n [] l = record { pieces = []; rest = []; split = refl; end = inl refl }
 ending version zero (b ∷ t) l = absurd (omega (arith, l))
 ending version (suc n) (b ∷ t) l =
     ending-scanned version n (b ∷ t) (omega (arith, l)) (λ e. cc) (λ more m. ending version n more m)
     (scan version (b ∷ t)) refl (scan-sound version (b ∷ t) (λ e. cc))
 
-some_outcome : (version : Version) (text : List ℕ) → ((t : TokensOfText) × AreTokensOf version t text) ⊎ ((fault : Fault) × (place : ℕ) × IsFirstFault version fault place text)
+some_outcome : (version : Version) (text : List ℕ) → ((t : TokensOfText) × AreTokensIn version t text) ⊎ ((fault : Fault) × (place : ℕ) × IsFirstFaultIn version fault place text)
 some_outcome version text = by_length (leb (length text) 1048576) refl
   where
-    ended : length text ≤ 1048576 → (i : Ending version text) → (end : (i.rest ≡ []) ⊎ (NoToken version i.rest ⊎ LargeNumber version i.rest)) → ((t : TokensOfText) × AreTokensOf version t text) ⊎ ((fault : Fault) × (place : ℕ) × IsFirstFault version fault place text)
+    ended : length text ≤ 1048576 → (i : Ending version text) → (end : (i.rest ≡ []) ⊎ (NoToken version i.rest ⊎ LargeNumber version i.rest)) → ((t : TokensOfText) × AreTokensIn version t text) ⊎ ((fault : Fault) × (place : ℕ) × IsFirstFaultIn version fault place text)
     ended s i (inl e) =
         inl (
           record { list = tokens_at 0 i.pieces; length = length text },
@@ -247,7 +247,7 @@ some_outcome version text = by_length (leb (length text) 1048576) refl
           ),
         )
 
-    by_length : (v : Bool) → leb (length text) 1048576 ≡ v → ((t : TokensOfText) × AreTokensOf version t text) ⊎ ((fault : Fault) × (place : ℕ) × IsFirstFault version fault place text)
+    by_length : (v : Bool) → leb (length text) 1048576 ≡ v → ((t : TokensOfText) × AreTokensIn version t text) ⊎ ((fault : Fault) × (place : ℕ) × IsFirstFaultIn version fault place text)
     by_length true e = let i = ending version (length text) text (omega arith) in ended (grind (arith, nat_tests)) i i.end
     by_length false e = inr (too_long, 1048576, (grind (arith, nat_tests), refl))
 
@@ -260,7 +260,7 @@ same_tokens t u e f = ap₂ make e f
 clash : (version : Version) (rest : List ℕ) → NoToken version rest → LargeNumber version rest → ⊥
 clash version rest none (n, word, more, b, l) = none.1 _ more b
 
-pub outcome : (version : Version) (text : List ℕ) → HasOneOutcome version text
+pub outcome : (version : Version) (text : List ℕ) → IsOneOutcome (λ t. AreTokensIn version t text) (λ fault place. IsFirstFaultIn version fault place text)
 outcome version text = record {
   some = some_outcome version text;
   one_list = λ t u a b.
@@ -273,13 +273,13 @@ outcome version text = record {
   one_fault = λ one other place elsewhere f g. same one other place elsewhere f g;
 }
   where
-    never : (t : TokensOfText) → AreTokensOf version t text → (fault : Fault) (place : ℕ) → IsFirstFault version fault place text → ⊥
+    never : (t : TokensOfText) → AreTokensIn version t text → (fault : Fault) (place : ℕ) → IsFirstFaultIn version fault place text → ⊥
     never t a too_long place f = omega (arith, a.short, f.0)
     never t a no_token place f = (against version text t.list (NoToken version) place a.stand f.1 (ends-none version)).0 refl
     never t a large_number place f =
         let l = found-large version [] (against version text t.list (LargeNumber version) place a.stand f.1 (ends-large version)) in cc
 
-    same : (one other : Fault) (p q : ℕ) → IsFirstFault version one p text → IsFirstFault version other q text → (one ≡ other) × (p ≡ q)
+    same : (one other : Fault) (p q : ℕ) → IsFirstFaultIn version one p text → IsFirstFaultIn version other q text → (one ≡ other) × (p ≡ q)
     same too_long too_long p q f g = (refl, f.1 ∙ sym g.1)
     same too_long no_token p q f g = absurd (omega (arith, f.0, g.0))
     same too_long large_number p q f g = absurd (omega (arith, f.0, g.0))
@@ -295,14 +295,14 @@ outcome version text = record {
         absurd (clash version m.rest m.other m.one)
 
 -- An answer that is sound is the only one, but for want of memory.
-pub reads : (version : Version) (text : List ℕ) (result : Result TokensOfText Front) → IfOk result (λ t. AreTokensOf version t text) → IfErr result (λ e. NamesFault version e text) → (t : TokensOfText) → AreTokensOf version t text → IsOrMemory (Ok t) result
-reads version text (Ok u) ok err t a = inl (ap Ok ((outcome version text).one_list u t ok a))
-reads version text (Err front.Memory) ok err t a = inr refl
-reads version text (Err (front.Refused k place)) ok err t a = absurd ((outcome version text).not_both t err.0 place a err.2)
+pub reads : (Are : TokensOfText → Type 0) (Is : Fault → ℕ → Type 0) (result : Result TokensOfText Front) → IsOneOutcome Are Is → IfOk result Are → IfErr result (Names Is) → (t : TokensOfText) → Are t → IsOrMemory (Ok t) result
+reads Are Is (Ok u) o ok err t a = inl (ap Ok (o.one_list u t ok a))
+reads Are Is (Err front.Memory) o ok err t a = inr refl
+reads Are Is (Err (front.Refused k place)) o ok err t a = absurd (o.not_both t err.0 place a err.2)
 
-pub refuses : (version : Version) (text : List ℕ) (result : Result TokensOfText Front) → IfOk result (λ t. AreTokensOf version t text) → IfErr result (λ e. NamesFault version e text) → (fault : Fault) (place : ℕ) → IsFirstFault version fault place text → IsOrMemory (Err (front.Refused (kind_of fault) place)) result
-refuses version text (Ok u) ok err fault place f = absurd ((outcome version text).not_both u fault place ok f)
-refuses version text (Err front.Memory) ok err fault place f = inr refl
-refuses version text (Err (front.Refused k at)) ok err fault place f =
-    let same = (outcome version text).one_fault err.0 fault at place err.2 f in
+pub refuses : (Are : TokensOfText → Type 0) (Is : Fault → ℕ → Type 0) (result : Result TokensOfText Front) → IsOneOutcome Are Is → IfOk result Are → IfErr result (Names Is) → (fault : Fault) (place : ℕ) → Is fault place → IsOrMemory (Err (front.Refused (kind_of fault) place)) result
+refuses Are Is (Ok u) o ok err fault place f = absurd (o.not_both u fault place ok f)
+refuses Are Is (Err front.Memory) o ok err fault place f = inr refl
+refuses Are Is (Err (front.Refused k at)) o ok err fault place f =
+    let same = o.one_fault err.0 fault at place err.2 f in
     inl (rw (err.1, same.0, same.1) refl)

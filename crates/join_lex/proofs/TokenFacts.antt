@@ -1,5 +1,5 @@
 -- What is true of the tokens among the pieces of a text: what their type keeps, and that spans hold spellings.
-use Rattle.std.proofs.Common.{◌≡◌, ℕ, zero, suc, Bool, ◌+◌, ◌<◌, ◌≤◌, List, [], ◌∷◌, length, take, drop, refl, sym, ap, ◌∙◌, ◌-◌, arith, length-append}
+use Rattle.std.proofs.Common.{◌≡◌, ℕ, zero, suc, Bool, ◌+◌, ◌<◌, ◌≤◌, List, [], ◌∷◌, length, take, drop, refl, subst, sym, ap, ◌∙◌, ◌-◌, arith, length-append}
 use Rattle.std.specs.List.{All, AllPairs}
 use Rattle.std.proofs.lemmas.List.{drop_all, drop_at, drop-drop, take_at}
 use Rattle.std.proofs.lemmas.List.Kept.{AllPairs-cons}
@@ -9,9 +9,10 @@ use Rattle.join_lex.specs.declared.token.Sign.TheVariants as sign
 use Rattle.join_lex.specs.declared.token.Kind2.{Kind2}
 use Rattle.join_lex.specs.declared.token.Kind2.TheVariants as kind
 use Rattle.join_lex.specs.declared.token.Token.{Token}
-use Rattle.join_lex.specs.Spelling.{Version, first_version, IsStretch, IsOfVersion, sign_bytes}
+use Rattle.join_lex.specs.Spelling.{Version, IsStretch, IsOfVersion, sign_bytes}
 use Rattle.join_lex.specs.Tokens.{TokensOfText, AreTokens}
-use Rattle.join_lex.specs.Lexical.{BeginsWith, bytes_of, Piece, Gap, Word, SpellsToken, IsSmall, Splits, tokens_at, AreTokensOf, IsSpelledAt}
+use Rattle.join_lex.specs.Versions.{version_of}
+use Rattle.join_lex.specs.Lexical.{BeginsWith, bytes_of, Piece, Gap, Word, SpellsToken, IsSmall, Splits, tokens_at, AreTokensIn, IsSpelledAt}
 use Rattle.join_lex.proofs.Passed.{Passed}
 use Rattle.join_lex.proofs.Keys.{key-run}
 
@@ -102,10 +103,10 @@ between version (Word k w ∷ ps) text place upto (more, b, s, t) u =
     (between version ps more (place + length w) upto t (omega (arith, n, u)))
 
 -- Where the pieces reach the end of the text, the tokens among them are the tokens of a text.
-pub are_tokens : (text : List ℕ) (place : ℕ) (tokens : List Token) → length text ≤ 1048576 → length text ≤ place → Passed first_version text place tokens → AreTokens (record { list = tokens; length = length text })
+pub are_tokens : (text : List ℕ) (place : ℕ) (tokens : List Token) → length text ≤ 1048576 → length text ≤ place → Passed (version_of tokens) text place tokens → AreTokens (record { list = tokens; length = length text })
 are_tokens text place tokens short end p =
-    let split : Splits first_version p.pieces text [] = rw (drop_all place text end) at p.split in
-    let b : Between first_version 0 (length text) tokens = rw p.tokens_are (between first_version p.pieces text 0 (length text) split (omega arith)) in
+    let split : Splits (version_of tokens) p.pieces text [] = rw (drop_all place text end) at p.split in
+    let b : Between (version_of tokens) 0 (length text) tokens = subst (Between (version_of tokens) 0 (length text)) (sym p.tokens_are) (between (version_of tokens) p.pieces text 0 (length text) split (omega arith)) in
     record { few = omega (arith, b.few, short); spans = b.spans; rise = b.rise; within = b.within; words = b.words }
 
 behind : (version : Version) (p : Piece) (whole text more : List ℕ) (place : ℕ) → drop place whole ≡ text → BeginsWith version p text more → drop (place + length (bytes_of p)) whole ≡ more
@@ -128,5 +129,5 @@ spelled_at version (Word k w ∷ ps) whole text place e (more, b, s, t) = (
   spelled_at version ps whole more (place + length w) (behind version (Word k w) whole text more place e b) t,
 )
 
-pub spelled_tokens : (version : Version) (text : List ℕ) (t : TokensOfText) → AreTokensOf version t text → Each (IsSpelledAt version text) t.list
+pub spelled_tokens : (version : Version) (text : List ℕ) (t : TokensOfText) → AreTokensIn version t text → Each (IsSpelledAt version text) t.list
 spelled_tokens version text t a = rw a.stand.tokens_are (spelled_at version a.stand.pieces text text 0 refl a.stand.split)

@@ -1,5 +1,5 @@
 -- What tokens stand for a text, and what its first lexical fault is.
-use Rattle.std.specs.Prelude.{◌≡◌, ◌≢◌, ◌⊎◌, ℕ, ◌+◌, ◌-◌, ◌≤◌, ◌<◌, Bool, false, IsTrue}
+use Rattle.std.specs.Prelude.{◌≡◌, ◌≢◌, ◌⊎◌, ℕ, ◌+◌, ◌-◌, ◌≤◌, ◌<◌, Bool, true, false, IsTrue}
 use Rattle.std.specs.Prelude.{List, [], ◌∷◌, ◌++◌, length, take, drop, Result, Ok, Err}
 use Rattle.join_base.specs.declared.fault.Kind.{Kind}
 use Rattle.join_base.specs.declared.fault.Kind.TheVariants as fault_kind
@@ -9,9 +9,11 @@ use Rattle.chem_model.specs.Each.{Each, IsIn}
 use Rattle.join_lex.specs.declared.token.Kind2.{Kind2}
 use Rattle.join_lex.specs.declared.token.Kind2.TheVariants as kind
 use Rattle.join_lex.specs.declared.token.Token.{Token}
-use Rattle.join_lex.specs.Spelling.{Version, is_blank, is_hash, in_line, is_digit, in_word}
+use Rattle.join_lex.specs.Spelling.{Version, first_version, second_version, is_blank, is_hash}
+use Rattle.join_lex.specs.Spelling.{in_line, is_digit, in_word}
 use Rattle.join_lex.specs.Spelling.{sign_bytes, key_bytes, value_of, IsStretch, IsIdentifier}
 use Rattle.join_lex.specs.Tokens.{TokensOfText}
+use Rattle.join_lex.specs.Versions.{says_second, version_of}
 
 -- a piece of a text: a blank or a whole comment, or a token with its spelling
 pub data Piece : Type 0 where
@@ -82,11 +84,34 @@ pub record StandFor (version : Version) (tokens : List Token) (text : List ℕ) 
   pub split : Splits version pieces text []
   pub tokens_are : tokens ≡ tokens_at 0 pieces
 
--- These are the tokens of the text, which isn't too long.
-pub record AreTokensOf (version : Version) (t : TokensOfText) (text : List ℕ) : Type 0 where
+-- The text is of the second version: the tokens of its first pieces are three and say so. They are
+-- the same in both versions.
+pub record IsSecond (text : List ℕ) : Type 0 where
+  pub pieces : List Piece
+  pub rest : List ℕ
+  pub split : Splits first_version pieces text rest
+  pub three : length (tokens_at 0 pieces) ≡ 3
+  pub says : says_second (tokens_at 0 pieces) ≡ true
+
+-- The text is of this version: of the second where its first three tokens say so, and else of the
+-- first.
+abbrev pub IsOf : Version → List ℕ → Type 0
+IsOf version text =
+    (IsSecond text × (version ≡ second_version)) ⊎ ((IsSecond text → ⊥) × (version ≡ first_version))
+
+-- These are the tokens of the text in this version, and it isn't too long.
+pub record AreTokensIn (version : Version) (t : TokensOfText) (text : List ℕ) : Type 0 where
   pub short : length text ≤ 1048576
   pub stand : StandFor version t.list text
   pub length_is : t.length ≡ length text
+
+-- These are the tokens of the text, in its version.
+abbrev pub AreTokensOf : TokensOfText → List ℕ → Type 0
+AreTokensOf t text = (version : Version) × IsOf version text × AreTokensIn version t text
+
+-- The version that the tokens say is the text's.
+abbrev pub TellVersion : List ℕ → TokensOfText → Type 0
+TellVersion text t = AreTokensOf t text → IsOf (version_of t.list) text
 
 -- The bytes of the token's span are its spelling, and it could not be longer.
 abbrev pub IsSpelledAt : Version → List ℕ → Token → Type 0
@@ -96,8 +121,8 @@ IsSpelledAt version text token =
     (drop token.span.upto text)
 
 -- Where these are the tokens of the text, each span holds its token's spelling.
-abbrev pub HoldSpellings : Version → List ℕ → TokensOfText → Type 0
-HoldSpellings version text t = AreTokensOf version t text → Each (IsSpelledAt version text) t.list
+abbrev pub HoldSpellings : List ℕ → TokensOfText → Type 0
+HoldSpellings text t = AreTokensOf t text → Each (IsSpelledAt (version_of t.list) text) t.list
 
 -- At the front of the rest stands a byte that begins neither blank, comment nor token.
 abbrev pub NoToken : Version → List ℕ → Type 0
@@ -126,24 +151,31 @@ pub data Fault : Type 0 where
   no_token : Fault
   large_number : Fault
 
--- The first lexical fault of the text is this one, at this place.
-abbrev pub IsFirstFault : Version → Fault → ℕ → List ℕ → Type 0
-IsFirstFault version too_long place text = (1048576 < length text) × (place ≡ 1048576)
-IsFirstFault version no_token place text =
+-- The first lexical fault of the text in this version is this one, at this place.
+abbrev pub IsFirstFaultIn : Version → Fault → ℕ → List ℕ → Type 0
+IsFirstFaultIn version too_long place text = (1048576 < length text) × (place ≡ 1048576)
+IsFirstFaultIn version no_token place text =
     (length text ≤ 1048576) × BreaksAt version (NoToken version) place text
-IsFirstFault version large_number place text =
+IsFirstFaultIn version large_number place text =
     (length text ≤ 1048576) × BreaksAt version (LargeNumber version) place text
+
+-- The first lexical fault of the text, in its version.
+abbrev pub IsFirstFault : Fault → ℕ → List ℕ → Type 0
+IsFirstFault fault place text =
+    (version : Version) × IsOf version text × IsFirstFaultIn version fault place text
 
 abbrev pub kind_of : Fault → Kind
 kind_of too_long = fault_kind.Lex1
 kind_of no_token = fault_kind.Lex2
 kind_of large_number = fault_kind.Lex3
 
--- The error names the first lexical fault of the text; want of memory names none.
-abbrev pub NamesFault : Version → Front → List ℕ → Type 0
-NamesFault version (front.Refused k place) text =
-    (fault : Fault) × (k ≡ kind_of fault) × IsFirstFault version fault place text
-NamesFault version front.Memory text = Unit {0}
+-- The error names such a fault at its place; want of memory names none.
+abbrev pub Names : (Fault → ℕ → Type 0) → Front → Type 0
+Names Is (front.Refused k place) = (fault : Fault) × (k ≡ kind_of fault) × Is fault place
+Names Is front.Memory = Unit {0}
+
+abbrev pub NamesFault : Front → List ℕ → Type 0
+NamesFault e text = Names (λ fault place. IsFirstFault fault place text) e
 
 -- The result is this answer, or want of memory.
 abbrev pub IsOrMemory : {T : Type 0} → Result T Front → Result T Front → Type 0
@@ -151,24 +183,24 @@ IsOrMemory answer result = (result ≡ answer) ⊎ (result ≡ Err front.Memory)
 
 -- The tokens of the text are answered where it has them, and its first fault where it has one, each
 -- but for want of memory.
-abbrev pub AnswersTokens : Version → List ℕ → Result TokensOfText Front → Type 0
-AnswersTokens version text result =
-    (t : TokensOfText) → AreTokensOf version t text → IsOrMemory (Ok t) result
+abbrev pub AnswersTokens : List ℕ → Result TokensOfText Front → Type 0
+AnswersTokens text result =
+    (t : TokensOfText) → AreTokensOf t text → IsOrMemory (Ok t) result
 
-abbrev pub AnswersFault : Version → List ℕ → Result TokensOfText Front → Type 0
-AnswersFault version text result =
-    (fault : Fault) (place : ℕ) → IsFirstFault version fault place text
+abbrev pub AnswersFault : List ℕ → Result TokensOfText Front → Type 0
+AnswersFault text result =
+    (fault : Fault) (place : ℕ) → IsFirstFault fault place text
     → IsOrMemory (Err (front.Refused (kind_of fault) place)) result
 
--- A text has one list of tokens, or one first fault and its place, and never both.
-pub record HasOneOutcome (version : Version) (text : List ℕ) : Type 0 where
-  pub some :
-      ((t : TokensOfText) × AreTokensOf version t text) ⊎
-      ((fault : Fault) × (place : ℕ) × IsFirstFault version fault place text)
-  pub one_list : (t u : TokensOfText)
-      → AreTokensOf version t text → AreTokensOf version u text → t ≡ u
-  pub not_both : (t : TokensOfText) (fault : Fault) (place : ℕ)
-      → AreTokensOf version t text → IsFirstFault version fault place text → ⊥
+-- There is one list of tokens, or one first fault and its place, and never both.
+pub record IsOneOutcome (Are : TokensOfText → Type 0) (Is : Fault → ℕ → Type 0) : Type 0 where
+  pub some : ((t : TokensOfText) × Are t) ⊎ ((fault : Fault) × (place : ℕ) × Is fault place)
+  pub one_list : (t u : TokensOfText) → Are t → Are u → t ≡ u
+  pub not_both : (t : TokensOfText) (fault : Fault) (place : ℕ) → Are t → Is fault place → ⊥
   pub one_fault : (one other : Fault) (place elsewhere : ℕ)
-      → IsFirstFault version one place text → IsFirstFault version other elsewhere text
-      → (one ≡ other) × (place ≡ elsewhere)
+      → Is one place → Is other elsewhere → (one ≡ other) × (place ≡ elsewhere)
+
+-- A text has one list of tokens, or one first fault and its place, and never both.
+abbrev pub HasOneOutcome : List ℕ → Type 0
+HasOneOutcome text =
+    IsOneOutcome (λ t. AreTokensOf t text) (λ fault place. IsFirstFault fault place text)

@@ -2,4 +2,5 @@ pub mod Lexical
 pub mod Spelling
 pub mod Tokens
 pub mod TokensCode
+pub mod Versions
 pub mod inside

@@ -1,6 +1,6 @@
 -- How keywords, signs, identifiers and numbers are spelled.
 use Rattle.std.specs.Prelude.{◌≡◌, ◌≢◌, ℕ, ◌+◌, ◌*◌, ◌-◌, ◌≤◌, ◌||◌, ◌&&◌, ◌==◌}
-use Rattle.std.specs.Prelude.{nat_le, not, Bool, IsTrue, List, [], ◌∷◌, codes, fold}
+use Rattle.std.specs.Prelude.{nat_le, not, Bool, true, false, IsTrue, List, [], ◌∷◌, codes, fold}
 use Rattle.chem_model.specs.Each.{IsIn}
 use Rattle.join_lex.specs.declared.token.Key.{Key}
 use Rattle.join_lex.specs.declared.token.Key.TheVariants as key
@@ -21,6 +21,19 @@ first_version = record {
       key.Observe ∷ key.Site ∷ key.Def ∷ key.Inside ∷ key.And ∷ key.Go ∷ key.Fail ∷ key.Halt
       ∷ key.Void ∷ [];
 }
+
+-- It has the numbers that 8 bytes hold, and two keywords more.
+abbrev pub second_version : Version
+second_version = record {
+  largest = 18446744073709551615;
+  keywords =
+      key.Observe ∷ key.Site ∷ key.Def ∷ key.Inside ∷ key.And ∷ key.Go ∷ key.Fail ∷ key.Halt
+      ∷ key.Void ∷ key.Add ∷ key.Same ∷ [];
+}
+
+abbrev pub version_at : Bool → Version
+version_at false = first_version
+version_at true = second_version
 
 -- space, tab, line feed and carriage return
 abbrev pub is_blank : ℕ → Bool
@@ -56,6 +69,8 @@ key_bytes key.Go = codes "go"
 key_bytes key.Fail = codes "fail"
 key_bytes key.Halt = codes "halt"
 key_bytes key.Void = codes "none"
+key_bytes key.Add = codes "add"
+key_bytes key.Same = codes "same"
 
 abbrev pub sign_bytes : Sign → List ℕ
 sign_bytes sign.Arrow = codes "=>"

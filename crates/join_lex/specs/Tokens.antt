@@ -3,7 +3,8 @@ use Rattle.std.specs.Prelude.{ℕ, ◌≤◌, ◌<◌, List, length}
 use Rattle.std.specs.List.{AllPairs}
 use Rattle.join_lex.specs.declared.token.Token.{Token}
 use Rattle.chem_model.specs.Each.{Each}
-use Rattle.join_lex.specs.Spelling.{first_version, IsOfVersion}
+use Rattle.join_lex.specs.Spelling.{IsOfVersion}
+use Rattle.join_lex.specs.Versions.{version_of}
 
 -- the tokens in order, and how many bytes the text has
 pub record TokensOfText : Type 0 where
@@ -16,5 +17,5 @@ pub record AreTokens (t : TokensOfText) : Type 0 where
   pub spans : Each (λ token. token.span.from < token.span.upto) t.list
   pub rise : AllPairs (λ one later. one.span.upto ≤ later.span.from) t.list
   pub within : Each (λ token. token.span.upto ≤ t.length) t.list
-  -- identifiers are identifiers, and numbers are at most 255
-  pub words : Each (λ token. IsOfVersion first_version token.kind) t.list
+  -- identifiers, keywords and numbers are those of the version
+  pub words : Each (λ token. IsOfVersion (version_of t.list) token.kind) t.list

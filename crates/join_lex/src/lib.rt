@@ -5,5 +5,5 @@ mod lexer;
 mod scan;
 mod token;
 
-pub use lexer::{lex, one_outcome, spans_hold_spellings};
+pub use lexer::{lex, one_outcome, says_second, spans_hold_spellings, tokens_tell_version};
 pub use token::{Key, Kind2, Sign, Token, TokenList, Tokens, copy_tokens};

@@ -1,10 +1,11 @@
 // The first piece of a text: a blank, a comment or a token.
-ghost use Rattle.std.specs.Prelude.{◌≡◌, ◌≢◌, ◌<◌, ◌≤◌, ℕ, length, IfOk, IfSome, IfNone, Ok};
+ghost use Rattle.std.specs.Prelude.{◌≡◌, ◌≢◌, ◌<◌, ◌≤◌, ◌+◌, ℕ, length, IfOk, IfSome, IfNone, Ok};
 ghost use Rattle.std.specs.Prelude.{min};
 ghost use Rattle.std.specs.List.{prefix_len, take_while};
-ghost use Rattle.join_lex.specs.Spelling.{first_version, in_word, is_digit};
+ghost use Rattle.join_lex.specs.Spelling.{Version, version_at, in_word, is_digit};
 ghost use Rattle.join_lex.specs.Spelling.{in_line, value_of, key_bytes};
 ghost use Rattle.join_lex.specs.inside.Scan.{sign_at, word_piece, number_piece, IsPieceAt, Scans};
+ghost use Rattle.chem_model.specs.Each.{IsIn};
 ghost use Rattle.join_lex.specs.declared.token.Key.{Key};
 
 use crate::token::{Key, Kind2, Sign};
@@ -12,8 +13,12 @@ use chem_model::Text;
 use join_base::{Front, Kind};
 use std::alloc::Global;
 
-/// The largest number.
-const LARGEST: u32 = 255;
+// The largest number of a text.
+fn largest_number(second: bool) -> u64
+    ensures { result ≡ (version_at second).largest }
+{
+    if second { u64::MAX } else { 255 }
+}
 
 fn is_word_byte(byte: u8) -> bool
     ensures { result ≡ in_word byte }
@@ -46,21 +51,24 @@ fn digits_len(bytes: &[u8]) -> usize
         .count()
 }
 
-/// The value of digits, or `LARGEST + 1` for a larger one.
-fn value_up_to_bound(digits: &[u8]) -> u32
-    ensures { result ≡ min (value_of digits.now) 256 }
+/// The value of digits, or `largest + 1` for a larger one.
+fn value_up_to_bound(digits: &[u8], largest: u64) -> u128
+    ensures { result ≡ min (value_of digits.now) (largest + 1) }
 {
-    let mut value = 0u32;
+    let above = u128::from(largest) + 1;
+    let mut value = 0u128;
     for digit in digits {
-        value = (value * 10 + u32::from(digit.saturating_sub(b'0'))).min(LARGEST + 1);
+        value = (value * 10 + u128::from(digit.saturating_sub(b'0'))).min(above);
     }
     value
 }
 
 /// The keyword that a word is.
-fn key_of(word: &[u8]) -> Option<Key>
-    ensures found { IfSome result (λ k. word.now ≡ key_bytes k) }
-    ensures none { IfNone result ((k : Key) → word.now ≢ key_bytes k) }
+fn key_of(word: &[u8], second: bool) -> Option<Key>
+    ensures found { IfSome result (λ k.
+        (word.now ≡ key_bytes k) × IsIn k (version_at second).keywords) }
+    ensures none { IfNone result ((k : Key) →
+        IsIn k (version_at second).keywords → word.now ≢ key_bytes k) }
 {
     match word {
         b"observe" => Some(Key::Observe),
@@ -72,6 +80,8 @@ fn key_of(word: &[u8]) -> Option<Key>
         b"fail" => Some(Key::Fail),
         b"halt" => Some(Key::Halt),
         b"none" => Some(Key::Void),
+        b"add" if second => Some(Key::Add),
+        b"same" if second => Some(Key::Same),
         _ => None,
     }
 }
@@ -97,49 +107,57 @@ fn sign_of(bytes: &[u8]) -> Option<(Sign, usize)>
 }
 
 /// The word at the front, and how many bytes it has: a keyword or an identifier.
-fn word_at(alloc: Global, text: &[u8]) -> Result<(Option<Kind2>, usize), Front>
+fn word_at(alloc: Global, text: &[u8], second: bool) -> Result<(Option<Kind2>, usize), Front>
     ensures scanned { (place : ℕ) → IsPieceAt
-        (Ok (word_piece first_version (take_while in_word text.now))) place text.now result }
+        (Ok (word_piece (version_at second) (take_while in_word text.now)))
+        place text.now result }
     ensures bound { IfOk result (λ found. found.1 ≤ length text.now) }
 {
     let len = word_len(text);
     let word = &text[..len];
-    match key_of(word) {
+    match key_of(word, second) {
         Some(key) => Ok((Some(Kind2::Key(key)), len)),
         None => Ok((Some(Kind2::Ident(Text::from_slice(alloc, word)?)), len)),
     }
 }
 
 /// The number at the front, and how many bytes it has.
-fn number_at(text: &[u8], place: u32) -> Result<(Option<Kind2>, usize), Front>
+fn number_at(text: &[u8], place: u32, second: bool) -> Result<(Option<Kind2>, usize), Front>
     ensures scanned { IsPieceAt
-        (number_piece first_version (take_while is_digit text.now)) place text.now result }
+        (number_piece (version_at second) (take_while is_digit text.now)) place text.now result }
     ensures bound { IfOk result (λ found. found.1 ≤ length text.now) }
 {
     let len = digits_len(text);
-    let value = value_up_to_bound(&text[..len]);
-    if value > LARGEST {
+    let largest = largest_number(second);
+    let value = value_up_to_bound(&text[..len], largest);
+    if value > u128::from(largest) {
         Err(Front::Refused {
             kind: Kind::Lex3,
             place,
         })
     } else {
-        Ok((Some(Kind2::Number(value)), len))
+        Ok((Some(Kind2::Number(value as u64)), len))
     }
 }
 
 /// The first piece of a text that isn't empty: what token it is, where it is one, and how many
-/// bytes it has. `place` is where the text stands; a fault is answered at it.
-pub fn scan(alloc: Global, text: &[u8], place: u32) -> Result<(Option<Kind2>, usize), Front>
+/// bytes it has. `place` is where the text stands; a fault is answered at it. `second` says whether
+/// the text is of the second version.
+pub fn scan(
+    alloc: Global,
+    text: &[u8],
+    place: u32,
+    second: bool,
+) -> Result<(Option<Kind2>, usize), Front>
     requires { 0 < length text.now }
-    ensures scanned { Scans first_version place text.now result }
+    ensures scanned { Scans (version_at second) place text.now result }
     ensures bound { IfOk result (λ found. found.1 ≤ length text.now) }
 {
     match text[0] {
         b' ' | b'\t' | b'\n' | b'\r' => Ok((None, 1)),
         b'#' => Ok((None, line_len(text))),
-        b'a'..=b'z' => word_at(alloc, text),
-        b'0'..=b'9' => number_at(text, place),
+        b'a'..=b'z' => word_at(alloc, text, second),
+        b'0'..=b'9' => number_at(text, place, second),
         _ => match sign_of(text) {
             Some((sign, len)) => Ok((Some(Kind2::Sign(sign)), len)),
             None => Err(Front::Refused {

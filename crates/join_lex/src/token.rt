@@ -6,7 +6,8 @@ use join_base::Span;
 use std::alloc::Global;
 use std::marker::Model;
 
-/// A keyword: `observe`, `site`, `def`, `in`, `and`, `go`, `fail`, `halt` or `none`, in this order.
+/// A keyword: `observe`, `site`, `def`, `in`, `and`, `go`, `fail`, `halt` or `none`, in this order,
+/// or in a text of the second version `add` or `same`.
 #[derive(Clone, Copy, PartialEq, Eq, Debug)]
 pub enum Key {
     Observe,
@@ -18,6 +19,8 @@ pub enum Key {
     Fail,
     Halt,
     Void,
+    Add,
+    Same,
 }
 
 impl Key {
@@ -57,7 +60,7 @@ impl Sign {
 #[derive(Debug, Drop)]
 pub enum Kind2 {
     Ident(Text),
-    Number(u32),
+    Number(u64),
     Key(Key),
     Sign(Sign),
 }
@@ -112,8 +115,9 @@ pub fn copy_tokens(alloc: Global, list: &TokenList) -> Result<TokenList, Memory>
 /// The tokens of a text, in order, and how many bytes the text has.
 ///
 /// Each such list keeps the facts of `AreTokens`: there are at most 1,048,576 tokens, their spans
-/// rise and end within the text, each identifier is one, and numbers are at most 255. Whoever
-/// writes one proves them, and whoever reads a field knows them.
+/// rise and end within the text, and each is one of the text's version. So each identifier is one,
+/// and numbers are at most 255 in a text of the first version. Whoever writes one proves them, and
+/// whoever reads a field knows them.
 #[derive(Drop)]
 pub struct Tokens {
     pub list: TokenList,

@@ -8,12 +8,21 @@ use Rattle.join_lex.specs.declared.token.Sign.TheVariants as sign
 use Rattle.join_lex.specs.declared.token.Kind2.{Kind2}
 use Rattle.join_lex.specs.declared.token.Kind2.TheVariants as kind
 use Rattle.join_lex.specs.declared.token.Token.{Token}
+use Rattle.join_lex.specs.Versions.{says_second, is_version_word, is_two, is_semicolon}
 use Rattle.join_parse.specs.declared.bounds.Bounds.{Bounds}
-use Rattle.join_parse.specs.Begins.{Symbol, AName, ACount, ASite, AKey, ASign, CloseGroup, CloseSquare, EndDef, Program, Sites, Body, Defs, MoreDefs, DefRest, MorePatterns, Names, MoreNames, AProc, MoreProcs}
-use Rattle.join_parse.specs.inside.Automaton.{is_key, is_sign, is_name, level, Stop, outcome}
+use Rattle.join_parse.specs.Begins.{Symbol, AName, AVersion, ATwo, ACount, ASite, AKey, ASign, CloseGroup, CloseSquare, EndDef, Program, Sites, Body, Defs, MoreDefs, DefRest, MorePatterns, Names, MoreNames, AnArg, Args, MoreArgs, AProc, MoreProcs, start}
+use Rattle.join_parse.specs.inside.Automaton.{is_key, is_sign, is_name, is_number, step, Push, level, Stop, outcome}
 use Rattle.join_parse.specs.inside.Parsed.{next_is_sign, next_is_key, next_is_name, next_is_zero}
 use Rattle.join_parse.specs.inside.Parsed.{place_of}
 use Rattle.join_parse.proofs.Moves.{sign-kind, key-kind, takes, deepens, stops, stops-at-end}
+
+pub both-true : (a b : Bool) → (a && b) ≡ true → (a ≡ true) × (b ≡ true)
+both-true true b e = (refl, e)
+both-true false b e = cc
+
+def-step : (second : Bool) → step second AProc (kind.Key key.Def) ≡ Push (Defs false ∷ AKey key.Inside ∷ AProc ∷ EndDef ∷ [])
+def-step true = refl
+def-step false = refl
 
 module _ (b : Bounds) where
   -- brackets that close a level are signs
@@ -67,6 +76,45 @@ module _ (b : Bounds) where
           both false b e = refl
 
       either : (v : Bool) → is_sign sign.ParenRight t.kind ≡ v → (is_sign sign.Comma t.kind && ltb n 255) ≡ false → outcome b (t ∷ ts) (MoreNames n ∷ stack) ≡ outcome b (t ∷ ts) (ASign sign.ParenRight ∷ stack)
+      either true q e = rw q refl
+      either false q e = rw (q, e) refl
+
+  pub args-none : (rest : List Token) (stack : List Symbol) → next_is_sign sign.ParenRight rest ≡ true → outcome b rest (Args ∷ stack) ≡ outcome b rest (ASign sign.ParenRight ∷ stack)
+  unfolding outcome
+  args-none [] stack e = cc
+  args-none (t ∷ ts) stack e = rw (sign-kind sign.ParenRight t.kind e) refl
+
+  pub args-some : (rest : List Token) (stack : List Symbol) → next_is_sign sign.ParenRight rest ≡ false → outcome b rest (Args ∷ stack) ≡ outcome b rest (AnArg ∷ MoreArgs 1 ∷ stack)
+  unfolding outcome
+  args-some [] stack e = refl
+  args-some (t ∷ ts) stack e = either (is_name t.kind) refl (b.second && is_number t.kind) refl
+    where
+      either : (v : Bool) → is_name t.kind ≡ v → (w : Bool) → (b.second && is_number t.kind) ≡ w → outcome b (t ∷ ts) (Args ∷ stack) ≡ outcome b (t ∷ ts) (AnArg ∷ MoreArgs 1 ∷ stack)
+      either true q w r = rw (e, q) refl
+      either false q true r = rw (e, q, r) refl
+      either false q false r = rw (e, q, r) refl
+
+  pub more_args-comma : (n : ℕ) (rest : List Token) (stack : List Symbol) → n < 255 → next_is_sign sign.Comma rest ≡ true → outcome b rest (MoreArgs n ∷ stack) ≡ outcome b rest (ASign sign.Comma ∷ AnArg ∷ MoreArgs (n + 1) ∷ stack)
+  unfolding outcome
+  more_args-comma n [] stack l e = cc
+  more_args-comma n (t ∷ ts) stack l e =
+      let few : ltb n 255 ≡ true = grind (arith, nat_tests) in
+      rw (sign-kind sign.Comma t.kind e, few) refl
+
+  pub more_args-close : (n : ℕ) (rest : List Token) (stack : List Symbol) → next_is_sign sign.Comma rest ≡ false ⊎ 255 ≤ n → outcome b rest (MoreArgs n ∷ stack) ≡ outcome b rest (ASign sign.ParenRight ∷ stack)
+  unfolding outcome
+  more_args-close n [] stack h = refl
+  more_args-close n (t ∷ ts) stack h = either (is_sign sign.ParenRight t.kind) refl (other h)
+    where
+      other : next_is_sign sign.Comma (t ∷ ts) ≡ false ⊎ 255 ≤ n → (is_sign sign.Comma t.kind && ltb n 255) ≡ false
+      other (inl e) = rw e refl
+      other (inr l) = let many : ltb n 255 ≡ false = grind (arith, nat_tests) in both (is_sign sign.Comma t.kind) (ltb n 255) many
+        where
+          both : (a b : Bool) → b ≡ false → (a && b) ≡ false
+          both true b e = e
+          both false b e = refl
+
+      either : (v : Bool) → is_sign sign.ParenRight t.kind ≡ v → (is_sign sign.Comma t.kind && ltb n 255) ≡ false → outcome b (t ∷ ts) (MoreArgs n ∷ stack) ≡ outcome b (t ∷ ts) (ASign sign.ParenRight ∷ stack)
       either true q e = rw q refl
       either false q e = rw (q, e) refl
 
@@ -150,12 +198,12 @@ module _ (b : Bounds) where
   proc-zero [] stack e l = cc
   proc-zero (t ∷ ts) stack e l = takes b (t ∷ ts) ts t AProc stack (MoreProcs ∷ []) refl (rw e refl) l
 
-  pub proc-message : (rest : List Token) (stack : List Symbol) → next_is_name rest ≡ true → outcome b rest (AProc ∷ stack) ≡ outcome b rest (AName ∷ ASign sign.ParenLeft ∷ Names ∷ MoreProcs ∷ stack)
+  pub proc-message : (rest : List Token) (stack : List Symbol) → next_is_name rest ≡ true → outcome b rest (AProc ∷ stack) ≡ outcome b rest (AName ∷ ASign sign.ParenLeft ∷ Args ∷ MoreProcs ∷ stack)
   unfolding outcome
   proc-message [] stack e = cc
   proc-message (t ∷ ts) stack e = by t.kind refl e
     where
-      by : (k : Kind2) → t.kind ≡ k → is_name k ≡ true → outcome b (t ∷ ts) (AProc ∷ stack) ≡ outcome b (t ∷ ts) (AName ∷ ASign sign.ParenLeft ∷ Names ∷ MoreProcs ∷ stack)
+      by : (k : Kind2) → t.kind ≡ k → is_name k ≡ true → outcome b (t ∷ ts) (AProc ∷ stack) ≡ outcome b (t ∷ ts) (AName ∷ ASign sign.ParenLeft ∷ Args ∷ MoreProcs ∷ stack)
       by (kind.Ident x) q e = rw q refl
       by (kind.Number x) q e = cc
       by (kind.Key x) q e = cc
@@ -184,17 +232,33 @@ module _ (b : Bounds) where
   proc-fail [] stack e = cc
   proc-fail (t ∷ ts) stack e = rw (key-kind key.Fail t.kind e) refl
 
+  pub proc-add : (rest : List Token) (stack : List Symbol) → (b.second && next_is_key key.Add rest) ≡ true → outcome b rest (AProc ∷ stack) ≡ outcome b rest (AKey key.Add ∷ ASign sign.ParenLeft ∷ AnArg ∷ ASign sign.Comma ∷ AnArg ∷ ASign sign.Comma ∷ AName ∷ ASign sign.ParenRight ∷ MoreProcs ∷ stack)
+  unfolding outcome
+  proc-add rest stack e = by rest (both-true b.second (next_is_key key.Add rest) e)
+    where
+      by : (rest : List Token) → (b.second ≡ true) × (next_is_key key.Add rest ≡ true) → outcome b rest (AProc ∷ stack) ≡ outcome b rest (AKey key.Add ∷ ASign sign.ParenLeft ∷ AnArg ∷ ASign sign.Comma ∷ AnArg ∷ ASign sign.Comma ∷ AName ∷ ASign sign.ParenRight ∷ MoreProcs ∷ stack)
+      by [] (s, e) = cc
+      by (t ∷ ts) (s, e) = rw (s, key-kind key.Add t.kind e) refl
+
+  pub proc-same : (rest : List Token) (stack : List Symbol) → (b.second && next_is_key key.Same rest) ≡ true → outcome b rest (AProc ∷ stack) ≡ outcome b rest (AKey key.Same ∷ ASign sign.ParenLeft ∷ AnArg ∷ ASign sign.Comma ∷ AnArg ∷ ASign sign.Comma ∷ AName ∷ ASign sign.Comma ∷ AName ∷ ASign sign.ParenRight ∷ MoreProcs ∷ stack)
+  unfolding outcome
+  proc-same rest stack e = by rest (both-true b.second (next_is_key key.Same rest) e)
+    where
+      by : (rest : List Token) → (b.second ≡ true) × (next_is_key key.Same rest ≡ true) → outcome b rest (AProc ∷ stack) ≡ outcome b rest (AKey key.Same ∷ ASign sign.ParenLeft ∷ AnArg ∷ ASign sign.Comma ∷ AnArg ∷ ASign sign.Comma ∷ AName ∷ ASign sign.Comma ∷ AName ∷ ASign sign.ParenRight ∷ MoreProcs ∷ stack)
+      by [] (s, e) = cc
+      by (t ∷ ts) (s, e) = rw (s, key-kind key.Same t.kind e) refl
+
   pub proc-def : (rest : List Token) (stack : List Symbol) → next_is_key key.Def rest ≡ true → level stack < b.levels → outcome b rest (AProc ∷ stack) ≡ outcome b (drop 1 rest) (Defs false ∷ AKey key.Inside ∷ AProc ∷ EndDef ∷ stack)
   proc-def [] stack e l = cc
-  proc-def (t ∷ ts) stack e l = takes b (t ∷ ts) ts t AProc stack (Defs false ∷ AKey key.Inside ∷ AProc ∷ EndDef ∷ []) refl (rw (key-kind key.Def t.kind e) refl) (omega arith)
+  proc-def (t ∷ ts) stack e l = takes b (t ∷ ts) ts t AProc stack (Defs false ∷ AKey key.Inside ∷ AProc ∷ EndDef ∷ []) refl (rw (key-kind key.Def t.kind e) (def-step b.second)) (omega arith)
 
   pub proc-def-deep : (rest : List Token) (stack : List Symbol) → next_is_key key.Def rest ≡ true → b.levels ≤ level stack → outcome b rest (AProc ∷ stack) ≡ Stop Grammar2 (place_of b.end rest)
   proc-def-deep [] stack e l = cc
-  proc-def-deep (t ∷ ts) stack e l = deepens b (t ∷ ts) ts t AProc stack (Defs false ∷ AKey key.Inside ∷ AProc ∷ EndDef ∷ []) refl (rw (key-kind key.Def t.kind e) refl) (omega arith)
+  proc-def-deep (t ∷ ts) stack e l = deepens b (t ∷ ts) ts t AProc stack (Defs false ∷ AKey key.Inside ∷ AProc ∷ EndDef ∷ []) refl (rw (key-kind key.Def t.kind e) (def-step b.second)) (omega arith)
 
-  pub proc-stops : (rest : List Token) (stack : List Symbol) → next_is_zero rest ≡ false → next_is_name rest ≡ false → next_is_sign sign.ParenLeft rest ≡ false → next_is_key key.Halt rest ≡ false → next_is_key key.Go rest ≡ false → next_is_key key.Fail rest ≡ false → next_is_key key.Def rest ≡ false → outcome b rest (AProc ∷ stack) ≡ Stop Grammar1 (place_of b.end rest)
-  proc-stops [] stack z n p h g f d = stops-at-end b [] AProc stack refl refl
-  proc-stops (t ∷ ts) stack z n p h g f d = stops b (t ∷ ts) ts t AProc stack refl (rw (z, n, p, h, g, f, d) refl)
+  pub proc-stops : (rest : List Token) (stack : List Symbol) → next_is_zero rest ≡ false → next_is_name rest ≡ false → next_is_sign sign.ParenLeft rest ≡ false → next_is_key key.Halt rest ≡ false → next_is_key key.Go rest ≡ false → next_is_key key.Fail rest ≡ false → (b.second && next_is_key key.Add rest) ≡ false → (b.second && next_is_key key.Same rest) ≡ false → next_is_key key.Def rest ≡ false → outcome b rest (AProc ∷ stack) ≡ Stop Grammar1 (place_of b.end rest)
+  proc-stops [] stack z n p h g f a s d = stops-at-end b [] AProc stack refl refl
+  proc-stops (t ∷ ts) stack z n p h g f a s d = stops b (t ∷ ts) ts t AProc stack refl (rw (z, n, p, h, g, f, a, s, d) refl)
 
   -- a `|` leads to another process, and anything else ends the process
   pub procs-bar : (rest : List Token) (stack : List Symbol) → next_is_sign sign.Bar rest ≡ true → level stack ≤ b.levels → outcome b rest (MoreProcs ∷ stack) ≡ outcome b (drop 1 rest) (AProc ∷ stack)
@@ -229,6 +293,29 @@ module _ (b : Bounds) where
   unfolding outcome
   sites-end [] stack e = refl
   sites-end (t ∷ ts) stack e = rw e refl
+
+  -- the tokens that say that a text is of the second version
+  pub opening-runs : (rest : List Token) → b.second ≡ true → says_second rest ≡ true → outcome b rest (start b.second) ≡ outcome b (drop 3 rest) (Program ∷ [])
+  opening-runs [] s e = cc
+  opening-runs (x ∷ []) s e = cc
+  opening-runs (x ∷ y ∷ []) s e = cc
+  opening-runs (x ∷ y ∷ z ∷ ts) s e =
+      let v = both-true (is_version_word x.kind && is_two y.kind) (is_semicolon z.kind) e in
+      let w = both-true (is_version_word x.kind) (is_two y.kind) v.0 in
+      ap (λ o. outcome b (x ∷ y ∷ z ∷ ts) (start o)) s
+      ∙ takes b (x ∷ y ∷ z ∷ ts) (y ∷ z ∷ ts) x AVersion (ATwo ∷ ASign sign.Semicolon ∷ Program ∷ []) [] refl (rw w.0 refl) (omega arith)
+      ∙ takes b (y ∷ z ∷ ts) (z ∷ ts) y ATwo (ASign sign.Semicolon ∷ Program ∷ []) [] refl (rw w.1 refl) (omega arith)
+      ∙ takes b (z ∷ ts) ts z (ASign sign.Semicolon) (Program ∷ []) [] refl (rw (semicolon z.kind v.1) refl) (omega arith)
+    where
+      semicolon : (k : Kind2) → is_semicolon k ≡ true → is_sign sign.Semicolon k ≡ true
+      semicolon (kind.Ident t) e = cc
+      semicolon (kind.Number n) e = cc
+      semicolon (kind.Key j) e = cc
+      semicolon (kind.Sign sign.Semicolon) e = refl
+      semicolon (kind.Sign t) e = cc
+
+  pub opening-none : (rest : List Token) → b.second ≡ false → outcome b rest (start b.second) ≡ outcome b (drop 0 rest) (Program ∷ [])
+  opening-none rest s = ap (λ o. outcome b rest (start o)) s
 
   -- the same at a place of the tokens
   at-next : (ts : List Token) (at : ℕ) (stack : List Symbol) → outcome b (drop 1 (drop at ts)) stack ≡ outcome b (drop (at + 1) ts) stack

@@ -20,3 +20,4 @@ use Rattle.join_parse.proofs.Prints.{text-printed}
 use Rattle.join_parse.proofs.Again.{reads-again}
 pub mod Listed
 pub mod LeftToPrint
+pub mod Placed

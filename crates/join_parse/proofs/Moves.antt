@@ -1,5 +1,5 @@
 -- What the automaton does with what comes next.
-use Rattle.std.proofs.Common.{cond, ◌≡◌, ℕ, ◌+◌, ◌≤◌, ◌<◌, true, false, List, [], ◌∷◌, ◌++◌, length, drop, refl, sym, ap, ◌∙◌, arith, leb, length-drop, Result, Ok, Err}
+use Rattle.std.proofs.Common.{Bool, cond, ◌≡◌, ℕ, ◌+◌, ◌≤◌, ◌<◌, true, false, List, [], ◌∷◌, ◌++◌, length, drop, refl, sym, ap, ◌∙◌, arith, leb, length-drop, Result, Ok, Err}
 use Rattle.std.specs.Result.{IsErrAnd}
 use Rattle.std.proofs.lemmas.Bool.Decides.{nat_tests}
 use Rattle.std.proofs.lemmas.List.{drop-drop}
@@ -15,7 +15,7 @@ use Rattle.join_lex.specs.declared.token.Kind2.TheVariants as kind
 use Rattle.join_lex.specs.declared.token.Token.{Token}
 use Rattle.join_parse.specs.declared.bounds.Bounds.{Bounds}
 use Rattle.join_parse.specs.Terminals.{a_sign}
-use Rattle.join_parse.specs.Begins.{Symbol, AName, ACount, ASign}
+use Rattle.join_parse.specs.Begins.{Symbol, AName, AnArg, ACount, ASign}
 use Rattle.join_parse.specs.inside.Automaton.{is_key, is_sign, Push, Pass, No, step, may_pass}
 use Rattle.join_parse.specs.inside.Automaton.{level, Stop, outcome}
 use Rattle.join_parse.specs.inside.Parsed.{next_is_sign, next_is_key, place_of, key_symbol, AtMost}
@@ -45,18 +45,22 @@ key-kind j (kind.Key i) e = ap kind.Key (same i j e)
     same key.Fail key.Fail e = refl
     same key.Halt key.Halt e = refl
     same key.Void key.Void e = refl
+    same key.Add key.Add e = refl
+    same key.Same key.Same e = refl
     same i j e = cc
 
-key_symbol-step : (j : Key) (k : Kind2) → step (key_symbol j) k ≡ cond (is_key j k) (Push []) No
-key_symbol-step key.Observe k = refl
-key_symbol-step key.Site k = refl
-key_symbol-step key.Def k = refl
-key_symbol-step key.Inside k = refl
-key_symbol-step key.And k = refl
-key_symbol-step key.Go k = refl
-key_symbol-step key.Fail k = refl
-key_symbol-step key.Halt k = refl
-key_symbol-step key.Void k = refl
+key_symbol-step : (second : Bool) (j : Key) (k : Kind2) → step second (key_symbol j) k ≡ cond (is_key j k) (Push []) No
+key_symbol-step second key.Observe k = refl
+key_symbol-step second key.Site k = refl
+key_symbol-step second key.Def k = refl
+key_symbol-step second key.Inside k = refl
+key_symbol-step second key.And k = refl
+key_symbol-step second key.Go k = refl
+key_symbol-step second key.Fail k = refl
+key_symbol-step second key.Halt k = refl
+key_symbol-step second key.Void k = refl
+key_symbol-step second key.Add k = refl
+key_symbol-step second key.Same k = refl
 
 key_symbol-pass : (j : Key) → may_pass (key_symbol j) ≡ false
 key_symbol-pass key.Observe = refl
@@ -68,26 +72,28 @@ key_symbol-pass key.Go = refl
 key_symbol-pass key.Fail = refl
 key_symbol-pass key.Halt = refl
 key_symbol-pass key.Void = refl
+key_symbol-pass key.Add = refl
+key_symbol-pass key.Same = refl
 
 module _ (b : Bounds) where
   -- one token, against the symbol that is expected
-  pub takes : (rest us : List Token) (t : Token) (s : Symbol) (stack more : List Symbol) → rest ≡ t ∷ us → step s t.kind ≡ Push more → level (more ++ stack) ≤ b.levels → outcome b rest (s ∷ stack) ≡ outcome b us (more ++ stack)
+  pub takes : (rest us : List Token) (t : Token) (s : Symbol) (stack more : List Symbol) → rest ≡ t ∷ us → step b.second s t.kind ≡ Push more → level (more ++ stack) ≤ b.levels → outcome b rest (s ∷ stack) ≡ outcome b us (more ++ stack)
   unfolding outcome
   takes rest us t s stack more e p l =
       let low : leb (level (more ++ stack)) b.levels ≡ true = grind (arith, nat_tests) in
       rw (e, p, low) refl
 
-  pub deepens : (rest us : List Token) (t : Token) (s : Symbol) (stack more : List Symbol) → rest ≡ t ∷ us → step s t.kind ≡ Push more → b.levels < level (more ++ stack) → outcome b rest (s ∷ stack) ≡ Stop Grammar2 (place_of b.end rest)
+  pub deepens : (rest us : List Token) (t : Token) (s : Symbol) (stack more : List Symbol) → rest ≡ t ∷ us → step b.second s t.kind ≡ Push more → b.levels < level (more ++ stack) → outcome b rest (s ∷ stack) ≡ Stop Grammar2 (place_of b.end rest)
   unfolding outcome
   deepens rest us t s stack more e p l =
       let deep : leb (level (more ++ stack)) b.levels ≡ false = grind (arith, nat_tests) in
       rw (e, p, deep) refl
 
-  pub passes : (rest us : List Token) (t : Token) (s : Symbol) (stack : List Symbol) → rest ≡ t ∷ us → step s t.kind ≡ Pass → outcome b rest (s ∷ stack) ≡ outcome b rest stack
+  pub passes : (rest us : List Token) (t : Token) (s : Symbol) (stack : List Symbol) → rest ≡ t ∷ us → step b.second s t.kind ≡ Pass → outcome b rest (s ∷ stack) ≡ outcome b rest stack
   unfolding outcome
   passes rest us t s stack e p = rw (e, p) refl
 
-  pub stops : (rest us : List Token) (t : Token) (s : Symbol) (stack : List Symbol) → rest ≡ t ∷ us → step s t.kind ≡ No → outcome b rest (s ∷ stack) ≡ Stop Grammar1 (place_of b.end rest)
+  pub stops : (rest us : List Token) (t : Token) (s : Symbol) (stack : List Symbol) → rest ≡ t ∷ us → step b.second s t.kind ≡ No → outcome b rest (s ∷ stack) ≡ Stop Grammar1 (place_of b.end rest)
   unfolding outcome
   stops rest us t s stack e p = rw (e, p) refl
 
@@ -96,7 +102,7 @@ module _ (b : Bounds) where
   stops-at-end rest s stack e p = rw (e, p) refl
 
   -- a symbol that is one token
-  pub one-reads : (s : Symbol) (ts : List Token) (at : ℕ) (t : Token) → drop at ts ≡ t ∷ drop (at + 1) ts → at + 1 ≤ length ts → step s t.kind ≡ Push [] → Reads b (AtMost b.levels) ts at (s ∷ []) (at + 1) []
+  pub one-reads : (s : Symbol) (ts : List Token) (at : ℕ) (t : Token) → drop at ts ≡ t ∷ drop (at + 1) ts → at + 1 ≤ length ts → step b.second s t.kind ≡ Push [] → Reads b (AtMost b.levels) ts at (s ∷ []) (at + 1) []
   one-reads s ts at t e l p = record {
     runs = λ stack h. takes (drop at ts) (drop (at + 1) ts) t s stack [] e p h;
     further = omega arith;
@@ -118,11 +124,11 @@ module _ (b : Bounds) where
   sign-stops s (t ∷ ts) q stack = stops (t ∷ ts) ts t (ASign s) stack refl (rw q refl)
 
   pub key-reads : (j : Key) (ts : List Token) (at : ℕ) → next_is_key j (drop at ts) ≡ true → at + 1 ≤ length ts → Reads b (AtMost b.levels) ts at (key_symbol j ∷ []) (at + 1) []
-  key-reads j ts at q l = let n = next-token ts at l in one-reads (key_symbol j) ts at n.0 n.1 l (let h : is_key j n.0.kind ≡ true = rw n.1 at q in rw (key_symbol-step j n.0.kind, h) refl)
+  key-reads j ts at q l = let n = next-token ts at l in one-reads (key_symbol j) ts at n.0 n.1 l (let h : is_key j n.0.kind ≡ true = rw n.1 at q in rw (key_symbol-step b.second j n.0.kind, h) refl)
 
   pub key-stops : (j : Key) (rest : List Token) → next_is_key j rest ≡ false → (stack : List Symbol) → outcome b rest (key_symbol j ∷ stack) ≡ Stop Grammar1 (place_of b.end rest)
   key-stops j [] q stack = stops-at-end [] (key_symbol j) stack refl (key_symbol-pass j)
-  key-stops j (t ∷ ts) q stack = stops (t ∷ ts) ts t (key_symbol j) stack refl (rw (key_symbol-step j t.kind, q) refl)
+  key-stops j (t ∷ ts) q stack = stops (t ∷ ts) ts t (key_symbol j) stack refl (rw (key_symbol-step b.second j t.kind, q) refl)
 
   -- Where the next part stops, the whole does.
   pub halts-before : (P : ℕ → Type 0) (ts : List Token) (at : ℕ) (ss : List Symbol) (P' : ℕ → Type 0) (at' : ℕ) (ss' : List Symbol) (then : List Symbol → List Symbol) (e : Front)
@@ -132,26 +138,44 @@ module _ (b : Bounds) where
   halts-before P ts at ss P' at' ss' then (Refused kind place) path fits halts = λ stack h. path stack h ∙ halts (then stack) (fits stack h)
   halts-before P ts at ss P' at' ss' then Memory path fits halts = tt
 
-pub name-step : (k : Kind2) (text : List ℕ) → k ≡ kind.Ident text → step AName k ≡ Push []
-name-step k text e = rw e refl
+pub name-step : (second : Bool) (k : Kind2) (text : List ℕ) → k ≡ kind.Ident text → step second AName k ≡ Push []
+name-step second k text e = rw e refl
 
-pub name-step-no : (k : Kind2) → ((text : List ℕ) → k ≡ kind.Ident text → ⊥) → step AName k ≡ No
-name-step-no (kind.Ident t) n = absurd (n t refl)
-name-step-no (kind.Number m) n = refl
-name-step-no (kind.Key j) n = refl
-name-step-no (kind.Sign s) n = refl
+pub name-step-no : (second : Bool) (k : Kind2) → ((text : List ℕ) → k ≡ kind.Ident text → ⊥) → step second AName k ≡ No
+name-step-no second (kind.Ident t) n = absurd (n t refl)
+name-step-no second (kind.Number m) n = refl
+name-step-no second (kind.Key j) n = refl
+name-step-no second (kind.Sign s) n = refl
 
-pub count-step : (k : Kind2) (n : ℕ) → k ≡ kind.Number n → n ≤ 255 → step ACount k ≡ Push []
-count-step k n e l = let low : leb n 255 ≡ true = grind (arith, nat_tests) in rw (e, low) refl
+pub count-step : (second : Bool) (k : Kind2) (n : ℕ) → k ≡ kind.Number n → n ≤ 255 → step second ACount k ≡ Push []
+count-step second k n e l = let low : leb n 255 ≡ true = grind (arith, nat_tests) in rw (e, low) refl
 
-pub count-step-large : (k : Kind2) (n : ℕ) → k ≡ kind.Number n → 255 < n → step ACount k ≡ No
-count-step-large k n e l = let large : leb n 255 ≡ false = grind (arith, nat_tests) in rw (e, large) refl
+pub count-step-large : (second : Bool) (k : Kind2) (n : ℕ) → k ≡ kind.Number n → 255 < n → step second ACount k ≡ No
+count-step-large second k n e l = let large : leb n 255 ≡ false = grind (arith, nat_tests) in rw (e, large) refl
 
-pub count-step-no : (k : Kind2) → ((n : ℕ) → k ≡ kind.Number n → ⊥) → step ACount k ≡ No
-count-step-no (kind.Ident t) n = refl
-count-step-no (kind.Number m) n = absurd (n m refl)
-count-step-no (kind.Key j) n = refl
-count-step-no (kind.Sign s) n = refl
+pub count-step-no : (second : Bool) (k : Kind2) → ((n : ℕ) → k ≡ kind.Number n → ⊥) → step second ACount k ≡ No
+count-step-no second (kind.Ident t) n = refl
+count-step-no second (kind.Number m) n = absurd (n m refl)
+count-step-no second (kind.Key j) n = refl
+count-step-no second (kind.Sign s) n = refl
+
+pub arg-step-word : (second : Bool) (k : Kind2) (text : List ℕ) → k ≡ kind.Ident text → step second AnArg k ≡ Push []
+arg-step-word second k text e = rw e refl
+
+pub arg-step-number : (second : Bool) (k : Kind2) (n : ℕ) → k ≡ kind.Number n → second ≡ true → step second AnArg k ≡ Push []
+arg-step-number second k n e s = rw (e, s) refl
+
+pub arg-step-first : (second : Bool) (k : Kind2) (n : ℕ) → k ≡ kind.Number n → second ≡ false → step second AnArg k ≡ No
+arg-step-first second k n e s = rw (e, s) refl
+
+pub arg-step-no : (second : Bool) (k : Kind2) → ((text : List ℕ) → k ≡ kind.Ident text → ⊥) → ((n : ℕ) → k ≡ kind.Number n → second ≡ true → ⊥) → step second AnArg k ≡ No
+arg-step-no second (kind.Ident t) n m = absurd (n t refl)
+arg-step-no true (kind.Number i) n m = absurd (m i refl refl)
+arg-step-no false (kind.Number i) n m = refl
+arg-step-no true (kind.Key j) n m = refl
+arg-step-no false (kind.Key j) n m = refl
+arg-step-no true (kind.Sign s) n m = refl
+arg-step-no false (kind.Sign s) n m = refl
 
 -- The exit of a `?`: where the next part stops, the whole does.
 pub exit-before : (b : Bounds) (P : ℕ → Type 0) (ts : List Token) (at : ℕ) (ss : List Symbol) (P' : ℕ → Type 0) (at' : ℕ) (ss' : List Symbol) (then : List Symbol → List Symbol)

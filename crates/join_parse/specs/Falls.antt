@@ -4,7 +4,7 @@ use Rattle.std.proofs.Common.{arith}
 use denote.Param.Weighed.{most}
 use Rattle.join_parse.specs.declared.tree.ProcNode.{ProcNode}
 use Rattle.join_parse.specs.declared.tree.ProcNode.TheVariants.{Zero, Msg, Go, Fail}
-use Rattle.join_parse.specs.declared.tree.ProcNode.TheVariants.{Halt, Group, Def}
+use Rattle.join_parse.specs.declared.tree.ProcNode.TheVariants.{Halt, Add, Same, Group, Def}
 use Rattle.join_parse.specs.declared.tree.DefNode.{DefNode}
 use Rattle.join_parse.specs.declared.tree.DefNode.TheVariants.{Rule, Place}
 use Rattle.join_parse.specs.Source.{Process, Definition}
@@ -30,6 +30,8 @@ depth_le-process (Def ds p) = omega (arith, most_le-defs_depth ds, most_le-procs
 depth_le-process (Go b k) = omega arith
 depth_le-process (Fail b k) = omega arith
 depth_le-process Halt = omega arith
+depth_le-process (Add l r k) = omega arith
+depth_le-process (Same l r y n) = omega arith
 
 pub depth_le-definition : (n : DefNode)
     → max (deep-DefNode n) 0 ≤ definition_depth (definition_of n)

@@ -1,24 +1,24 @@
 -- The nesting levels that are open after each terminal of a tree, where so many are open before it.
-use Rattle.std.specs.Prelude.{ℕ, ◌+◌, ◌≤◌, List, [], ◌∷◌}
-use Rattle.join_parse.specs.declared.word.Word.{Word}
+use Rattle.std.specs.Prelude.{ℕ, ◌+◌, ◌≤◌, Bool, true, false, List, [], ◌∷◌}
 use Rattle.join_parse.specs.declared.word.PatTree.{PatTree}
 use Rattle.join_parse.specs.declared.word.SeenTree.{SeenTree}
 use Rattle.join_parse.specs.declared.tree.PlaceTree.{PlaceTree}
-use Rattle.join_parse.specs.Source.{Process, Zero, Msg, Go, Fail, Halt, Group, Def, Processes}
-use Rattle.join_parse.specs.Source.{none, one_more, Definition, Rule, Place, Definitions}
+use Rattle.join_parse.specs.Source.{Process, Zero, Msg, Go, Fail, Halt, Add, Same}
+use Rattle.join_parse.specs.Source.{Group, Def, Processes, none, one_more, Definition, Rule}
+use Rattle.join_parse.specs.Source.{Place, Definitions}
 use Rattle.join_parse.specs.Source.{no_definition, and_also, processes, definitions}
-use Rattle.join_parse.specs.Grammar.{TreeOfText}
+use Rattle.join_parse.specs.Grammar.{TreeOfText, is_second}
 
 -- The parentheses of arguments open no level.
-abbrev pub more_names_levels : ℕ → List Word → List ℕ → List ℕ
+abbrev pub more_names_levels : {A : Type 0} → ℕ → List A → List ℕ → List ℕ
 more_names_levels d [] rest = d ∷ rest
 more_names_levels d (w ∷ ws) rest = d ∷ d ∷ more_names_levels d ws rest
 
-abbrev pub names_levels : ℕ → List Word → List ℕ → List ℕ
+abbrev pub names_levels : {A : Type 0} → ℕ → List A → List ℕ → List ℕ
 names_levels d [] rest = d ∷ rest
 names_levels d (w ∷ ws) rest = d ∷ more_names_levels d ws rest
 
-abbrev pub applied_levels : ℕ → List Word → List ℕ → List ℕ
+abbrev pub applied_levels : {A : Type 0} → ℕ → List A → List ℕ → List ℕ
 applied_levels d ws rest = d ∷ d ∷ names_levels d ws rest
 
 abbrev pub more_patterns_levels : ℕ → List PatTree → List ℕ → List ℕ
@@ -42,6 +42,9 @@ abbrev mutual
   process_levels (Go target cont) d rest = pair_levels d rest
   process_levels (Fail target cont) d rest = pair_levels d rest
   process_levels Halt d rest = d ∷ d ∷ d ∷ rest
+  process_levels (Add left right cont) d rest = d ∷ d ∷ d ∷ d ∷ d ∷ d ∷ d ∷ d ∷ rest
+  process_levels (Same left right alike apart) d rest =
+      d ∷ d ∷ d ∷ d ∷ d ∷ d ∷ d ∷ d ∷ d ∷ d ∷ rest
   process_levels (Group ps) d rest = (1 + d) ∷ processes_levels ps (1 + d) (d ∷ rest)
   process_levels (Def ds ps) d rest =
       (1 + d) ∷ definitions_levels ds (1 + d) ((1 + d) ∷ processes_levels ps (1 + d) rest)
@@ -82,11 +85,21 @@ sites_levels (s ∷ ss) rest =
     ∷ definitions_levels (definitions s.defs) 1
     (1 ∷ processes_levels (processes s.body) 1 (0 ∷ sites_levels ss rest))
 
+abbrev pub opening_levels : Bool → List ℕ → List ℕ
+opening_levels false rest = rest
+opening_levels true rest = 0 ∷ 0 ∷ 0 ∷ rest
+
 -- the level of each terminal of a tree's sentence
 abbrev pub levels : TreeOfText → List ℕ
-levels t = declarations_levels t.seen (sites_levels t.sites [])
+levels t =
+    opening_levels (is_second t.version) (declarations_levels t.seen (sites_levels t.sites []))
 
 -- no level is above the limit
 abbrev pub AreWithin : ℕ → List ℕ → Type 0
 AreWithin limit [] = Unit {0}
 AreWithin limit (l ∷ ls) = (l ≤ limit) × AreWithin limit ls
+
+-- how many nesting levels a tree of the second version may have, and one of the first
+abbrev pub most_levels : Bool → ℕ
+most_levels true = 400
+most_levels false = 200

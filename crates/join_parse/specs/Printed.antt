@@ -7,7 +7,7 @@ use Rattle.join_parse.specs.Terminals.{Terminal, a_name, a_number, a_site, a_key
 -- how a terminal is spelled; numbers have no leading zeros
 abbrev pub spelling : Terminal → List ℕ
 spelling (a_name text place) = text
-spelling (a_number n) = decimal n
+spelling (a_number n place) = decimal n
 spelling (a_site place) = key_bytes key.Site
 spelling (a_key k) = key_bytes k
 spelling (a_sign s) = sign_bytes s

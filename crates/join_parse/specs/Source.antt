@@ -1,15 +1,18 @@
 -- Processes and definitions as they stand in a text.
 use Rattle.std.specs.Prelude.{ℕ, List, [], ◌∷◌}
 use Rattle.join_parse.specs.declared.word.Word.{Word}
+use Rattle.join_parse.specs.declared.word.Arg.{Arg}
 use Rattle.join_parse.specs.declared.word.PatTree.{PatTree}
 
 mutual
   pub data Process : Type 0 where
     Zero : Process
-    Msg : (on : Word) (args : List Word) → Process
+    Msg : (on : Word) (args : List Arg) → Process
     Go : (target cont : Word) → Process
     Fail : (target cont : Word) → Process
     Halt : Process
+    Add : (left right : Arg) (cont : Word) → Process
+    Same : (left right : Arg) (alike apart : Word) → Process
     Group : Processes → Process
     Def : Definitions → Processes → Process
 

@@ -3,10 +3,12 @@ use Rattle.std.proofs.Common.{◌≡◌, ◌≢◌, ℕ, List, refl, ap, arith}
 use Rattle.std.specs.Coded.{Coded, coded_list}
 use base.Stored.{Gv, gnil, gnum, gcons}
 use Rattle.join_parse.specs.declared.word.Word.{Word}
+use Rattle.join_parse.specs.declared.word.Arg.{Arg}
 use Rattle.join_parse.specs.declared.word.PatTree.{PatTree}
 use Rattle.join_parse.specs.contracts.word.Word as word
+use Rattle.join_parse.specs.contracts.word.Arg as arg
 use Rattle.join_parse.specs.contracts.word.PatTree as pat
-use Rattle.join_parse.specs.Source.{Process, Zero, Msg, Go, Fail, Halt, Group, Def}
+use Rattle.join_parse.specs.Source.{Process, Zero, Msg, Go, Fail, Halt, Add, Same, Group, Def}
 use Rattle.join_parse.specs.Source.{Processes, none, one_more, Definition, Rule}
 use Rattle.join_parse.specs.Source.{Place, Definitions, no_definition, and_also}
 
@@ -23,8 +25,11 @@ tail (gcons a b) = b
 abbrev pub word_code : Coded Word
 word_code = word.the_row.coded
 
-abbrev words_code : Coded (List Word)
-words_code = coded_list word_code
+abbrev arg_code : Coded Arg
+arg_code = arg.the_row.coded
+
+abbrev args_code : Coded (List Arg)
+args_code = coded_list arg_code
 
 abbrev pats_code : Coded (List PatTree)
 pats_code = coded_list pat.the_row.coded
@@ -35,12 +40,18 @@ apart m n other p = other (cc)
 abbrev mutual
   pub process_code : Process → Gv
   process_code Zero = gcons (gnum 0) gnil
-  process_code (Msg x vs) = gcons (gnum 1) (gcons (word_code.code x) (words_code.code vs))
+  process_code (Msg x vs) = gcons (gnum 1) (gcons (word_code.code x) (args_code.code vs))
   process_code (Go b k) = gcons (gnum 2) (gcons (word_code.code b) (word_code.code k))
   process_code (Fail b k) = gcons (gnum 3) (gcons (word_code.code b) (word_code.code k))
   process_code Halt = gcons (gnum 4) gnil
   process_code (Group ps) = gcons (gnum 5) (processes_code ps)
   process_code (Def ds p) = gcons (gnum 6) (gcons (definitions_code ds) (processes_code p))
+  process_code (Add l r k) =
+      gcons (gnum 7) (gcons (arg_code.code l) (gcons (arg_code.code r) (word_code.code k)))
+  process_code (Same l r y n) =
+      gcons (gnum 8)
+      (gcons (gcons (arg_code.code l) (arg_code.code r))
+      (gcons (word_code.code y) (word_code.code n)))
 
   pub processes_code : Processes → Gv
   processes_code none = gnil
@@ -61,7 +72,7 @@ mutual
   process_inj Zero Zero p = refl
   process_inj (Msg x vs) (Msg y ws) p =
       λ i. Msg (word_code.inj x y (ap (λ g. head (tail g)) p) i)
-      (words_code.inj vs ws (ap (λ g. tail (tail g)) p) i)
+      (args_code.inj vs ws (ap (λ g. tail (tail g)) p) i)
   process_inj (Go x u) (Go y v) p =
       λ i. Go (word_code.inj x y (ap (λ g. head (tail g)) p) i)
       (word_code.inj u v (ap (λ g. tail (tail g)) p) i)
@@ -69,6 +80,15 @@ mutual
       λ i. Fail (word_code.inj x y (ap (λ g. head (tail g)) p) i)
       (word_code.inj u v (ap (λ g. tail (tail g)) p) i)
   process_inj Halt Halt p = refl
+  process_inj (Add a b k) (Add c d l) p =
+      λ i. Add (arg_code.inj a c (ap (λ g. head (tail g)) p) i)
+      (arg_code.inj b d (ap (λ g. head (tail (tail g))) p) i)
+      (word_code.inj k l (ap (λ g. tail (tail (tail g))) p) i)
+  process_inj (Same a b y n) (Same c d u v) p =
+      λ i. Same (arg_code.inj a c (ap (λ g. head (head (tail g))) p) i)
+      (arg_code.inj b d (ap (λ g. tail (head (tail g))) p) i)
+      (word_code.inj y u (ap (λ g. head (tail (tail g))) p) i)
+      (word_code.inj n v (ap (λ g. tail (tail (tail g))) p) i)
   process_inj (Group ps) (Group qs) p = ap Group (processes_inj ps qs (ap tail p))
   process_inj (Def ds a) (Def es b) p =
       λ i. Def (definitions_inj ds es (ap (λ g. head (tail g)) p) i)

@@ -1,7 +1,8 @@
 -- How deep a tree is.
 use Rattle.std.specs.Prelude.{ℕ, ◌+◌, max, List}
-use Rattle.join_parse.specs.Source.{Process, Zero, Msg, Go, Fail, Halt, Group, Def, Processes}
-use Rattle.join_parse.specs.Source.{none, one_more, Definition, Rule, Place, Definitions}
+use Rattle.join_parse.specs.Source.{Process, Zero, Msg, Go, Fail, Halt, Add, Same}
+use Rattle.join_parse.specs.Source.{Group, Def, Processes, none, one_more, Definition, Rule}
+use Rattle.join_parse.specs.Source.{Place, Definitions}
 use Rattle.join_parse.specs.Source.{no_definition, and_also, processes, definitions}
 
 abbrev mutual
@@ -11,6 +12,8 @@ abbrev mutual
   process_depth (Go b k) = 0
   process_depth (Fail b k) = 0
   process_depth Halt = 0
+  process_depth (Add l r k) = 0
+  process_depth (Same l r y n) = 0
   process_depth (Group ps) = processes_depth ps + 1
   process_depth (Def ds p) = max (definitions_depth ds + 1) (processes_depth p + 1)
 

@@ -1,8 +1,9 @@
 // What bounds the tree of a text.
 
-/// The most levels, and the text's length.
+/// Whether the text is of the second version, the most levels, and the text's length.
 #[derive(Clone, Copy)]
 pub struct Bounds {
+    pub second: bool,
     pub levels: u32,
     pub end: u32,
 }

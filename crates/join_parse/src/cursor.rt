@@ -4,16 +4,17 @@ ghost use Rattle.std.specs.Prelude.{drop, IfOk, OnSome, MatchOption};
 ghost use Rattle.std.specs.Bool.{OnTrue};
 ghost use Rattle.join_base.specs.declared.fault.Front.TheVariants as front;
 ghost use Rattle.join_base.specs.declared.fault.Kind.TheVariants as fault;
-ghost use Rattle.join_parse.specs.Terminals.{a_number, a_sign, named};
-ghost use Rattle.join_parse.specs.Begins.{AName, ACount, ASign};
+ghost use Rattle.join_parse.specs.Terminals.{a_sign, named, argument};
+ghost use Rattle.join_parse.specs.Grammar.{IsArgument};
+ghost use Rattle.join_parse.specs.Begins.{AName, AnArg, ACount, ASign};
 ghost use Rattle.join_parse.specs.inside.Automaton.{is_sign, is_key};
 ghost use Rattle.join_parse.specs.inside.Parsed.{next_is_sign, next_is_key, next_is_name};
 ghost use Rattle.join_parse.specs.inside.Parsed.{next_is_zero};
 ghost use Rattle.join_parse.specs.inside.Parsed.{place_of, key_symbol, key_here};
-ghost use Rattle.join_parse.specs.inside.Parsed.{SpellsOne, AtMost, Reads, Fails};
+ghost use Rattle.join_parse.specs.inside.Parsed.{SpellsOne, SpellsNumber, AtMost, Reads, Fails};
 
 use crate::bounds::Bounds;
-use crate::word::Word;
+use crate::word::{Arg, Word};
 use join_base::{Front, Kind};
 use join_lex::{Key, Kind2, Sign, Token};
 use std::alloc::Global;
@@ -80,7 +81,7 @@ pub fn is_name_at(tokens: &[Token], at: usize) -> bool
 pub fn is_zero_at(tokens: &[Token], at: usize) -> bool
     ensures is { result ≡ next_is_zero (drop at tokens.now) }
     ensures within { OnTrue result (at + 1 ≤ length tokens.now) }
-    ensures spelled { OnTrue result (SpellsOne tokens.now at (a_number 0) (at + 1)) }
+    ensures spelled { OnTrue result (SpellsNumber tokens.now at 0 (at + 1)) }
 {
     match token_at(tokens, at) {
         None => false,
@@ -165,7 +166,7 @@ pub fn word(alloc: Global, tokens: &[Token], b: Bounds, at: usize) -> Result<(Wo
 pub fn count(tokens: &[Token], b: Bounds, at: usize) -> Result<(u32, usize), Front>
     ensures reads { IfOk result (λ r.
         Reads b (AtMost b.levels) tokens.now at (ACount ∷ []) r.1 []) }
-    ensures spelled { IfOk result (λ r. SpellsOne tokens.now at (a_number r.0) r.1) }
+    ensures spelled { IfOk result (λ r. SpellsNumber tokens.now at r.0 r.1) }
     ensures small { IfOk result (λ r. r.0 ≤ 255) }
     ensures fails { Fails b (AtMost b.levels) tokens.now at (ACount ∷ []) result }
 {
@@ -178,5 +179,32 @@ pub fn count(tokens: &[Token], b: Bounds, at: usize) -> Result<(u32, usize), Fro
     if *count > 255 {
         return Err(refused(tokens, b, at));
     }
-    Ok((*count, at + 1))
+    Ok((*count as u32, at + 1))
+}
+
+// ident, or a number in the second version
+pub fn arg(alloc: Global, tokens: &[Token], b: Bounds, at: usize) -> Result<(Arg, usize), Front>
+    ensures reads { IfOk result (λ r. Reads b (AtMost b.levels) tokens.now at (AnArg ∷ []) r.1 []) }
+    ensures spelled { IfOk result (λ r. SpellsOne tokens.now at (argument r.0) r.1) }
+    ensures of { IfOk result (λ r. IsArgument b.second r.0) }
+    ensures fails { Fails b (AtMost b.levels) tokens.now at (AnArg ∷ []) result }
+{
+    let Some(token) = token_at(tokens, at) else {
+        return Err(refused(tokens, b, at));
+    };
+    let place = token.span.from;
+    match &token.kind {
+        Kind2::Ident(text) => {
+            let text = text.copy(alloc)?;
+            Ok((Arg::Word(Word { text, place }), at + 1))
+        }
+        Kind2::Number(value) if b.second => Ok((
+            Arg::Num {
+                value: *value,
+                place,
+            },
+            at + 1,
+        )),
+        _ => Err(refused(tokens, b, at)),
+    }
 }

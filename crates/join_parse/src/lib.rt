@@ -4,6 +4,7 @@
 
 mod bounds;
 mod cursor;
+mod leaf;
 mod names;
 mod parser;
 mod print;
@@ -21,6 +22,6 @@ pub use tree::{
     copy_definitions, copy_places, copy_processes,
 };
 pub use word::{
-    PatTree, PatTrees, SeenTree, SeenTrees, Word, Words, copy_declarations, copy_patterns,
-    copy_words,
+    Arg, Args, PatTree, PatTrees, SeenTree, SeenTrees, Word, Words, copy_args, copy_declarations,
+    copy_patterns, copy_words,
 };

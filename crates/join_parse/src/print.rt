@@ -1,8 +1,12 @@
 // The text of a tree.
 ghost use Rattle.std.specs.Prelude.{◌≡◌, ◌∷◌, ◌++◌, ◌≤◌, length, IfOk, OnOk};
-ghost use Rattle.join_parse.specs.Terminals.{a_number, a_key, a_site, a_sign, named, key_terminal};
-ghost use Rattle.join_parse.specs.Source.{Halt, processes, definitions};
-ghost use Rattle.join_parse.specs.Grammar.{names, applied, pair, patterns, of_process};
+ghost use Rattle.join_parse.specs.Terminals.{a_key, a_site, a_sign, named, argument};
+ghost use Rattle.join_parse.specs.Terminals.{key_terminal};
+ghost use Rattle.join_parse.specs.Source.{Halt, Add, Same, processes, definitions};
+ghost use Rattle.join_parse.specs.Grammar.{names, applied, arguments, of_message, operands, pair};
+ghost use Rattle.join_parse.specs.Grammar.{patterns, closing_name, nowhere, unplaced, opening};
+ghost use Rattle.join_parse.specs.Grammar.{is_second};
+ghost use Rattle.join_parse.specs.Grammar.{of_process};
 ghost use Rattle.join_parse.specs.Grammar.{of_processes, of_definition, of_definitions};
 ghost use Rattle.join_parse.specs.Grammar.{of_declarations, of_sites, sentence};
 ghost use Rattle.join_parse.specs.TreeFacts.{IsTree};
@@ -17,7 +21,7 @@ use crate::text::Tree;
 use crate::tree::{
     DefNode, DefTree, DefTrees, PlaceTree, PlaceTrees, ProcNode, ProcTree, ProcTrees,
 };
-use crate::word::{PatTrees, SeenTree, SeenTrees, Word, Words};
+use crate::word::{Arg, Args, PatTrees, SeenTree, SeenTrees, Word, Words};
 use chem_model::{Memory, Text};
 use join_lex::{Key, Sign};
 use std::alloc::Global;
@@ -46,6 +50,8 @@ fn key_text(key: Key) -> &'static [u8]
         Key::Fail => b"fail",
         Key::Halt => b"halt",
         Key::Void => b"none",
+        Key::Add => b"add",
+        Key::Same => b"same",
     }
 }
 
@@ -84,8 +90,8 @@ fn put_word(out: &mut Text, word: &Word) -> Result<(), Memory>
     put(out, word.text.as_slice())
 }
 
-fn put_number(alloc: Global, out: &mut Text, value: u32) -> Result<(), Memory>
-    ensures { OnOk result (Prints out.old out.new (λ rest. a_number value ∷ rest)) }
+fn put_number(alloc: Global, out: &mut Text, value: u64) -> Result<(), Memory>
+    ensures { OnOk result (Prints out.old out.new (unplaced nowhere value)) }
 {
     let digits = format!(in alloc; "{value}")?;
     put(out, digits.as_bytes())
@@ -133,6 +139,91 @@ fn put_applied(out: &mut Text, on: &Word, list: &Words) -> Result<(), Memory>
     put_names(out, list)
 }
 
+fn put_arg(alloc: Global, out: &mut Text, arg: &Arg) -> Result<(), Memory>
+    ensures { OnOk result (Prints out.old out.new (λ rest. argument arg.now ∷ rest)) }
+{
+    match arg {
+        Arg::Word(word) => put_word(out, word),
+        Arg::Num { value, .. } => put_number(alloc, out, *value),
+    }
+}
+
+// Arguments with commas between them, and `)`.
+fn put_args(alloc: Global, out: &mut Text, list: &Args) -> Result<(), Memory>
+    ensures { OnOk result (Prints out.old out.new (arguments list.now)) }
+{
+    let mut first = true;
+    for arg in list.as_slice() {
+        put_sign_between(out, first, Sign::Comma)?;
+        put_arg(alloc, out, arg)?;
+        first = false;
+    }
+    put_sign(out, Sign::ParenRight)
+}
+
+// A name, and arguments in parentheses behind it.
+fn put_message(alloc: Global, out: &mut Text, on: &Word, list: &Args) -> Result<(), Memory>
+    ensures { OnOk result (Prints out.old out.new (of_message on.now list.now)) }
+{
+    put_word(out, on)?;
+    put_sign(out, Sign::ParenLeft)?;
+    put_args(alloc, out, list)
+}
+
+// `(`, and two arguments with a comma between them.
+fn put_operands(alloc: Global, out: &mut Text, left: &Arg, right: &Arg) -> Result<(), Memory>
+    ensures { OnOk result (Prints out.old out.new (operands left.now right.now)) }
+{
+    put_sign(out, Sign::ParenLeft)?;
+    put_arg(alloc, out, left)?;
+    put_sign(out, Sign::Comma)?;
+    put_arg(alloc, out, right)
+}
+
+// A comma, a name, and `)`.
+fn put_closing_name(out: &mut Text, name: &Word) -> Result<(), Memory>
+    ensures { OnOk result (Prints out.old out.new (closing_name name.now)) }
+{
+    put_sign(out, Sign::Comma)?;
+    put_word(out, name)?;
+    put_sign(out, Sign::ParenRight)
+}
+
+// The sum of two numbers, sent on a channel.
+fn put_addition(
+    alloc: Global,
+    out: &mut Text,
+    left: &Arg,
+    right: &Arg,
+    cont: &Word,
+) -> Result<(), Memory>
+    ensures { OnOk result (Prints out.old out.new
+        (of_process nowhere (Add left.now right.now cont.now))) }
+{
+    put_key(out, Key::Add)?;
+    put_operands(alloc, out, left, right)?;
+    put_closing_name(out, cont)
+}
+
+// A message on one of two channels, by a comparison of two numbers.
+fn put_comparison(
+    alloc: Global,
+    out: &mut Text,
+    left: &Arg,
+    right: &Arg,
+    yes: &Word,
+    no: &Word,
+) -> Result<(), Memory>
+    ensures { OnOk result (Prints out.old out.new
+        (of_process nowhere (Same left.now right.now yes.now no.now))) }
+{
+    put_key(out, Key::Same)?;
+    put_operands(alloc, out, left, right)?;
+    put_sign(out, Sign::Comma)?;
+    put_word(out, yes)?;
+    put_closing_name(out, no)
+}
+
 // Message patterns with `|` between them, and `=>`.
 fn put_patterns(out: &mut Text, list: &PatTrees) -> Result<(), Memory>
     ensures { OnOk result (Prints out.old out.new (patterns list.now)) }
@@ -168,7 +259,7 @@ fn put_request(out: &mut Text, key: Key, one: &Word, other: &Word) -> Result<(),
 
 // The request to halt.
 fn put_halt(out: &mut Text) -> Result<(), Memory>
-    ensures { OnOk result (Prints out.old out.new (of_process Halt)) }
+    ensures { OnOk result (Prints out.old out.new (of_process nowhere Halt)) }
 {
     put_key(out, Key::Halt)?;
     put_sign(out, Sign::ParenLeft)?;
@@ -177,7 +268,7 @@ fn put_halt(out: &mut Text) -> Result<(), Memory>
 
 #[cycle(print)]
 fn put_processes(alloc: Global, out: &mut Text, list: &ProcTrees) -> Result<(), Memory>
-    ensures { OnOk result (Prints out.old out.new (of_processes (processes list.now))) }
+    ensures { OnOk result (Prints out.old out.new (of_processes nowhere (processes list.now))) }
 {
     let mut first = true;
     for member in list.as_slice() {
@@ -190,14 +281,21 @@ fn put_processes(alloc: Global, out: &mut Text, list: &ProcTrees) -> Result<(), 
 
 #[cycle(print)]
 fn put_process(alloc: Global, out: &mut Text, process: &ProcTree) -> Result<(), Memory>
-    ensures { OnOk result (Prints out.old out.new (of_process process.now)) }
+    ensures { OnOk result (Prints out.old out.new (of_process nowhere process.now)) }
 {
     match process.node() {
         ProcNode::Zero => put_number(alloc, out, 0),
-        ProcNode::Msg { on, args } => put_applied(out, on, args),
+        ProcNode::Msg { on, args } => put_message(alloc, out, on, args),
         ProcNode::Go { target, cont } => put_request(out, Key::Go, target, cont),
         ProcNode::Fail { target, cont } => put_request(out, Key::Fail, target, cont),
         ProcNode::Halt => put_halt(out),
+        ProcNode::Add { left, right, cont } => put_addition(alloc, out, left, right, cont),
+        ProcNode::Same {
+            left,
+            right,
+            yes,
+            no,
+        } => put_comparison(alloc, out, left, right, yes, no),
         ProcNode::Group(members) => {
             put_sign(out, Sign::ParenLeft)?;
             put_processes(alloc, out, members)?;
@@ -214,7 +312,7 @@ fn put_process(alloc: Global, out: &mut Text, process: &ProcTree) -> Result<(), 
 
 #[cycle(print)]
 fn put_definitions(alloc: Global, out: &mut Text, list: &DefTrees) -> Result<(), Memory>
-    ensures { OnOk result (Prints out.old out.new (of_definitions (definitions list.now))) }
+    ensures { OnOk result (Prints out.old out.new (of_definitions nowhere (definitions list.now))) }
 {
     if list.is_empty() {
         return put_key(out, Key::Void);
@@ -230,7 +328,7 @@ fn put_definitions(alloc: Global, out: &mut Text, list: &DefTrees) -> Result<(),
 
 #[cycle(print)]
 fn put_definition(alloc: Global, out: &mut Text, definition: &DefTree) -> Result<(), Memory>
-    ensures { OnOk result (Prints out.old out.new (of_definition definition.now)) }
+    ensures { OnOk result (Prints out.old out.new (of_definition nowhere definition.now)) }
 {
     match definition.node() {
         DefNode::Rule { pats, body } => {
@@ -260,12 +358,12 @@ fn put_declaration(alloc: Global, out: &mut Text, declaration: &SeenTree) -> Res
     put_key(out, Key::Observe)?;
     put_word(out, &declaration.name)?;
     put_sign(out, Sign::Slash)?;
-    put_number(alloc, out, declaration.count)?;
+    put_number(alloc, out, u64::from(declaration.count))?;
     put_sign(out, Sign::Semicolon)
 }
 
 fn put_declarations(alloc: Global, out: &mut Text, list: &SeenTrees) -> Result<(), Memory>
-    ensures { OnOk result (Prints out.old out.new (of_declarations list.now)) }
+    ensures { OnOk result (Prints out.old out.new (of_declarations nowhere list.now)) }
 {
     for declaration in list.as_slice() {
         put_declaration(alloc, out, declaration)?;
@@ -282,7 +380,7 @@ fn put_site(alloc: Global, out: &mut Text, site: &PlaceTree) -> Result<(), Memor
 }
 
 fn put_sites(alloc: Global, out: &mut Text, list: &PlaceTrees) -> Result<(), Memory>
-    ensures { OnOk result (Prints out.old out.new (of_sites list.now)) }
+    ensures { OnOk result (Prints out.old out.new (of_sites nowhere list.now)) }
 {
     for site in list.as_slice() {
         put_site(alloc, out, site)?;
@@ -290,23 +388,37 @@ fn put_sites(alloc: Global, out: &mut Text, list: &PlaceTrees) -> Result<(), Mem
     Ok(())
 }
 
+// What says that a text is of the second version.
+fn put_opening(alloc: Global, out: &mut Text, version: u32) -> Result<(), Memory>
+    ensures { OnOk result (Prints out.old out.new (opening nowhere (is_second version))) }
+{
+    if version != 2 {
+        return Ok(());
+    }
+    put(out, b"version")?;
+    put_number(alloc, out, 2)?;
+    put_sign(out, Sign::Semicolon)
+}
+
 // The text of a tree.
 fn text_of(alloc: Global, tree: &Tree) -> Result<Text, Memory>
-    ensures text { IfOk result (λ text. text ≡ printed (sentence tree.now)) }
+    ensures text { IfOk result (λ text. text ≡ printed (sentence nowhere tree.now)) }
     ensures kept { IfOk result (λ _. IsTree tree.now) }
 {
     let mut text = Text::new(alloc);
+    put_opening(alloc, &mut text, tree.version)?;
     put_declarations(alloc, &mut text, &tree.seen)?;
     put_sites(alloc, &mut text, &tree.sites)?;
     text.push(b'\n')?;
     Ok(text)
 }
 
-/// The tokens of a tree in order, joined by single spaces and followed by a line feed. An empty
-/// list of definitions prints `none`, the inert process `0`, and counts without leading zeros. A
-/// text of at most 1,048,576 bytes reads as the same tree again, its places put aside.
+/// The tokens of a tree in order, joined by single spaces and followed by a line feed. A text of
+/// the second version begins with `version 2 ;`. An empty list of definitions prints `none`, the
+/// inert process `0`, and numbers without leading zeros. A text of at most 1,048,576 bytes reads as
+/// the same tree again, its places put aside.
 pub fn print_tree(alloc: Global, tree: &Tree) -> Result<Text, Memory>
-    ensures text { IfOk result (λ text. text ≡ printed (sentence tree.now)) }
+    ensures text { IfOk result (λ text. text ≡ printed (sentence nowhere tree.now)) }
     ensures again { IfOk result (λ text. length text ≤ 1048576 → ReadsAs text tree.now) }
 {
     text_of(alloc, tree)

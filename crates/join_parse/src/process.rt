@@ -12,10 +12,9 @@ ghost use Rattle.join_parse.specs.inside.Parsed.{Reads, Fails, SpellsProcess, Sp
 ghost use Rattle.join_parse.specs.inside.Parsed.{SpellsDefinition, SpellsDefinitions, SpellsBody};
 
 use crate::bounds::Bounds;
-use crate::cursor::{
-    is_key_at, is_name_at, is_sign_at, is_zero_at, key, refused, sign, too_deep, word,
-};
-use crate::names::{pair, pattern, patterns};
+use crate::cursor::{is_key_at, is_sign_at, key, refused, sign, too_deep, word};
+use crate::leaf::leaf;
+use crate::names::patterns;
 use crate::tree::{DefTree, DefTrees, PlaceTree, ProcTree, ProcTrees};
 use chem_model::Items;
 use join_base::Front;
@@ -33,7 +32,7 @@ pub fn processes(
 ) -> Result<(ProcTrees, usize), Front>
     requires shallow { depth ≤ b.levels }
     ensures reads { IfOk result (λ r. Reads b (Exactly depth) tokens.now at (AProc ∷ []) r.1 []) }
-    ensures spelled { IfOk result (λ r. SpellsProcesses tokens.now at r.0 r.1) }
+    ensures spelled { IfOk result (λ r. SpellsProcesses b.second tokens.now at r.0 r.1) }
     ensures fails { Fails b (Exactly depth) tokens.now at (AProc ∷ []) result }
 {
     let mut list = Items::new(alloc);
@@ -65,33 +64,13 @@ fn simple(
     ensures reads { IfOk result (λ r.
         Reads b (Exactly depth) tokens.now at (AProc ∷ []) r.1 (MoreProcs ∷ [])) }
     ensures simple { IfOk result (λ r. IsSimple r.0) }
-    ensures spelled { IfOk result (λ r. SpellsProcess tokens.now at r.0 r.1) }
+    ensures spelled { IfOk result (λ r. SpellsProcess b.second tokens.now at r.0 r.1) }
     ensures fails { Fails b (Exactly depth) tokens.now at (AProc ∷ []) result }
 {
-    if is_zero_at(tokens, at) {
-        return Ok((ProcTree::zero(), at + 1));
-    }
-    if is_name_at(tokens, at) {
-        let (message, upto) = pattern(alloc, tokens, b, at)?;
-        return Ok((ProcTree::msg(message.on, message.params), upto));
-    }
     if is_sign_at(tokens, at, Sign::ParenLeft) {
         return group(alloc, tokens, b, depth, at);
     }
-    if is_key_at(tokens, at, Key::Halt) {
-        let upto = sign(tokens, b, at + 1, Sign::ParenLeft)?;
-        let upto = sign(tokens, b, upto, Sign::ParenRight)?;
-        return Ok((ProcTree::halt(), upto));
-    }
-    if is_key_at(tokens, at, Key::Go) {
-        let (target, cont, upto) = pair(alloc, tokens, b, at + 1)?;
-        return Ok((ProcTree::go(target, cont), upto));
-    }
-    if is_key_at(tokens, at, Key::Fail) {
-        let (target, cont, upto) = pair(alloc, tokens, b, at + 1)?;
-        return Ok((ProcTree::fail(target, cont), upto));
-    }
-    Err(refused(tokens, b, at))
+    leaf(alloc, tokens, b, at)
 }
 
 // "(" proc ")"
@@ -110,7 +89,7 @@ fn group(
     ensures reads { IfOk result (λ r.
         Reads b (Exactly depth) tokens.now at (AProc ∷ []) r.1 (MoreProcs ∷ [])) }
     ensures simple { IfOk result (λ r. IsSimple r.0) }
-    ensures spelled { IfOk result (λ r. SpellsProcess tokens.now at r.0 r.1) }
+    ensures spelled { IfOk result (λ r. SpellsProcess b.second tokens.now at r.0 r.1) }
     ensures fails { Fails b (Exactly depth) tokens.now at (AProc ∷ []) result }
 {
     if depth >= b.levels {
@@ -135,7 +114,7 @@ fn def_in(
     requires within { at + 1 ≤ length tokens.now }
     requires spelled { terms tokens.now at ≡ a_key word.Def ∷ terms tokens.now (at + 1) }
     ensures reads { IfOk result (λ r. Reads b (Exactly depth) tokens.now at (AProc ∷ []) r.1 []) }
-    ensures spelled { IfOk result (λ r. SpellsProcess tokens.now at r.0 r.1) }
+    ensures spelled { IfOk result (λ r. SpellsProcess b.second tokens.now at r.0 r.1) }
     ensures fails { Fails b (Exactly depth) tokens.now at (AProc ∷ []) result }
 {
     if depth >= b.levels {
@@ -161,7 +140,7 @@ fn definitions(
     requires short { at ≤ length tokens.now }
     ensures reads { IfOk result (λ r.
         Reads b (Exactly depth) tokens.now at (Defs within ∷ []) r.1 []) }
-    ensures spelled { IfOk result (λ r. SpellsDefinitions tokens.now at within r.0 r.1) }
+    ensures spelled { IfOk result (λ r. SpellsDefinitions b.second tokens.now at within r.0 r.1) }
     ensures fails { Fails b (Exactly depth) tokens.now at (Defs within ∷ []) result }
 {
     let mut list = Items::new(alloc);
@@ -200,7 +179,7 @@ fn definition(
     requires short { at ≤ length tokens.now }
     ensures reads { IfOk result (λ r.
         Reads b (Exactly depth) tokens.now at (AName ∷ DefRest within ∷ []) r.1 []) }
-    ensures spelled { IfOk result (λ r. SpellsDefinition tokens.now at within r.0 r.1) }
+    ensures spelled { IfOk result (λ r. SpellsDefinition b.second tokens.now at within r.0 r.1) }
     ensures fails { Fails b (Exactly depth) tokens.now at (AName ∷ DefRest within ∷ []) result }
 {
     if is_place(tokens, at, within) {
@@ -221,8 +200,9 @@ fn rule(
     requires shallow { depth ≤ b.levels }
     ensures reads { IfOk result (λ r. Reads b (Exactly depth) tokens.now at
         (AName ∷ ASign paren.ParenLeft ∷ Names ∷ MorePatterns ∷ AProc ∷ []) r.1 []) }
-    ensures spelled { IfOk result (λ r. SpellsDefinition tokens.now at false r.0 r.1) }
-    ensures spelled_within { IfOk result (λ r. SpellsDefinition tokens.now at true r.0 r.1) }
+    ensures spelled { IfOk result (λ r. SpellsDefinition b.second tokens.now at false r.0 r.1) }
+    ensures spelled_within { IfOk result (λ r.
+        SpellsDefinition b.second tokens.now at true r.0 r.1) }
     ensures fails { Fails b (Exactly depth) tokens.now at
         (AName ∷ ASign paren.ParenLeft ∷ Names ∷ MorePatterns ∷ AProc ∷ []) result }
 {
@@ -243,7 +223,7 @@ fn place(
     requires shallow { depth ≤ b.levels }
     ensures reads { IfOk result (λ r.
         Reads b (Exactly depth) tokens.now at (AName ∷ Body true ∷ []) r.1 []) }
-    ensures spelled { IfOk result (λ r. SpellsDefinition tokens.now at false r.0 r.1) }
+    ensures spelled { IfOk result (λ r. SpellsDefinition b.second tokens.now at false r.0 r.1) }
     ensures fails { Fails b (Exactly depth) tokens.now at (AName ∷ Body true ∷ []) result }
 {
     let (name, upto) = word(alloc, tokens, b, at)?;
@@ -270,7 +250,7 @@ pub fn body(
     requires shallow { depth ≤ b.levels }
     ensures reads { IfOk result (λ r.
         Reads b (Exactly depth) tokens.now at (Body within ∷ []) r.2 []) }
-    ensures spelled { IfOk result (λ r. SpellsBody tokens.now at within r.0 r.1 r.2) }
+    ensures spelled { IfOk result (λ r. SpellsBody b.second tokens.now at within r.0 r.1 r.2) }
     ensures fails { Fails b (Exactly depth) tokens.now at (Body within ∷ []) result }
 {
     if !is_sign_at(tokens, at, Sign::SquareLeft) {

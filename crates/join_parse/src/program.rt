@@ -4,7 +4,7 @@ ghost use Rattle.join_lex.specs.declared.token.Key.TheVariants as word;
 ghost use Rattle.join_parse.specs.Grammar.{of_declarations, of_sites};
 ghost use Rattle.join_parse.specs.Grammar.{AreDeclarations, AreSites, IsNotEmpty};
 ghost use Rattle.join_parse.specs.Begins.{Program};
-ghost use Rattle.join_parse.specs.inside.Parsed.{terms, next_is_key, AtMost, Exactly};
+ghost use Rattle.join_parse.specs.inside.Parsed.{terms, places, next_is_key, AtMost, Exactly};
 ghost use Rattle.join_parse.specs.inside.Parsed.{a_count, a_declaration, a_whole_site, some_sites};
 ghost use Rattle.join_parse.specs.inside.Parsed.{Runs, Reads, Fails};
 ghost use Rattle.join_parse.specs.inside.Parsed.{SpellsCount, SpellsDeclaration, SpellsSite};
@@ -19,7 +19,7 @@ use join_base::Front;
 use join_lex::{Key, Sign, Token};
 use std::alloc::Global;
 
-// "/" number ";"
+// "/" count ";"
 fn declared_count(tokens: &[Token], b: Bounds, at: usize) -> Result<(u32, usize), Front>
     ensures reads { IfOk result (λ r. Reads b (AtMost b.levels) tokens.now at a_count r.1 []) }
     ensures small { IfOk result (λ r. r.0 ≤ 255) }
@@ -32,7 +32,7 @@ fn declared_count(tokens: &[Token], b: Bounds, at: usize) -> Result<(u32, usize)
     Ok((count, upto))
 }
 
-// "observe" ident "/" number ";"
+// "observe" ident "/" count ";"
 fn declaration(
     alloc: Global,
     tokens: &[Token],
@@ -52,18 +52,24 @@ fn declaration(
 }
 
 // { observe }
-pub fn declarations(alloc: Global, tokens: &[Token], b: Bounds) -> Result<(SeenTrees, usize), Front>
+pub fn declarations(
+    alloc: Global,
+    tokens: &[Token],
+    b: Bounds,
+    at: usize,
+) -> Result<(SeenTrees, usize), Front>
+    requires short { at ≤ length tokens.now }
     ensures runs { IfOk result (λ r.
-        Runs b (AtMost b.levels) tokens.now 0 (Program ∷ []) r.1 (Program ∷ [])) }
+        Runs b (AtMost b.levels) tokens.now at (Program ∷ []) r.1 (Program ∷ [])) }
     ensures within { IfOk result (λ r. r.1 ≤ length tokens.now) }
     ensures all { IfOk result (λ r. next_is_key word.Observe (drop r.1 tokens.now) ≡ false) }
     ensures small { IfOk result (λ r. AreDeclarations r.0) }
     ensures spelled { IfOk result (λ r.
-        terms tokens.now 0 ≡ of_declarations r.0 (terms tokens.now r.1)) }
-    ensures fails { Fails b (AtMost b.levels) tokens.now 0 (Program ∷ []) result }
+        terms tokens.now at ≡ of_declarations (places tokens.now) r.0 (terms tokens.now r.1)) }
+    ensures fails { Fails b (AtMost b.levels) tokens.now at (Program ∷ []) result }
 {
     let mut list = Items::new(alloc);
-    let mut end = 0;
+    let mut end = at;
     'observed: while is_key_at(tokens, end, Key::Observe) {
         let (more, upto) = declaration(alloc, tokens, b, end)?;
         list.push(more)?;
@@ -75,7 +81,7 @@ pub fn declarations(alloc: Global, tokens: &[Token], b: Bounds) -> Result<(SeenT
 // "site" ident "[" defs ":" proc "]"
 fn site(alloc: Global, tokens: &[Token], b: Bounds, at: usize) -> Result<(PlaceTree, usize), Front>
     ensures reads { IfOk result (λ r. Reads b (Exactly 0) tokens.now at a_whole_site r.1 []) }
-    ensures spelled { IfOk result (λ r. SpellsSite tokens.now at r.0 r.1) }
+    ensures spelled { IfOk result (λ r. SpellsSite b.second tokens.now at r.0 r.1) }
     ensures fails { Fails b (Exactly 0) tokens.now at a_whole_site result }
 {
     let opener = place_at(tokens, 0, at);
@@ -100,8 +106,9 @@ pub fn sites(
 ) -> Result<(PlaceTrees, usize), Front>
     ensures reads { IfOk result (λ r. Reads b (Exactly 0) tokens.now at some_sites r.1 []) }
     ensures some { IfOk result (λ r. IsNotEmpty r.0) }
-    ensures sites { IfOk result (λ r. AreSites r.0) }
-    ensures spelled { IfOk result (λ r. terms tokens.now at ≡ of_sites r.0 (terms tokens.now r.1)) }
+    ensures sites { IfOk result (λ r. AreSites b.second r.0) }
+    ensures spelled { IfOk result (λ r.
+        terms tokens.now at ≡ of_sites (places tokens.now) r.0 (terms tokens.now r.1)) }
     ensures fails { Fails b (Exactly 0) tokens.now at some_sites result }
 {
     let mut list = Items::new(alloc);

@@ -7,13 +7,15 @@ use chem_model::Memory;
 use std::alloc::Global;
 use std::marker::Model;
 
-/// The tree of a text: its declarations of observed names, and its sites.
+/// The tree of a text: its version, its declarations of observed names, and its sites.
 ///
-/// Each tree keeps the facts of `IsTree`: it is one of the grammar, at most 200 levels deep, its
-/// names are identifiers, and its sentence has at most 1,048,576 tokens. Whoever writes one proves
-/// them, and whoever reads a field knows them.
+/// Each tree keeps the facts of `IsTree`: its version is 1 or 2, and it is a tree of that version's
+/// grammar; it is at most 200 levels deep in the first version and 400 in the second; its names are
+/// identifiers of the version, and its sentence has at most 1,048,576 tokens. Whoever writes one
+/// proves them, and whoever reads a field knows them.
 #[derive(Drop)]
 pub struct Tree {
+    pub version: u32,
     pub seen: SeenTrees,
     pub sites: PlaceTrees,
 }
@@ -27,9 +29,10 @@ impl Model for Tree {
 
     ghost coded = { tree_code };
 
-    ghost view = { λ t. record { seen = t.seen; sites = t.sites } };
+    ghost view = { λ t. record { version = t.version; seen = t.seen; sites = t.sites } };
 
-    ghost invariant = { λ t. IsTree (record { seen = t.seen; sites = t.sites }) };
+    ghost invariant = { λ t.
+        IsTree (record { version = t.version; seen = t.seen; sites = t.sites }) };
 }
 
 impl Tree {
@@ -39,6 +42,10 @@ impl Tree {
     {
         let seen = copy_declarations(alloc, &self.seen)?;
         let sites = copy_places(alloc, &self.sites)?;
-        Ok(Tree { seen, sites })
+        Ok(Tree {
+            version: self.version,
+            seen,
+            sites,
+        })
     }
 }

@@ -2,7 +2,7 @@
 ghost use Rattle.std.specs.Prelude.{◌≡◌, IfOk};
 ghost use Rattle.join_parse.specs.Source.{processes, definitions};
 
-use crate::word::{PatTrees, Word, Words, copy_pair, copy_patterns, copy_words};
+use crate::word::{Arg, Args, PatTrees, Word, copy_args, copy_operands, copy_pair, copy_patterns};
 use chem_model::{Items, Memory};
 use std::alloc::Global;
 use std::marker::Model;
@@ -21,17 +21,43 @@ pub enum ProcNode {
     /// The inert process.
     Zero,
     /// A message on a name.
-    Msg { on: Word, args: Words },
+    Msg {
+        on: Word,
+        args: Args,
+    },
     /// The request to move the location it stands at.
-    Go { target: Word, cont: Word },
+    Go {
+        target: Word,
+        cont: Word,
+    },
     /// The request to be told of a failure.
-    Fail { target: Word, cont: Word },
+    Fail {
+        target: Word,
+        cont: Word,
+    },
     /// The request to halt the location it stands at.
     Halt,
+    /// The sum of two numbers, sent on a channel.
+    Add {
+        left: Arg,
+        right: Arg,
+        cont: Word,
+    },
+    /// A message on one of two channels: on the first where two numbers are the same, and else on
+    /// the second.
+    Same {
+        left: Arg,
+        right: Arg,
+        yes: Word,
+        no: Word,
+    },
     /// Processes in parentheses.
     Group(ProcTrees),
     /// `def D in P`.
-    Def { defs: DefTrees, body: ProcTrees },
+    Def {
+        defs: DefTrees,
+        body: ProcTrees,
+    },
 }
 
 /// A definition.
@@ -128,7 +154,7 @@ impl ProcTree {
         }
     }
 
-    pub fn msg(on: Word, args: Words) -> ProcTree
+    pub fn msg(on: Word, args: Args) -> ProcTree
         ensures { result ≡ t.Msg on args }
     {
         ProcTree {
@@ -160,6 +186,27 @@ impl ProcTree {
         }
     }
 
+    pub fn add(left: Arg, right: Arg, cont: Word) -> ProcTree
+        ensures { result ≡ t.Add left right cont }
+    {
+        ProcTree {
+            node: ProcNode::Add { left, right, cont },
+        }
+    }
+
+    pub fn same(left: Arg, right: Arg, yes: Word, no: Word) -> ProcTree
+        ensures { result ≡ t.Same left right yes no }
+    {
+        ProcTree {
+            node: ProcNode::Same {
+                left,
+                right,
+                yes,
+                no,
+            },
+        }
+    }
+
     pub fn group(members: ProcTrees) -> ProcTree
         ensures { result ≡ t.Group (processes members) }
     {
@@ -185,7 +232,7 @@ impl ProcTree {
             ProcNode::Zero => Ok(ProcTree::zero()),
             ProcNode::Msg { on, args } => {
                 let on = on.copy(alloc)?;
-                let args = copy_words(alloc, args)?;
+                let args = copy_args(alloc, args)?;
                 Ok(ProcTree::msg(on, args))
             }
             ProcNode::Go { target, cont } => {
@@ -197,6 +244,20 @@ impl ProcTree {
                 Ok(ProcTree::fail(target, cont))
             }
             ProcNode::Halt => Ok(ProcTree::halt()),
+            ProcNode::Add { left, right, cont } => {
+                let (left, right) = copy_operands(alloc, left, right)?;
+                Ok(ProcTree::add(left, right, cont.copy(alloc)?))
+            }
+            ProcNode::Same {
+                left,
+                right,
+                yes,
+                no,
+            } => {
+                let (left, right) = copy_operands(alloc, left, right)?;
+                let (yes, no) = copy_pair(alloc, yes, no)?;
+                Ok(ProcTree::same(left, right, yes, no))
+            }
             ProcNode::Group(members) => {
                 let members = copy_processes(alloc, members)?;
                 Ok(ProcTree::group(members))

@@ -1,4 +1,5 @@
-// Identifiers as they stand in a text, message patterns and declarations of observed names.
+// Identifiers and arguments as they stand in a text, message patterns and declarations of observed
+// names.
 ghost use Rattle.std.specs.Prelude.{◌≡◌, IfOk};
 
 use chem_model::{Items, Memory, Text};
@@ -9,6 +10,13 @@ use std::alloc::Global;
 pub struct Word {
     pub text: Text,
     pub place: u32,
+}
+
+/// An argument: an identifier, or in a text of the second version a number and its place.
+#[derive(Debug, Drop)]
+pub enum Arg {
+    Word(Word),
+    Num { value: u64, place: u32 },
 }
 
 /// A message pattern: its channel and its parameters.
@@ -27,6 +35,8 @@ pub struct SeenTree {
 
 pub type Words = Items<Word>;
 
+pub type Args = Items<Arg>;
+
 pub type PatTrees = Items<PatTree>;
 
 pub type SeenTrees = Items<SeenTree>;
@@ -41,6 +51,21 @@ impl Word {
             text,
             place: self.place,
         })
+    }
+}
+
+impl Arg {
+    /// An argument that is equal to this one.
+    pub fn copy(&self, alloc: Global) -> Result<Arg, Memory>
+        ensures { IfOk result (λ copy. copy ≡ self.now) }
+    {
+        match self {
+            Arg::Word(word) => Ok(Arg::Word(word.copy(alloc)?)),
+            Arg::Num { value, place } => Ok(Arg::Num {
+                value: *value,
+                place: *place,
+            }),
+        }
     }
 }
 
@@ -76,6 +101,27 @@ pub fn copy_pair(alloc: Global, one: &Word, other: &Word) -> Result<(Word, Word)
     let first = one.copy(alloc)?;
     let second = other.copy(alloc)?;
     Ok((first, second))
+}
+
+/// Two arguments that are equal to these.
+pub fn copy_operands(alloc: Global, left: &Arg, right: &Arg) -> Result<(Arg, Arg), Memory>
+    ensures left { IfOk result (λ copies. copies.0 ≡ left.now) }
+    ensures right { IfOk result (λ copies. copies.1 ≡ right.now) }
+{
+    let first = left.copy(alloc)?;
+    let second = right.copy(alloc)?;
+    Ok((first, second))
+}
+
+/// A list that is equal to this one.
+pub fn copy_args(alloc: Global, list: &Args) -> Result<Args, Memory>
+    ensures { IfOk result (λ copy. copy ≡ list.now) }
+{
+    let mut members = Items::new(alloc);
+    for member in list.as_slice() {
+        members.push(member.copy(alloc)?)?;
+    }
+    Ok(members)
 }
 
 /// A list that is equal to this one.

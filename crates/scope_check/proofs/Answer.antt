@@ -8,7 +8,7 @@ use Rattle.join_parse.specs.Grammar.{TreeOfText}
 use Rattle.join_parse.specs.TreeFacts.{IsTree}
 use Rattle.chem_model.specs.declared.program.SeenDecl.{SeenDecl}
 use Rattle.chem_model.specs.declared.program.SiteTerm.{SiteTerm}
-use Rattle.chem_model.specs.ProgramFacts.{ProgramTerms, IsProgram}
+use Rattle.chem_model.specs.ProgramFacts.{ProgramTerms, IsProgram, most_sites}
 use Rattle.scope_check.specs.declared.fault.Fault.{Fault}
 use Rattle.join_base.specs.declared.fault.Front.{Front}
 use Rattle.join_base.specs.declared.fault.Front.TheVariants.{Refused, Memory}
@@ -27,7 +27,7 @@ use Rattle.scope_check.specs.inside.Twin.{Table, site_terms_in, level_uses_in}
 use Rattle.scope_check.specs.inside.Clashes.{clashes_in}
 use Rattle.scope_check.specs.inside.Naming.{Level, name_all, walk_level}
 use Rattle.join_parse.specs.declared.word.SeenTree.{SeenTree}
-use Rattle.scope_check.specs.Checked.{most_sites, no_literals, IsProgramOf, IsRefusedAs, HasOneOutcome}
+use Rattle.scope_check.specs.Checked.{IsProgramOf, IsRefusedAs, HasOneOutcome}
 use Rattle.scope_check.proofs.Lists.{none_left, none_right}
 use Rattle.scope_check.proofs.Folds.{first-append}
 use Rattle.scope_check.proofs.Declares.{all_clashes}
@@ -36,19 +36,18 @@ use Rattle.scope_check.proofs.Own.{DefinesAll, own_all}
 use Rattle.scope_check.proofs.Uses.{level-uses-are}
 use Rattle.scope_check.proofs.Sorts.{Has, has-right, Settled, settled}
 use Rattle.scope_check.proofs.Same.{first-fault}
-use Rattle.scope_check.proofs.Good.{LiteralsFine}
 use Rattle.scope_check.proofs.Outermost.{first_pass, second_pass, tables_of, passes-so}
 use Rattle.scope_check.proofs.Program.{no-fault, program-kept}
 
 -- the faults of all walks, one after the other
-pub all-noted : (t : TreeOfText) (a b c d : Option Fault) → a ≡ first_of None (many (drop most_sites t.sites)) → b ≡ first_of a (clashes_in [] (outermost t)) → c ≡ first_of b (level_faults (sites_of t.sites))
-    → d ≡ first_of c (level_uses_in (tables_of t) ((second_pass t).own ∷ []) 1 (sites_of t.sites)) → d ≡ first_of None (fault_list most_sites no_literals t)
+pub all-noted : (t : TreeOfText) (a b c d : Option Fault) → a ≡ first_of None (many (drop (most_sites t.version) t.sites)) → b ≡ first_of a (clashes_in [] (outermost t)) → c ≡ first_of b (level_faults (sites_of t.sites))
+    → d ≡ first_of c (level_uses_in (tables_of t) ((second_pass t).own ∷ []) 1 (sites_of t.sites)) → d ≡ first_of None (fault_list t)
 all-noted t a b c d p q r u =
     let passes = passes-so t in
     let names = clashes [] (outermost t) in
     let within = level_faults (sites_of t.sites) in
-    let used = use_faults (uses_of no_literals t) in
-    let above = many (drop most_sites t.sites) in
+    let used = use_faults (uses_of t) in
+    let above = many (drop (most_sites t.version) t.sites) in
     let uses : level_uses_in (tables_of t) ((second_pass t).own ∷ []) 1 (sites_of t.sites) ≡ used =
     level-uses-are (index_of (binders t)) (tables_of t) (sites_of t.sites) ((second_pass t).own ∷ []) (open_at 0 (outermost t) []) 1 (passes.own, tt) passes.fit in
     u ∙ (λ i. first_of (r i) (uses i))
@@ -65,7 +64,7 @@ defines-all number names fixed front back d e b =
 
 sites-are : (number : Binder → ℕ) (tables : List Table) (own : Table) (names : List Defining) (env : List Scope) (around : List Table) (xs : List PlaceTree) (k : ℕ)
     → StandsFor number own 0 names → AllOwnDefined number names (sites_of xs) → EnvStandsFor number around env → LevelFits number tables k (sites_of xs)
-    → site_terms_in tables own around k xs ≡ site_terms number no_literals env k xs
+    → site_terms_in tables own around k xs ≡ site_terms number env k xs
 sites-are number tables own names env around [] k g o h f = refl
 sites-are number tables own names env around (x ∷ xs) k g o h f =
     let ds = s.definitions x.defs in
@@ -77,7 +76,7 @@ sites-are number tables own names env around (x ∷ xs) k g o h f =
       body = together (members-are number tables ps around env n h f.0.1 i);
     } ∷ sites-are number tables own names env around xs (k + scopes_in_def (place_of x)) g o.1 h f.1 i
 
-terms-are : (t : TreeOfText) → clashes [] (outermost t) ≡ [] → site_terms_in (tables_of t) (second_pass t).own ((second_pass t).own ∷ []) 1 t.sites ≡ (program no_literals t).sites
+terms-are : (t : TreeOfText) → clashes [] (outermost t) ≡ [] → site_terms_in (tables_of t) (second_pass t).own ((second_pass t).own ∷ []) 1 t.sites ≡ (program t).sites
 terms-are t clear =
     let number : Binder → ℕ = index_of (binders t) in
     let passes = passes-so t in
@@ -85,33 +84,30 @@ terms-are t clear =
     let defined = own_all number (sites_of t.sites) 0 1 (outermost t) (observed_from 0 t.seen) [] (defines-all number (outermost t) (settled (outermost t) clear)) (ap (λ l. observed_from 0 t.seen ++ l) (sym (append-nil names))) in
     sites-are number (tables_of t) (second_pass t).own (outermost t) (open_at 0 (outermost t) []) ((second_pass t).own ∷ []) t.sites 1 passes.own defined (passes.own, tt) passes.fit
 
-no_literals-fine : (seen : ℕ) → LiteralsFine seen no_literals
-no_literals-fine seen w r scope e = absurd cc
-
 pub record Answers (t : TreeOfText) (p : ProgramTerms) : Type 0 where
   pub kept : IsProgram p
   pub is : IsProgramOf t p
 
 -- where the walks noted nothing, what they made is the program
-pub answers : (t : TreeOfText) → IsTree t → (least : Option Fault) → least ≡ first_of None (fault_list most_sites no_literals t) → least ≡ None
-    → (seen : List SeenDecl) (sites : List SiteTerm) (tops : ℕ) (spell : List (List ℕ))
-    → seen ≡ seen_decls t.seen → sites ≡ site_terms_in (tables_of t) (second_pass t).own ((second_pass t).own ∷ []) 1 t.sites → tops ≡ length (first_pass t).spell → spell ≡ (second_pass t).spell
-    → Answers t (record { seen = seen; sites = sites; tops = tops; spell = spell })
-answers t tree least noted nothing seen sites tops spell a b c d =
+pub answers : (t : TreeOfText) → IsTree t → (least : Option Fault) → least ≡ first_of None (fault_list t) → least ≡ None
+    → (version : ℕ) (seen : List SeenDecl) (sites : List SiteTerm) (tops : ℕ) (spell : List (List ℕ))
+    → version ≡ t.version → seen ≡ seen_decls t.seen → sites ≡ site_terms_in (tables_of t) (second_pass t).own ((second_pass t).own ∷ []) 1 t.sites → tops ≡ length (first_pass t).spell → spell ≡ (second_pass t).spell
+    → Answers t (record { version = version; seen = seen; sites = sites; tops = tops; spell = spell })
+answers t tree least noted nothing version seen sites tops spell v a b c d =
     let passes = passes-so t in
-    let none : fault_list most_sites no_literals t ≡ [] = no-fault (fault_list most_sites no_literals t) (sym noted ∙ nothing) in
-    let rest = none_right (many (drop most_sites t.sites)) (declared_faults t ++ use_faults (uses_of no_literals t)) none in
-    let clear : clashes [] (outermost t) ≡ [] = none_left (clashes [] (outermost t)) (level_faults (sites_of t.sites)) (none_left (declared_faults t) (use_faults (uses_of no_literals t)) rest) in
-    let is : record { seen = seen; sites = sites; tops = tops; spell = spell } ≡ program no_literals t =
-    λ i. record { seen = a i; sites = (b ∙ terms-are t clear) i; tops = (c ∙ passes.tops) i; spell = (d ∙ passes.spell) i } in
+    let none : fault_list t ≡ [] = no-fault (fault_list t) (sym noted ∙ nothing) in
+    let rest = none_right (many (drop (most_sites t.version) t.sites)) (declared_faults t ++ use_faults (uses_of t)) none in
+    let clear : clashes [] (outermost t) ≡ [] = none_left (clashes [] (outermost t)) (level_faults (sites_of t.sites)) (none_left (declared_faults t) (use_faults (uses_of t)) rest) in
+    let is : record { version = version; seen = seen; sites = sites; tops = tops; spell = spell } ≡ program t =
+    λ i. record { version = v i; seen = a i; sites = (b ∙ terms-are t clear) i; tops = (c ∙ passes.tops) i; spell = (d ∙ passes.spell) i } in
     record {
-      kept = subst IsProgram (sym is) (program-kept no_literals t (no_literals-fine (length t.seen)) tree none);
-      is = record { is = is; none = subst (IsFirst (IsFault most_sites no_literals t)) (sym noted ∙ nothing) (first-fault most_sites no_literals t) };
+      kept = subst IsProgram (sym is) (program-kept t tree none);
+      is = record { is = is; none = subst (IsFirst (IsFault t)) (sym noted ∙ nothing) (first-fault t) };
     }
 
 -- where they noted a fault, it is the first one
-pub refused : (t : TreeOfText) (least : Option Fault) (f : Fault) → least ≡ first_of None (fault_list most_sites no_literals t) → least ≡ Some f → IsFirst (IsFault most_sites no_literals t) (Some f)
-refused t least f noted some = subst (IsFirst (IsFault most_sites no_literals t)) (sym noted ∙ some) (first-fault most_sites no_literals t)
+pub refused : (t : TreeOfText) (least : Option Fault) (f : Fault) → least ≡ first_of None (fault_list t) → least ≡ Some f → IsFirst (IsFault t) (Some f)
+refused t least f noted some = subst (IsFirst (IsFault t)) (sym noted ∙ some) (first-fault t)
 
 -- as many tables as scopes
 pub room : (t : TreeOfText) (scopes : List Table) → scopes ≡ tables_of t → 1 + scopes_in_defs (sites_of t.sites) ≤ length scopes
@@ -145,13 +141,13 @@ same-fault f g (inr a) (inr b) =
     let k : rank f.kind ≡ rank g.kind = omega (arith, a.1, b.1) in
     λ i. record { kind = same-kind f.kind g.kind k i; place = a.0 i }
 
-some_outcome : (t : TreeOfText) (o : Option Fault) → IsFirst (IsFault most_sites no_literals t) o → ((p : ProgramTerms) × IsProgramOf t p) ⊎ ((f : Fault) × IsFirst (IsFault most_sites no_literals t) (Some f))
-some_outcome t None first = inl (program no_literals t, record { is = refl; none = first })
+some_outcome : (t : TreeOfText) (o : Option Fault) → IsFirst (IsFault t) o → ((p : ProgramTerms) × IsProgramOf t p) ⊎ ((f : Fault) × IsFirst (IsFault t) (Some f))
+some_outcome t None first = inl (program t, record { is = refl; none = first })
 some_outcome t (Some f) first = inr (f, first)
 
 pub one_outcome : (t : TreeOfText) → HasOneOutcome t
 one_outcome t = record {
-  some = some_outcome t (first_of None (fault_list most_sites no_literals t)) (first-fault most_sites no_literals t);
+  some = some_outcome t (first_of None (fault_list t)) (first-fault t);
   one_program = λ p q a b. a.is ∙ sym b.is;
   one_fault = λ f g a b. same-fault f g (a.1 g b.0) (b.1 f a.0);
   never_both = λ p f a b. a.none f b.0;
@@ -163,7 +159,7 @@ reads t (Ok q) i f p j = inl (ap Ok ((one_outcome t).one_program q p i j))
 reads t (Err (Refused kind place)) i f p j = absurd ((one_outcome t).never_both p (record { kind = kind; place = place }) j f)
 reads t (Err Memory) i f p j = inr refl
 
-pub refuses : (t : TreeOfText) (result : Result ProgramTerms Front) → IfOk result (IsProgramOf t) → IfErr result (IsRefusedAs t) → (g : Fault) → IsFirst (IsFault most_sites no_literals t) (Some g) → IsOrMemory (Err (Refused g.kind g.place)) result
+pub refuses : (t : TreeOfText) (result : Result ProgramTerms Front) → IfOk result (IsProgramOf t) → IfErr result (IsRefusedAs t) → (g : Fault) → IsFirst (IsFault t) (Some g) → IsOrMemory (Err (Refused g.kind g.place)) result
 refuses t (Ok q) i f g first = absurd ((one_outcome t).never_both q g i first)
 refuses t (Err (Refused kind place)) i f g first = inl (ap (λ (x : Fault). Err (Refused x.kind x.place)) ((one_outcome t).one_fault (record { kind = kind; place = place }) g f first))
 refuses t (Err Memory) i f g first = inr refl
@@ -179,11 +175,11 @@ passed names trees = walk_level 0 1 (name_all [] [] names).spell (name_all [] []
 pub tables-are : (t : TreeOfText) (trees : List PlaceTree) (names : List Defining) (scopes : List Table) → trees ≡ t.sites → names ≡ outermost t → scopes ≡ (passed names trees).own ∷ (passed names trees).tables → scopes ≡ tables_of t
 tables-are t trees names scopes a n e = e ∙ (λ i. (passed (n i) (a i)).own ∷ (passed (n i) (a i)).tables)
 
-pub noted-by : (t : TreeOfText) (trees : List PlaceTree) (names : List Defining) (scopes : List Table) (a b c d : Option Fault) → trees ≡ t.sites → names ≡ outermost t → scopes ≡ tables_of t
-    → a ≡ first_of None (many (drop most_sites trees)) → b ≡ first_of a (clashes_in [] names) → c ≡ first_of b (level_faults (sites_of trees)) → d ≡ first_of c (level_uses_in scopes (get_or scopes 0 [] ∷ []) 1 (sites_of trees))
-    → d ≡ first_of None (fault_list most_sites no_literals t)
-noted-by t trees names scopes a b c d e n s p q r u =
-    all-noted t a b c d (p ∙ (λ i. first_of None (many (drop most_sites (e i))))) (q ∙ (λ i. first_of a (clashes_in [] (n i)))) (r ∙ (λ i. first_of b (level_faults (sites_of (e i)))))
+pub noted-by : (t : TreeOfText) (version : ℕ) (trees : List PlaceTree) (names : List Defining) (scopes : List Table) (a b c d : Option Fault) → version ≡ t.version → trees ≡ t.sites → names ≡ outermost t → scopes ≡ tables_of t
+    → a ≡ first_of None (many (drop (most_sites version) trees)) → b ≡ first_of a (clashes_in [] names) → c ≡ first_of b (level_faults (sites_of trees)) → d ≡ first_of c (level_uses_in scopes (get_or scopes 0 [] ∷ []) 1 (sites_of trees))
+    → d ≡ first_of None (fault_list t)
+noted-by t version trees names scopes a b c d v e n s p q r u =
+    all-noted t a b c d (p ∙ (λ i. first_of None (many (drop (most_sites (v i)) (e i))))) (q ∙ (λ i. first_of a (clashes_in [] (n i)))) (r ∙ (λ i. first_of b (level_faults (sites_of (e i)))))
     (u ∙ (λ i. first_of c (level_uses_in (s i) (get_or (s i) 0 [] ∷ []) 1 (sites_of (e i)))))
 
 pub sites-made : (t : TreeOfText) (trees : List PlaceTree) (scopes : List Table) (sites : List SiteTerm) → trees ≡ t.sites → scopes ≡ tables_of t → sites ≡ site_terms_in scopes (get_or scopes 0 []) (get_or scopes 0 [] ∷ []) 1 trees

@@ -162,27 +162,26 @@ module _ (bs : List Binder) where
   places-in own part [] a h = tt
   places-in own part (w ∷ ws) a h = (has-in own part w.text Location a h.0, places-in own part ws a h.1)
 
-  module _ (literal : Word → Option Ref) where
-    pub block-fine : (ds : s.Definitions) (own k : ℕ) (env : List Scope) (names front back : List Defining) → names ≡ front ++ (defining 0 1 ds ++ back) → clashes [] names ≡ [] → locs names ≡ all_place_words ds
-        → AllIn bs (keys own (defining 0 1 ds)) → IsBlock (t.definitions (level (index_of bs) literal own env k ds))
-    block-fine ds own k env names front back e none only inside =
-        let part = defining 0 1 ds in
-        let ws = all_place_words ds in
-        let at : ℕ → Option Ref = location (index_of bs) own ws in
-        let embed : (text : List ℕ) (sort : Sort) → Has text sort part → Has text sort names = λ text sort h. subst (Has text sort) (sym e) (has-right text sort front (part ++ back) (has-left text sort part back h)) in
-        let fixed = settled names none in
-        let whole : part ≡ [] ++ (part ++ []) = sym (append-nil part) in
-        let have = all-has ds 0 1 part [] [] whole in
-        let sites = all-places ds 0 1 part [] [] whole in
-        let described = all-described (index_of bs) literal ds own k env ws [] [] None 0 1 (sym (append-nil ws)) (omega arith) refl in
-        let term = t.definitions (level (index_of bs) literal own env k ds) in
-        let ys = chem.patterns_of None term in
-        let places_are : chem.places_of term ≡ numbers (index_of bs) own ws = places-numbers (index_of bs) literal ds own k env in
-        let once : repeats Scope3 [] ws ≡ [] = ap (repeats Scope3 []) (sym only) ∙ locations-once [] names none in
-        record {
-          channels = channels-binders (index_of bs) own at (all_patterned 0 1 ds) ys described;
-          places = all-named (index_of bs) literal ds own k env;
-          apart = subst (λ l. Each (λ y. (b : ℕ) → y.1.on ≡ ref.Binder b → is_among l b ≡ false) ys) (sym places_are) (apart-all own part names embed fixed inside at ws sites (all_patterned 0 1 ds) ys have described);
-          one_place = λ b. subst (λ l. times l b ≤ 1) (sym places_are) ((once-each bs Scope3 own [] ws (places-in own part ws inside sites) once).0 b);
-          agree = agree-pairs own part names embed fixed inside at (all_patterned 0 1 ds) ys have described;
-        }
+  pub block-fine : (ds : s.Definitions) (own k : ℕ) (env : List Scope) (names front back : List Defining) → names ≡ front ++ (defining 0 1 ds ++ back) → clashes [] names ≡ [] → locs names ≡ all_place_words ds
+      → AllIn bs (keys own (defining 0 1 ds)) → IsBlock (t.definitions (level (index_of bs) own env k ds))
+  block-fine ds own k env names front back e none only inside =
+      let part = defining 0 1 ds in
+      let ws = all_place_words ds in
+      let at : ℕ → Option Ref = location (index_of bs) own ws in
+      let embed : (text : List ℕ) (sort : Sort) → Has text sort part → Has text sort names = λ text sort h. subst (Has text sort) (sym e) (has-right text sort front (part ++ back) (has-left text sort part back h)) in
+      let fixed = settled names none in
+      let whole : part ≡ [] ++ (part ++ []) = sym (append-nil part) in
+      let have = all-has ds 0 1 part [] [] whole in
+      let sites = all-places ds 0 1 part [] [] whole in
+      let described = all-described (index_of bs) ds own k env ws [] [] None 0 1 (sym (append-nil ws)) (omega arith) refl in
+      let term = t.definitions (level (index_of bs) own env k ds) in
+      let ys = chem.patterns_of None term in
+      let places_are : chem.places_of term ≡ numbers (index_of bs) own ws = places-numbers (index_of bs) ds own k env in
+      let once : repeats Scope3 [] ws ≡ [] = ap (repeats Scope3 []) (sym only) ∙ locations-once [] names none in
+      record {
+        channels = channels-binders (index_of bs) own at (all_patterned 0 1 ds) ys described;
+        places = all-named (index_of bs) ds own k env;
+        apart = subst (λ l. Each (λ y. (b : ℕ) → y.1.on ≡ ref.Binder b → is_among l b ≡ false) ys) (sym places_are) (apart-all own part names embed fixed inside at ws sites (all_patterned 0 1 ds) ys have described);
+        one_place = λ b. subst (λ l. times l b ≤ 1) (sym places_are) ((once-each bs Scope3 own [] ws (places-in own part ws inside sites) once).0 b);
+        agree = agree-pairs own part names embed fixed inside at (all_patterned 0 1 ds) ys have described;
+      }

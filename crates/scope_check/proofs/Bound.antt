@@ -111,57 +111,58 @@ module _ (bs : List Binder) (seen : ℕ) where
   together-bound (p ∷ q ∷ ps) b = refl
 
   -- whatever may stand as an argument
-  module _ (literal : Word → Option Ref) where
-    whole : (ps : s.Processes) (env : List Scope) (k b : ℕ) → Within (bound_in_all (t.processes (members (index_of bs) literal env k ps)) b) b k (scopes_in_all ps) → Within (bound_in (together (members (index_of bs) literal env k ps)) b) b k (scopes_in_all ps)
-    whole ps env k b h = subst (λ x. Within x b k (scopes_in_all ps)) (sym (together-bound (members (index_of bs) literal env k ps) b)) h
+  whole : (ps : s.Processes) (env : List Scope) (k b : ℕ) → Within (bound_in_all (t.processes (members (index_of bs) env k ps)) b) b k (scopes_in_all ps) → Within (bound_in (together (members (index_of bs) env k ps)) b) b k (scopes_in_all ps)
+  whole ps env k b h = subst (λ x. Within x b k (scopes_in_all ps)) (sym (together-bound (members (index_of bs) env k ps) b)) h
 
-    -- ---- terms
+  -- ---- terms
 
-    mutual
-      process-within : (p : s.Process) (env : List Scope) (k b : ℕ) → process_faults p ≡ [] → AllIn bs (in_process k p) → Within (bound_in (process (index_of bs) literal env k p) b) b k (scopes_in p)
-      process-within s.Zero env k b d a = within-none b k 0
-      process-within (s.Msg on args) env k b d a = within-none b k 0
-      process-within (s.Go x y) env k b d a = within-none b k 0
-      process-within (s.Fail x y) env k b d a = within-none b k 0
-      process-within s.Halt env k b d a = within-none b k 0
-      process-within (s.Group ps) env k b d a = whole ps env k b (members-within ps env k b d a)
-      process-within (s.Def ds ps) env k b d a =
-          let inner = open_at k (block ds) env in
-          let n = scopes_in_defs ds in
-          let term = t.definitions (level (index_of bs) literal k inner (k + 1) ds) in
-          let d1 = none_right (clashes [] (block ds)) (level_faults ds ++ processes_faults ps) d in
-          let a0 = in_front bs (in_definitions k (k + 1) ds) (in_processes (k + 1 + n) ps) a in
-          let a1 = in_back bs (in_definitions k (k + 1) ds) (in_processes (k + 1 + n) ps) a in
-          let own : Within (once (chem.block term) b) b k 1 = subst (λ l. Within (once l b) b k 1) (sym (level-block (index_of bs) literal ds k (k + 1) 0 1 inner)) (block-within k (block ds) b (all-in bs seen ds k (k + 1) 0 1 a0)) in
-          let x = level-within ds k inner (k + 1) b (none_left (level_faults ds) (processes_faults ps) d1) a0 in
-          let y = whole ps inner (k + 1 + n) b (members-within ps inner (k + 1 + n) b (none_right (level_faults ds) (processes_faults ps) d1) a1) in
-          let two = within-both (once (chem.block term) b) (bound_in_definitions term b) b k 1 n own x in
-          let e : k + 1 + n ≡ k + (1 + n) = omega arith in
-          within-both (once (chem.block term) b + bound_in_definitions term b) (bound_in (together (members (index_of bs) literal inner (k + 1 + n) ps)) b) b k (1 + n) (scopes_in_all ps) two
-          (subst (λ z. Within (bound_in (together (members (index_of bs) literal inner (k + 1 + n) ps)) b) b z (scopes_in_all ps)) e y)
+  mutual
+    process-within : (p : s.Process) (env : List Scope) (k b : ℕ) → process_faults p ≡ [] → AllIn bs (in_process k p) → Within (bound_in (process (index_of bs) env k p) b) b k (scopes_in p)
+    process-within s.Zero env k b d a = within-none b k 0
+    process-within (s.Msg on args) env k b d a = within-none b k 0
+    process-within (s.Go x y) env k b d a = within-none b k 0
+    process-within (s.Fail x y) env k b d a = within-none b k 0
+    process-within s.Halt env k b d a = within-none b k 0
+    process-within (s.Add l r c) env k b d a = within-none b k 0
+    process-within (s.Same l r c e) env k b d a = within-none b k 0
+    process-within (s.Group ps) env k b d a = whole ps env k b (members-within ps env k b d a)
+    process-within (s.Def ds ps) env k b d a =
+        let inner = open_at k (block ds) env in
+        let n = scopes_in_defs ds in
+        let term = t.definitions (level (index_of bs) k inner (k + 1) ds) in
+        let d1 = none_right (clashes [] (block ds)) (level_faults ds ++ processes_faults ps) d in
+        let a0 = in_front bs (in_definitions k (k + 1) ds) (in_processes (k + 1 + n) ps) a in
+        let a1 = in_back bs (in_definitions k (k + 1) ds) (in_processes (k + 1 + n) ps) a in
+        let own : Within (once (chem.block term) b) b k 1 = subst (λ l. Within (once l b) b k 1) (sym (level-block (index_of bs) ds k (k + 1) 0 1 inner)) (block-within k (block ds) b (all-in bs seen ds k (k + 1) 0 1 a0)) in
+        let x = level-within ds k inner (k + 1) b (none_left (level_faults ds) (processes_faults ps) d1) a0 in
+        let y = whole ps inner (k + 1 + n) b (members-within ps inner (k + 1 + n) b (none_right (level_faults ds) (processes_faults ps) d1) a1) in
+        let two = within-both (once (chem.block term) b) (bound_in_definitions term b) b k 1 n own x in
+        let e : k + 1 + n ≡ k + (1 + n) = omega arith in
+        within-both (once (chem.block term) b + bound_in_definitions term b) (bound_in (together (members (index_of bs) inner (k + 1 + n) ps)) b) b k (1 + n) (scopes_in_all ps) two
+        (subst (λ z. Within (bound_in (together (members (index_of bs) inner (k + 1 + n) ps)) b) b z (scopes_in_all ps)) e y)
 
-      members-within : (ps : s.Processes) (env : List Scope) (k b : ℕ) → processes_faults ps ≡ [] → AllIn bs (in_processes k ps) → Within (bound_in_all (t.processes (members (index_of bs) literal env k ps)) b) b k (scopes_in_all ps)
-      members-within s.none env k b d a = within-none b k 0
-      members-within (s.one_more p ps) env k b d a =
-          within-both (bound_in (process (index_of bs) literal env k p) b) (bound_in_all (t.processes (members (index_of bs) literal env (k + scopes_in p) ps)) b) b k (scopes_in p) (scopes_in_all ps)
-          (process-within p env k b (none_left (process_faults p) (processes_faults ps) d) (in_front bs (in_process k p) (in_processes (k + scopes_in p) ps) a))
-          (members-within ps env (k + scopes_in p) b (none_right (process_faults p) (processes_faults ps) d) (in_back bs (in_process k p) (in_processes (k + scopes_in p) ps) a))
+    members-within : (ps : s.Processes) (env : List Scope) (k b : ℕ) → processes_faults ps ≡ [] → AllIn bs (in_processes k ps) → Within (bound_in_all (t.processes (members (index_of bs) env k ps)) b) b k (scopes_in_all ps)
+    members-within s.none env k b d a = within-none b k 0
+    members-within (s.one_more p ps) env k b d a =
+        within-both (bound_in (process (index_of bs) env k p) b) (bound_in_all (t.processes (members (index_of bs) env (k + scopes_in p) ps)) b) b k (scopes_in p) (scopes_in_all ps)
+        (process-within p env k b (none_left (process_faults p) (processes_faults ps) d) (in_front bs (in_process k p) (in_processes (k + scopes_in p) ps) a))
+        (members-within ps env (k + scopes_in p) b (none_right (process_faults p) (processes_faults ps) d) (in_back bs (in_process k p) (in_processes (k + scopes_in p) ps) a))
 
-      definition-within : (d : s.Definition) (own : ℕ) (env : List Scope) (k b : ℕ) → definition_faults d ≡ [] → AllIn bs (in_definition own k d) → Within (bound_in_definition (definition (index_of bs) literal own env k d) b) b k (scopes_in_def d)
-      definition-within (s.Rule pats body) own env k b d a =
-          let inner = open_at k (parameters (params pats)) env in
-          within-both (times (chem.params_of (pats_of (index_of bs) own k pats)) b) (bound_in (together (members (index_of bs) literal inner (k + 1) body)) b) b k 1 (scopes_in_all body)
-          (params-within own k pats b (none_left (pattern_faults pats) (processes_faults body) d) (in_front bs (in_patterns own k pats) (in_processes (k + 1) body) a))
-          (whole body inner (k + 1) b (members-within body inner (k + 1) b (none_right (pattern_faults pats) (processes_faults body) d) (in_back bs (in_patterns own k pats) (in_processes (k + 1) body) a)))
-      definition-within (s.Place o w ds body) own env k b d a =
-          let n = scopes_in_defs ds in
-          within-both (bound_in_definitions (t.definitions (level (index_of bs) literal own env k ds)) b) (bound_in (together (members (index_of bs) literal env (k + n) body)) b) b k n (scopes_in_all body)
-          (level-within ds own env k b (none_left (level_faults ds) (processes_faults body) d) (in_front bs (in_definitions own k ds) (in_processes (k + n) body) a.1))
-          (whole body env (k + n) b (members-within body env (k + n) b (none_right (level_faults ds) (processes_faults body) d) (in_back bs (in_definitions own k ds) (in_processes (k + n) body) a.1)))
+    definition-within : (d : s.Definition) (own : ℕ) (env : List Scope) (k b : ℕ) → definition_faults d ≡ [] → AllIn bs (in_definition own k d) → Within (bound_in_definition (definition (index_of bs) own env k d) b) b k (scopes_in_def d)
+    definition-within (s.Rule pats body) own env k b d a =
+        let inner = open_at k (parameters (params pats)) env in
+        within-both (times (chem.params_of (pats_of (index_of bs) own k pats)) b) (bound_in (together (members (index_of bs) inner (k + 1) body)) b) b k 1 (scopes_in_all body)
+        (params-within own k pats b (none_left (pattern_faults pats) (processes_faults body) d) (in_front bs (in_patterns own k pats) (in_processes (k + 1) body) a))
+        (whole body inner (k + 1) b (members-within body inner (k + 1) b (none_right (pattern_faults pats) (processes_faults body) d) (in_back bs (in_patterns own k pats) (in_processes (k + 1) body) a)))
+    definition-within (s.Place o w ds body) own env k b d a =
+        let n = scopes_in_defs ds in
+        within-both (bound_in_definitions (t.definitions (level (index_of bs) own env k ds)) b) (bound_in (together (members (index_of bs) env (k + n) body)) b) b k n (scopes_in_all body)
+        (level-within ds own env k b (none_left (level_faults ds) (processes_faults body) d) (in_front bs (in_definitions own k ds) (in_processes (k + n) body) a.1))
+        (whole body env (k + n) b (members-within body env (k + n) b (none_right (level_faults ds) (processes_faults body) d) (in_back bs (in_definitions own k ds) (in_processes (k + n) body) a.1)))
 
-      pub level-within : (ds : s.Definitions) (own : ℕ) (env : List Scope) (k b : ℕ) → level_faults ds ≡ [] → AllIn bs (in_definitions own k ds) → Within (bound_in_definitions (t.definitions (level (index_of bs) literal own env k ds)) b) b k (scopes_in_defs ds)
-      level-within s.no_definition own env k b d a = within-none b k 0
-      level-within (s.and_also x ds) own env k b d a =
-          within-both (bound_in_definition (definition (index_of bs) literal own env k x) b) (bound_in_definitions (t.definitions (level (index_of bs) literal own env (k + scopes_in_def x) ds)) b) b k (scopes_in_def x) (scopes_in_defs ds)
-          (definition-within x own env k b (none_left (definition_faults x) (level_faults ds) d) (in_front bs (in_definition own k x) (in_definitions own (k + scopes_in_def x) ds) a))
-          (level-within ds own env (k + scopes_in_def x) b (none_right (definition_faults x) (level_faults ds) d) (in_back bs (in_definition own k x) (in_definitions own (k + scopes_in_def x) ds) a))
+    pub level-within : (ds : s.Definitions) (own : ℕ) (env : List Scope) (k b : ℕ) → level_faults ds ≡ [] → AllIn bs (in_definitions own k ds) → Within (bound_in_definitions (t.definitions (level (index_of bs) own env k ds)) b) b k (scopes_in_defs ds)
+    level-within s.no_definition own env k b d a = within-none b k 0
+    level-within (s.and_also x ds) own env k b d a =
+        within-both (bound_in_definition (definition (index_of bs) own env k x) b) (bound_in_definitions (t.definitions (level (index_of bs) own env (k + scopes_in_def x) ds)) b) b k (scopes_in_def x) (scopes_in_defs ds)
+        (definition-within x own env k b (none_left (definition_faults x) (level_faults ds) d) (in_front bs (in_definition own k x) (in_definitions own (k + scopes_in_def x) ds) a))
+        (level-within ds own env (k + scopes_in_def x) b (none_right (definition_faults x) (level_faults ds) d) (in_back bs (in_definition own k x) (in_definitions own (k + scopes_in_def x) ds) a))

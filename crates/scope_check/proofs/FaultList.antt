@@ -3,7 +3,7 @@ use Rattle.std.specs.Prelude.{ℕ, List, [], ◌∷◌, ◌++◌, Option, Some, 
 use Rattle.join_base.specs.declared.fault.Kind.TheVariants.{Scope1}
 use Rattle.join_parse.specs.declared.word.Word.{Word}
 use Rattle.join_parse.specs.Grammar.{TreeOfText}
-use Rattle.chem_model.specs.declared.name.Ref.{Ref}
+use Rattle.chem_model.specs.ProgramFacts.{most_sites}
 use Rattle.scope_names.specs.declared.scope.Sort.{Sort}
 use Rattle.scope_check.specs.declared.fault.Fault.{Fault}
 use Rattle.scope_check.specs.Blocks.{sites_of, outermost, Resolved, resolve}
@@ -27,6 +27,6 @@ use_faults (u ∷ us) = used_by u.manner u.word (resolve u.around u.word.text) +
 abbrev pub declared_faults : TreeOfText → List Fault
 declared_faults t = clashes [] (outermost t) ++ level_faults (sites_of t.sites)
 
-abbrev pub fault_list : (limit : ℕ) (literal : Word → Option Ref) → TreeOfText → List Fault
-fault_list limit literal t =
-    many (drop limit t.sites) ++ (declared_faults t ++ use_faults (uses_of literal t))
+abbrev pub fault_list : TreeOfText → List Fault
+fault_list t =
+    many (drop (most_sites t.version) t.sites) ++ (declared_faults t ++ use_faults (uses_of t))

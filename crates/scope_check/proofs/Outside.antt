@@ -5,7 +5,7 @@ use Rattle.std.specs.Str.{bytes_eq}
 use Rattle.std.specs.List.{list_any}
 use Rattle.join_parse.specs.declared.word.Word.{Word}
 use Rattle.join_parse.specs.declared.word.PatTree.{PatTree}
-use Rattle.join_parse.specs.Source.{Process, Zero, Msg, Go, Fail, Halt, Group, Def, Processes, none, one_more, Definition, Rule, Place, Definitions, no_definition, and_also}
+use Rattle.join_parse.specs.Source.{Process, Zero, Msg, Go, Fail, Halt, Add, Same, Group, Def, Processes, none, one_more, Definition, Rule, Place, Definitions, no_definition, and_also}
 use Rattle.scope_check.specs.Blocks.{scopes_in, scopes_in_all, scopes_in_def, scopes_in_defs}
 use Rattle.scope_check.specs.Numbers.{Binder, binder, is_same, in_params, in_patterns, in_process, in_processes, in_definition, in_definitions}
 use Rattle.scope_check.proofs.Lists.{any-append}
@@ -55,6 +55,8 @@ mutual
   process-outside (Go b c) j k o = λ text. refl
   process-outside (Fail b c) j k o = λ text. refl
   process-outside Halt j k o = λ text. refl
+  process-outside (Add l r c) j k o = λ text. refl
+  process-outside (Same l r c d) j k o = λ text. refl
   process-outside (Group ps) j k o = processes-outside ps j k o
   process-outside (Def ds ps) j k o =
       let n = scopes_in_defs ds in let m = scopes_in_all ps in

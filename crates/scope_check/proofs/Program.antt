@@ -18,7 +18,7 @@ use Rattle.chem_model.specs.Process as t
 use Rattle.chem_model.specs.Binders as chem
 use Rattle.chem_model.specs.Binders.{is_among, once, bound_in_definitions, definition_nodes}
 use Rattle.chem_model.specs.Scope.{AreRulesAndPlaces, IsBlock, AreDefinitions}
-use Rattle.chem_model.specs.ProgramFacts.{IsProgram, IsDeclared, places}
+use Rattle.chem_model.specs.ProgramFacts.{IsProgram, IsDeclared, places, most_sites}
 use Rattle.scope_check.specs.declared.fault.Fault.{Fault}
 use Rattle.scope_check.specs.Order.{rank}
 use Rattle.scope_check.specs.inside.Order.{sooner, first_of}
@@ -29,7 +29,6 @@ use Rattle.scope_check.specs.inside.FaultList.{clashes, processes_faults, defini
 use Rattle.scope_check.specs.inside.FaultList.{level_faults, many}
 use Rattle.scope_check.specs.Numbers.{Binder, binder, is_same, firsts_after, keys, observed, site_names, all_binding, site_level, others, binders, index_of, in_params, in_patterns, in_processes, in_definition, in_definitions}
 use Rattle.scope_check.specs.Stands.{together, members, level, site_terms, seen_decls, texts, program}
-use Rattle.scope_check.specs.Checked.{most_sites}
 use Rattle.scope_check.proofs.Lists.{keys-append, none_left, none_right, any-append, or-false}
 use Rattle.scope_check.proofs.Among.{among-here, among-cons, among-front, among-back}
 use Rattle.scope_check.proofs.Counting.{Consecutive}
@@ -45,7 +44,7 @@ use Rattle.scope_check.proofs.Size.{sentence-long}
 use Rattle.scope_check.proofs.Sorts.{Has, has-left, has-right, Settled, settled, AllIn, in_front, in_back}
 use Rattle.scope_check.proofs.TermBlock.{all_place_words, bound_at, bound-append, level-block, number_if}
 use Rattle.scope_check.proofs.BlockFacts.{locs, locs-append, locs-all, block-fine}
-use Rattle.scope_check.proofs.Good.{EnvFine, LiteralsFine, names-append, observed-fine, defining-fine, levels-fine, bound_by, all-in, together-fine, members-term, level-term}
+use Rattle.scope_check.proofs.Good.{EnvFine, names-append, observed-fine, defining-fine, levels-fine, bound_by, all-in, together-fine, members-term, level-term}
 use Rattle.scope_check.proofs.Bound.{Within, within-both, block-within, level-within}
 
 -- ---- no fault
@@ -66,13 +65,13 @@ no-fault (f ∷ fs) e = absurd (some-kept fs f (Some f) refl e)
 
 -- ---- the sites as one definition
 
-pub places-are : (number : Binder → ℕ) (literal : Word → Option Ref) (xs : List PlaceTree) (env : List Scope) (k : ℕ) → places (site_terms number literal env k xs) ≡ t.definitions (level number literal 0 env k (sites_of xs))
-places-are number literal [] env k = refl
-places-are number literal (x ∷ xs) env k = ap (λ l. t.and_also (t.Place (ref.Binder (number (binder 0 x.name))) (t.definitions (level number literal 0 env k (s.definitions x.defs))) (together (members number literal env (k + scopes_in_defs (s.definitions x.defs)) (s.processes x.body)))) l) (places-are number literal xs env (k + scopes_in_def (place_of x)))
+pub places-are : (number : Binder → ℕ) (xs : List PlaceTree) (env : List Scope) (k : ℕ) → places (site_terms number env k xs) ≡ t.definitions (level number 0 env k (sites_of xs))
+places-are number [] env k = refl
+places-are number (x ∷ xs) env k = ap (λ l. t.and_also (t.Place (ref.Binder (number (binder 0 x.name))) (t.definitions (level number 0 env k (s.definitions x.defs))) (together (members number env (k + scopes_in_defs (s.definitions x.defs)) (s.processes x.body)))) l) (places-are number xs env (k + scopes_in_def (place_of x)))
 
-length-sites : (number : Binder → ℕ) (literal : Word → Option Ref) (xs : List PlaceTree) (env : List Scope) (k : ℕ) → length (site_terms number literal env k xs) ≡ length xs
-length-sites number literal [] env k = refl
-length-sites number literal (x ∷ xs) env k = omega (arith, length-sites number literal xs env (k + scopes_in_def (place_of x)))
+length-sites : (number : Binder → ℕ) (xs : List PlaceTree) (env : List Scope) (k : ℕ) → length (site_terms number env k xs) ≡ length xs
+length-sites number [] env k = refl
+length-sites number (x ∷ xs) env k = omega (arith, length-sites number xs env (k + scopes_in_def (place_of x)))
 
 length-seen : (xs : List SeenTree) → length (seen_decls xs) ≡ length xs
 length-seen [] = refl
@@ -88,10 +87,10 @@ few-sites zero (x ∷ xs) e = absurd cc
 few-sites (suc limit) [] e = omega arith
 few-sites (suc limit) (x ∷ xs) e = omega (arith, few-sites limit xs e)
 
-sites-levels : (number : Binder → ℕ) (literal : Word → Option Ref) (xs : List PlaceTree) (env : List Scope) (k : ℕ) → g.AreSites xs → Each (λ x. AreRulesAndPlaces (t.definitions x.defs)) (site_terms number literal env k xs)
-sites-levels number literal [] env k h = tt
-sites-levels number literal (x ∷ xs) env k h =
-    (levels-fine number literal (s.definitions x.defs) 0 env k h.0, sites-levels number literal xs env (k + scopes_in_def (place_of x)) h.2)
+sites-levels : (second : Bool) (number : Binder → ℕ) (xs : List PlaceTree) (env : List Scope) (k : ℕ) → g.AreSites second xs → Each (λ x. AreRulesAndPlaces (t.definitions x.defs)) (site_terms number env k xs)
+sites-levels second number [] env k h = tt
+sites-levels second number (x ∷ xs) env k h =
+    (levels-fine second number (s.definitions x.defs) 0 env k h.0, sites-levels second number xs env (k + scopes_in_def (place_of x)) h.2)
 
 seen-counts : (xs : List SeenTree) → g.AreDeclarations xs → Each (λ d. d.count ≤ 255) (seen_decls xs)
 seen-counts [] h = tt
@@ -306,45 +305,45 @@ bound-observed number [] i k = refl
 bound-observed number (x ∷ ss) i k = bound-observed number ss (i + 1) k
 
 -- sites are definitions in the outermost scope
-sites-term : (bs : List Binder) (seen : ℕ) (literal : Word → Option Ref) → LiteralsFine seen literal → (xs : List PlaceTree) (env : List Scope) (k : ℕ) → EnvFine seen env → g.AreSites xs → level_faults (sites_of xs) ≡ [] → use_faults (level_uses literal env k (sites_of xs)) ≡ [] → AllIn bs (in_definitions 0 k (sites_of xs))
-    → AreDefinitions (IsDeclared seen) (bound_by bs seen env) (t.definitions (level (index_of bs) literal 0 env k (sites_of xs)))
-sites-term bs seen literal known [] env k fine gr d u i = tt
-sites-term bs seen literal known (x ∷ xs) env k fine gr d u i =
+sites-term : (bs : List Binder) (seen version : ℕ) (xs : List PlaceTree) (env : List Scope) (k : ℕ) → EnvFine seen env → g.AreSites (g.is_second version) xs → level_faults (sites_of xs) ≡ [] → use_faults (level_uses env k (sites_of xs)) ≡ [] → AllIn bs (in_definitions 0 k (sites_of xs))
+    → AreDefinitions (IsDeclared version seen) (bound_by bs seen env) (t.definitions (level (index_of bs) 0 env k (sites_of xs)))
+sites-term bs seen version [] env k fine gr d u i = tt
+sites-term bs seen version (x ∷ xs) env k fine gr d u i =
     let ds = s.definitions x.defs in
     let ps = s.processes x.body in
     let n = scopes_in_defs ds in
-    let u1 = sym (faults-append (definition_uses literal env k (place_of x)) (level_uses literal env (k + scopes_in_def (place_of x)) (sites_of xs))) ∙ u in
-    let u2 = sym (faults-append (level_uses literal env k ds) (all_uses literal env (k + n) ps)) ∙ none_left _ _ u1 in
+    let u1 = sym (faults-append (definition_uses env k (place_of x)) (level_uses env (k + scopes_in_def (place_of x)) (sites_of xs))) ∙ u in
+    let u2 = sym (faults-append (level_uses env k ds) (all_uses env (k + n) ps)) ∙ none_left _ _ u1 in
     let d1 = none_left (definition_faults (place_of x)) (level_faults (sites_of xs)) d in
     let i1 = in_front bs (in_definition 0 k (place_of x)) (in_definitions 0 (k + scopes_in_def (place_of x)) (sites_of xs)) i in (
       (
-        level-term bs seen literal known ds 0 env k false fine gr.0 (none_left (level_faults ds) (processes_faults ps) d1) (none_left _ _ u2) (in_front bs (in_definitions 0 k ds) (in_processes (k + n) ps) i1.1),
-        together-fine bs seen (bound_by bs seen env) (members (index_of bs) literal env (k + n) ps)
-            (members-term bs seen literal known ps env (k + n) fine gr.1 (none_right (level_faults ds) (processes_faults ps) d1) (none_right (use_faults (level_uses literal env k ds)) _ u2) (in_back bs (in_definitions 0 k ds) (in_processes (k + n) ps) i1.1)),
+        level-term bs seen version ds 0 env k false fine gr.0 (none_left (level_faults ds) (processes_faults ps) d1) (none_left _ _ u2) (in_front bs (in_definitions 0 k ds) (in_processes (k + n) ps) i1.1),
+        together-fine bs seen version (bound_by bs seen env) (members (index_of bs) env (k + n) ps)
+            (members-term bs seen version ps env (k + n) fine gr.1 (none_right (level_faults ds) (processes_faults ps) d1) (none_right (use_faults (level_uses env k ds)) _ u2) (in_back bs (in_definitions 0 k ds) (in_processes (k + n) ps) i1.1)),
       ),
-      sites-term bs seen literal known xs env (k + scopes_in_def (place_of x)) fine gr.2 (none_right (definition_faults (place_of x)) (level_faults (sites_of xs)) d) (none_right (use_faults (definition_uses literal env k (place_of x))) _ u1)
+      sites-term bs seen version xs env (k + scopes_in_def (place_of x)) fine gr.2 (none_right (definition_faults (place_of x)) (level_faults (sites_of xs)) d) (none_right (use_faults (definition_uses env k (place_of x))) _ u1)
           (in_back bs (in_definition 0 k (place_of x)) (in_definitions 0 (k + scopes_in_def (place_of x)) (sites_of xs)) i),
     )
 
-pub program-kept : (literal : Word → Option Ref) (x : TreeOfText) → LiteralsFine (length x.seen) literal → IsTree x → fault_list most_sites literal x ≡ [] → IsProgram (program literal x)
-program-kept literal x known tree none =
+pub program-kept : (x : TreeOfText) → IsTree x → fault_list x ≡ [] → IsProgram (program x)
+program-kept x tree none =
     let bs = binders x in
     let number : Binder → ℕ = index_of bs in
     let seen = observed_from 0 x.seen in
     let names = block (sites_of x.sites) in
     let env = open_at 0 (outermost x) [] in
     let count = length x.seen in
-    let rest = none_right (many (drop most_sites x.sites)) (declared_faults x ++ use_faults (uses_of literal x)) none in
-    let declared = none_left (declared_faults x) (use_faults (uses_of literal x)) rest in
+    let rest = none_right (many (drop (most_sites x.version) x.sites)) (declared_faults x ++ use_faults (uses_of x)) none in
+    let declared = none_left (declared_faults x) (use_faults (uses_of x)) rest in
     let clear : clashes [] (outermost x) ≡ [] = none_left (clashes [] (outermost x)) (level_faults (sites_of x.sites)) declared in
     let within : level_faults (sites_of x.sites) ≡ [] = none_right (clashes [] (outermost x)) (level_faults (sites_of x.sites)) declared in
-    let used : use_faults (uses_of literal x) ≡ [] = none_right (declared_faults x) (use_faults (uses_of literal x)) rest in
+    let used : use_faults (uses_of x) ≡ [] = none_right (declared_faults x) (use_faults (uses_of x)) rest in
     let fixed : Settled (outermost x) = settled (outermost x) clear in
     let inside : AllIn bs (all_binding x) = all-inside x fixed in
     let own : AllIn bs (keys 0 names) = all-in bs count (sites_of x.sites) 0 1 0 1 inside in
-    let term = t.definitions (level number literal 0 env 1 (sites_of x.sites)) in
-    let is : places (site_terms number literal env 1 x.sites) ≡ term = places-are number literal x.sites env 1 in
-    let block_is : chem.block term ≡ bound_at number 0 names = level-block number literal (sites_of x.sites) 0 1 0 1 env in
+    let term = t.definitions (level number 0 env 1 (sites_of x.sites)) in
+    let is : places (site_terms number env 1 x.sites) ≡ term = places-are number x.sites env 1 in
+    let block_is : chem.block term ≡ bound_at number 0 names = level-block number (sites_of x.sites) 0 1 0 1 env in
     let scope_is : bound_by bs count env ≡ chem.block term =
     append-nil (bound_at number 0 (outermost x)) ∙ bound-append number 0 seen names ∙ ap (λ l. l ++ bound_at number 0 names) (bound-observed number x.seen 0 0) ∙ sym block_is in
     let only : locs (outermost x) ≡ all_place_words (sites_of x.sites) = locs-append seen names ∙ ap (λ l. l ++ locs names) (locs-observed x.seen 0) ∙ locs-all (sites_of x.sites) 0 1 in
@@ -352,19 +351,20 @@ program-kept literal x known tree none =
     let bounds : (b : ℕ) → Within bs count (once (chem.block term) b + bound_in_definitions term b) b 0 (1 + scopes_in_defs (sites_of x.sites)) = λ b.
     within-both bs count (once (chem.block term) b) (bound_in_definitions term b) b 0 1 (scopes_in_defs (sites_of x.sites))
     (subst (λ l. Within bs count (once l b) b 0 1) (sym block_is) (block-within bs count 0 names b own))
-    (level-within bs count literal (sites_of x.sites) 0 env 1 b within inside) in
+    (level-within bs count (sites_of x.sites) 0 env 1 b within inside) in
     record {
-      some_site = omega (arith, some-site x.sites tree.grammatical.some_site, length-sites number literal x.sites env 1);
-      few_sites = omega (arith, few-sites most_sites x.sites (none_left (many (drop most_sites x.sites)) (declared_faults x ++ use_faults (uses_of literal x)) none), length-sites number literal x.sites env 1);
-      small = subst (λ d. definition_nodes d ≤ 1048576) (sym is) (omega (arith, sentence-long number literal x env 1 tree.grammatical.sites, tree.few));
+      version = tree.grammatical.version;
+      some_site = omega (arith, some-site x.sites tree.grammatical.some_site, length-sites number x.sites env 1);
+      few_sites = omega (arith, few-sites (most_sites x.version) x.sites (none_left (many (drop (most_sites x.version) x.sites)) (declared_faults x ++ use_faults (uses_of x)) none), length-sites number x.sites env 1);
+      small = subst (λ d. definition_nodes d ≤ 1048576) (sym is) (omega (arith, sentence-long number (g.is_second x.version) g.nowhere x env 1 tree.grammatical.sites, tree.few));
       spelled = λ b. subst (λ d. 0 < once (chem.block d) b + bound_in_definitions d b → b < length (texts bs)) (sym is)
           (λ some. let h = (bounds b).1 some in let low = index-below bs h.which h.there in omega (arith, low, h.is, length-texts bs));
       bound_once = λ b. subst (λ d. once (chem.block d) b + bound_in_definitions d b ≤ 1) (sym is) (bounds b).0;
       site_level = λ b. subst (λ d. (b < length (site_level x)) ↔ (is_among (chem.block d) b ≡ true)) (sym is) (subst (λ l. (b < length (site_level x)) ↔ (is_among l b ≡ true)) (sym block_is) (site-number x fixed b));
-      one_block = subst IsBlock (sym is) (block-fine bs literal (sites_of x.sites) 0 1 env (outermost x) seen [] (ap (λ l. seen ++ l) (sym (append-nil names))) clear only own);
-      levels = sites-levels number literal x.sites env 1 tree.grammatical.sites;
-      terms = subst (λ d. AreDefinitions (IsDeclared (length (seen_decls x.seen))) (chem.block d) d) (sym is)
-          (subst (λ n. AreDefinitions (IsDeclared n) (chem.block term) term) (sym (length-seen x.seen))
-          (subst (λ l. AreDefinitions (IsDeclared count) l term) scope_is (sites-term bs count literal known x.sites env 1 fine tree.grammatical.sites within used inside)));
+      one_block = subst IsBlock (sym is) (block-fine bs (sites_of x.sites) 0 1 env (outermost x) seen [] (ap (λ l. seen ++ l) (sym (append-nil names))) clear only own);
+      levels = sites-levels (g.is_second x.version) number x.sites env 1 tree.grammatical.sites;
+      terms = subst (λ d. AreDefinitions (IsDeclared x.version (length (seen_decls x.seen))) (chem.block d) d) (sym is)
+          (subst (λ n. AreDefinitions (IsDeclared x.version n) (chem.block term) term) (sym (length-seen x.seen))
+          (subst (λ l. AreDefinitions (IsDeclared x.version count) l term) scope_is (sites-term bs count x.version x.sites env 1 fine tree.grammatical.sites within used inside)));
       counts = seen-counts x.seen tree.grammatical.seen;
     }

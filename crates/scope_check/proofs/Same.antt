@@ -8,10 +8,9 @@ use Rattle.join_base.specs.declared.fault.Kind.{Kind}
 use Rattle.join_base.specs.declared.fault.Kind.TheVariants.{Scope1, Scope2, Scope3, Scope4, Scope5, Scope6, Arity1, Arity2, Arity3, Arity4}
 use Rattle.join_parse.specs.declared.word.Word.{Word}
 use Rattle.join_parse.specs.declared.tree.PlaceTree.{PlaceTree}
-use Rattle.join_parse.specs.Source.{Process, Zero, Msg, Go, Fail, Halt, Group, Def, Processes, none, one_more, Definition, Rule, Place, Definitions, no_definition, and_also}
+use Rattle.join_parse.specs.Source.{Process, Zero, Msg, Go, Fail, Halt, Add, Same, Group, Def, Processes, none, one_more, Definition, Rule, Place, Definitions, no_definition, and_also}
 use Rattle.join_parse.specs.Grammar.{TreeOfText}
 use Rattle.chem_model.specs.Each.{IsIn}
-use Rattle.chem_model.specs.declared.name.Ref.{Ref}
 use Rattle.scope_names.specs.declared.scope.Sort.{Sort}
 use Rattle.scope_names.specs.declared.scope.Sort.TheVariants.{Channel, Location, Observed, Parameter}
 use Rattle.scope_check.specs.declared.fault.Fault.{Fault}
@@ -24,6 +23,7 @@ use Rattle.scope_check.specs.inside.FaultList.{fault, unless, clash, clash_if, c
 use Rattle.scope_check.specs.inside.FaultList.{is_spelled_in, repeated_if, repeats, pattern_faults}
 use Rattle.scope_check.specs.inside.FaultList.{process_faults, processes_faults, definition_faults}
 use Rattle.scope_check.specs.inside.FaultList.{level_faults, many}
+use Rattle.chem_model.specs.ProgramFacts.{most_sites}
 use Rattle.scope_check.proofs.FaultList.{used_as, used_by, use_faults, declared_faults, fault_list}
 use Rattle.scope_check.proofs.Firsts.{in-append, in-left, in-right, first-of-set}
 
@@ -253,6 +253,8 @@ mutual
   process-gathered (Go b c) = refl
   process-gathered (Fail b c) = refl
   process-gathered Halt = refl
+  process-gathered (Add l r c) = refl
+  process-gathered (Same l r c d) = refl
   process-gathered (Group ps) = processes-gathered ps
   process-gathered (Def ds ps) = ap (λ l. clashes [] (block ds) ++ l) ((λ i. level-gathered ds i ++ processes-gathered ps i) ∙ sym (gather-append (level_declared ds) (all_declared ps)))
 
@@ -312,26 +314,26 @@ sites-at (suc limit) f (b ∷ before) s after h p q = sites-at limit f before s 
 
 -- ---- the whole
 
-only-list : (limit : ℕ) (literal : Word → Option Ref) (t : TreeOfText) (f : Fault) → IsIn f (fault_list limit literal t) → IsFault limit literal t f
-only-list limit literal t f i =
-    elim (in-append f (many (drop limit t.sites)) (declared_faults t ++ use_faults (uses_of literal t)) i) [
-      | inl a ↦ of_site (sites-only limit f t.sites a)
-      | inr b ↦ elim (in-append f (declared_faults t) (use_faults (uses_of literal t)) b) [
+only-list : (t : TreeOfText) (f : Fault) → IsIn f (fault_list t) → IsFault t f
+only-list t f i =
+    elim (in-append f (many (drop (most_sites t.version) t.sites)) (declared_faults t ++ use_faults (uses_of t)) i) [
+      | inl a ↦ of_site (sites-only (most_sites t.version) f t.sites a)
+      | inr b ↦ elim (in-append f (declared_faults t) (use_faults (uses_of t)) b) [
         | inl c ↦ (let m = gather-only declared_fault f (declared_of t) (subst (IsIn f) (declared-gathered t) c) in of_declared m.0 m.1 (declared-only f m.0 m.2))
-        | inr c ↦ (let m = gather-only use_fault f (uses_of literal t) (subst (IsIn f) (uses-gathered (uses_of literal t)) c) in
+        | inr c ↦ (let m = gather-only use_fault f (uses_of t) (subst (IsIn f) (uses-gathered (uses_of t)) c) in
             let o = by-only f m.0.manner m.0.word (resolve m.0.around m.0.word.text) m.2 in of_use m.0 m.1 (record { here = o.0; wrong = o.1 }))
       ]
     ]
 
-all-list : (limit : ℕ) (literal : Word → Option Ref) (t : TreeOfText) (f : Fault) → IsFault limit literal t f → IsIn f (fault_list limit literal t)
-all-list limit literal t f (of_site w) =
-    in-left f (many (drop limit t.sites)) (declared_faults t ++ use_faults (uses_of literal t)) (subst (λ l. IsIn f (many (drop limit l))) (sym w.all) (sites-at limit f w.before w.site w.after w.above w.here w.wrong))
-all-list limit literal t f (of_declared d m w) =
-    in-right f (many (drop limit t.sites)) (declared_faults t ++ use_faults (uses_of literal t))
-    (in-left f (declared_faults t) (use_faults (uses_of literal t)) (subst (IsIn f) (sym (declared-gathered t)) (gather-all declared_fault f d (declared_of t) m (declared-all f d w))))
-all-list limit literal t f (of_use u m w) =
-    in-right f (many (drop limit t.sites)) (declared_faults t ++ use_faults (uses_of literal t))
-    (in-right f (declared_faults t) (use_faults (uses_of literal t)) (subst (IsIn f) (sym (uses-gathered (uses_of literal t))) (gather-all use_fault f u (uses_of literal t) m (by-all f u.manner u.word (resolve u.around u.word.text) w.here w.wrong))))
+all-list : (t : TreeOfText) (f : Fault) → IsFault t f → IsIn f (fault_list t)
+all-list t f (of_site w) =
+    in-left f (many (drop (most_sites t.version) t.sites)) (declared_faults t ++ use_faults (uses_of t)) (subst (λ l. IsIn f (many (drop (most_sites t.version) l))) (sym w.all) (sites-at (most_sites t.version) f w.before w.site w.after w.above w.here w.wrong))
+all-list t f (of_declared d m w) =
+    in-right f (many (drop (most_sites t.version) t.sites)) (declared_faults t ++ use_faults (uses_of t))
+    (in-left f (declared_faults t) (use_faults (uses_of t)) (subst (IsIn f) (sym (declared-gathered t)) (gather-all declared_fault f d (declared_of t) m (declared-all f d w))))
+all-list t f (of_use u m w) =
+    in-right f (many (drop (most_sites t.version) t.sites)) (declared_faults t ++ use_faults (uses_of t))
+    (in-right f (declared_faults t) (use_faults (uses_of t)) (subst (IsIn f) (sym (uses-gathered (uses_of t))) (gather-all use_fault f u (uses_of t) m (by-all f u.manner u.word (resolve u.around u.word.text) w.here w.wrong))))
 
-pub first-fault : (limit : ℕ) (literal : Word → Option Ref) (t : TreeOfText) → IsFirst (IsFault limit literal t) (first_of None (fault_list limit literal t))
-first-fault limit literal t = first-of-set (IsFault limit literal t) (fault_list limit literal t) (only-list limit literal t) (all-list limit literal t)
+pub first-fault : (t : TreeOfText) → IsFirst (IsFault t) (first_of None (fault_list t))
+first-fault t = first-of-set (IsFault t) (fault_list t) (only-list t) (all-list t)

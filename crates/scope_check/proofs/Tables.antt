@@ -1,9 +1,13 @@
 -- With the tables of the tree's scopes, the translation answers what the tree stands for.
 use Rattle.std.proofs.Common.{◌≡◌, ℕ, ◌+◌, List, [], ◌∷◌, Option, Some, None, refl, ap, ◌∙◌}
 use Rattle.join_parse.specs.declared.word.Word.{Word}
+use Rattle.join_parse.specs.declared.word.Arg.{Arg}
+use Rattle.join_parse.specs.declared.word.Arg.TheVariants as arg
 use Rattle.join_parse.specs.declared.word.PatTree.{PatTree}
 use Rattle.join_parse.specs.Source as s
 use Rattle.chem_model.specs.declared.name.Ref.TheVariants as ref
+use Rattle.chem_model.specs.declared.name.Name.TheVariants as name
+use Rattle.chem_model.specs.Operations.{add, same}
 use Rattle.chem_model.specs.Process as t
 use Rattle.scope_names.specs.declared.scope.Sort.{Sort}
 use Rattle.scope_names.specs.declared.scope.Sort.TheVariants.{Channel, Location, Observed, Parameter}
@@ -11,10 +15,9 @@ use Rattle.scope_names.specs.declared.scope.Entry.{Entry}
 use Rattle.scope_names.specs.Frames.{in_frame, in_env, inner}
 use Rattle.scope_check.specs.Blocks.{Defining, params, parameters, block, first_in, Scope, Resolved, resolved_in, resolve, open_at, scopes_in, scopes_in_def, scopes_in_defs}
 use Rattle.scope_check.specs.Numbers.{Binder, binder}
-use Rattle.scope_check.specs.Stands.{together, ref_as, ref_to, ref_of, refs_of, numbers, pats_of, process, members, definition, level}
-use Rattle.scope_check.specs.Checked.{no_literals}
+use Rattle.scope_check.specs.Stands.{together, ref_as, ref_to, ref_of, arg_of, args_of, numbers, pats_of, process, members, definition, level}
 use Rattle.scope_check.specs.inside.Naming.{numbered_as}
-use Rattle.scope_check.specs.inside.Twin.{Table, ref_as_entry, ref_by, refs_in, binder_by}
+use Rattle.scope_check.specs.inside.Twin.{Table, ref_as_entry, ref_by, arg_in, args_in, binder_by}
 use Rattle.scope_check.specs.inside.Twin.{binder_in, binders_in, pats_in, table_at, process_in}
 use Rattle.scope_check.specs.inside.Twin.{members_in, definition_in, level_in}
 
@@ -77,9 +80,13 @@ module _ (number : Binder → ℕ) where
   pub ref-is : (tables : List Table) (env : List Scope) (w : Word) → EnvStandsFor tables env → ref_by (in_env w.text tables) ≡ ref_of number env w
   ref-is tables env w h = ap ref_by (env-resolves tables env w.text h) ∙ ref-same w.text (resolve env w.text)
 
-  pub refs-are : (tables : List Table) (env : List Scope) (ws : List Word) → EnvStandsFor tables env → refs_in tables ws ≡ refs_of number no_literals env ws
-  refs-are tables env [] h = refl
-  refs-are tables env (w ∷ ws) h = λ i. ref-is tables env w h i ∷ refs-are tables env ws h i
+  pub arg-is : (tables : List Table) (env : List Scope) (a : Arg) → EnvStandsFor tables env → arg_in tables a ≡ arg_of number env a
+  arg-is tables env (arg.Word w) h = ref-is tables env w h
+  arg-is tables env (arg.Num value place) h = refl
+
+  pub args-are : (tables : List Table) (env : List Scope) (vs : List Arg) → EnvStandsFor tables env → args_in tables vs ≡ args_of number env vs
+  args-are tables env [] h = refl
+  args-are tables env (a ∷ vs) h = λ i. arg-is tables env a h i ∷ args-are tables env vs h i
 
   -- Every word is defined in its scope, as a binder.
   abbrev pub Defined : List Defining → Word → Type 0
@@ -124,6 +131,8 @@ module _ (number : Binder → ℕ) where
       Fits k (s.Go b c) = Unit {0}
       Fits k (s.Fail b c) = Unit {0}
       Fits k s.Halt = Unit {0}
+      Fits k (s.Add l r c) = Unit {0}
+      Fits k (s.Same l r c d) = Unit {0}
       Fits k (s.Group ps) = AllFit k ps
       Fits k (s.Def ds ps) = StandsFor (table_at tables k) k (block ds) × AllOwnDefined (block ds) ds × LevelFits (k + 1) ds × AllFit (k + 1 + scopes_in_defs ds) ps
 
@@ -140,29 +149,31 @@ module _ (number : Binder → ℕ) where
       LevelFits k (s.and_also d ds) = DefinitionFits k d × LevelFits (k + scopes_in_def d) ds
 
     mutual
-      pub process-is : (p : s.Process) (around : List Table) (env : List Scope) (k : ℕ) → EnvStandsFor around env → Fits k p → process_in tables around k p ≡ process number no_literals env k p
+      pub process-is : (p : s.Process) (around : List Table) (env : List Scope) (k : ℕ) → EnvStandsFor around env → Fits k p → process_in tables around k p ≡ process number env k p
       process-is s.Zero around env k h f = refl
-      process-is (s.Msg on args) around env k h f = λ i. t.Msg (ref-is around env on h i) (refs-are around env args h i)
+      process-is (s.Msg on args) around env k h f = λ i. t.Msg (ref-is around env on h i) (args-are around env args h i)
       process-is (s.Go b c) around env k h f = λ i. t.Go (ref-is around env b h i) (ref-is around env c h i)
       process-is (s.Fail b c) around env k h f = λ i. t.Fail (ref-is around env b h i) (ref-is around env c h i)
       process-is s.Halt around env k h f = refl
+      process-is (s.Add l r c) around env k h f = λ i. t.Msg (ref.Known (name.Op add)) (arg-is around env l h i ∷ arg-is around env r h i ∷ ref-is around env c h i ∷ [])
+      process-is (s.Same l r c d) around env k h f = λ i. t.Msg (ref.Known (name.Op same)) (arg-is around env l h i ∷ arg-is around env r h i ∷ ref-is around env c h i ∷ ref-is around env d h i ∷ [])
       process-is (s.Group ps) around env k h f = ap together (members-are ps around env k h f)
       process-is (s.Def ds ps) around env k h f =
           let own = table_at tables k in
           let more = open_at k (block ds) env in
           λ i. t.Def (t.definitions (level-is ds own k (block ds) (own ∷ around) more (k + 1) f.0 f.1 (f.0, h) f.2 i)) (together (members-are ps (own ∷ around) more (k + 1 + scopes_in_defs ds) (f.0, h) f.3 i))
 
-      pub members-are : (ps : s.Processes) (around : List Table) (env : List Scope) (k : ℕ) → EnvStandsFor around env → AllFit k ps → members_in tables around k ps ≡ members number no_literals env k ps
+      pub members-are : (ps : s.Processes) (around : List Table) (env : List Scope) (k : ℕ) → EnvStandsFor around env → AllFit k ps → members_in tables around k ps ≡ members number env k ps
       members-are s.none around env k h f = refl
       members-are (s.one_more p ps) around env k h f = λ i. process-is p around env k h f.0 i ∷ members-are ps around env (k + scopes_in p) h f.1 i
 
-      pub definition-is : (d : s.Definition) (a : Table) (own : ℕ) (names : List Defining) (around : List Table) (env : List Scope) (k : ℕ) → StandsFor a own names → OwnDefined names d → EnvStandsFor around env → DefinitionFits k d → definition_in tables a around k d ≡ definition number no_literals own env k d
+      pub definition-is : (d : s.Definition) (a : Table) (own : ℕ) (names : List Defining) (around : List Table) (env : List Scope) (k : ℕ) → StandsFor a own names → OwnDefined names d → EnvStandsFor around env → DefinitionFits k d → definition_in tables a around k d ≡ definition number own env k d
       definition-is (s.Rule pats body) a own names around env k g o h f =
           let mine = table_at tables k in
           λ i. t.Rule (pats-are a mine own k names (parameters (params pats)) pats g f.0 o i) (together (members-are body (mine ∷ around) (open_at k (parameters (params pats)) env) (k + 1) (f.0, h) f.1 i))
       definition-is (s.Place o n ds body) a own names around env k g od h f =
           λ i. t.Place (ref.Binder (binder-is a own names n g od.0 i)) (t.definitions (level-is ds a own names around env k g od.1 h f.0 i)) (together (members-are body around env (k + scopes_in_defs ds) h f.1 i))
 
-      pub level-is : (ds : s.Definitions) (a : Table) (own : ℕ) (names : List Defining) (around : List Table) (env : List Scope) (k : ℕ) → StandsFor a own names → AllOwnDefined names ds → EnvStandsFor around env → LevelFits k ds → level_in tables a around k ds ≡ level number no_literals own env k ds
+      pub level-is : (ds : s.Definitions) (a : Table) (own : ℕ) (names : List Defining) (around : List Table) (env : List Scope) (k : ℕ) → StandsFor a own names → AllOwnDefined names ds → EnvStandsFor around env → LevelFits k ds → level_in tables a around k ds ≡ level number own env k ds
       level-is s.no_definition a own names around env k g o h f = refl
       level-is (s.and_also d ds) a own names around env k g o h f = λ i. definition-is d a own names around env k g o.0 h f.0 i ∷ level-is ds a own names around env (k + scopes_in_def d) g o.1 h f.1 i

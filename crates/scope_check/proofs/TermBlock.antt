@@ -228,58 +228,57 @@ module _ (number : Binder → ℕ) where
   channels-binders own at (x ∷ xs) (y ∷ ys) h = (subst IsBinder (sym h.0) tt, channels-binders own at xs ys h.3)
 
   -- whatever may stand as an argument
-  module _ (literal : Word → Option Ref) where
-    mutual
-      one-block : (d : s.Definition) (own k at next : ℕ) (env : List Scope) → chem.defined (definition number literal own env k d) ≡ bound_at own (defining_one at next d)
-      one-block (s.Rule pats body) own k at next env = channels-block own k at pats
-      one-block (s.Place o a ds body) own k at next env = ap (λ l. number (binder own a) ∷ l) (level-block ds own k next (next + 1) env)
+  mutual
+    one-block : (d : s.Definition) (own k at next : ℕ) (env : List Scope) → chem.defined (definition number own env k d) ≡ bound_at own (defining_one at next d)
+    one-block (s.Rule pats body) own k at next env = channels-block own k at pats
+    one-block (s.Place o a ds body) own k at next env = ap (λ l. number (binder own a) ∷ l) (level-block ds own k next (next + 1) env)
 
-      pub level-block : (ds : s.Definitions) (own k at next : ℕ) (env : List Scope) → chem.block (t.definitions (level number literal own env k ds)) ≡ bound_at own (defining at next ds)
-      level-block s.no_definition own k at next env = refl
-      level-block (s.and_also d ds) own k at next env =
-          (λ i. one-block d own k at next env i ++ level-block ds own (k + scopes_in_def d) at (next + places_of d) env i)
-          ∙ sym (bound-append own (defining_one at next d) (defining at (next + places_of d) ds))
+    pub level-block : (ds : s.Definitions) (own k at next : ℕ) (env : List Scope) → chem.block (t.definitions (level number own env k ds)) ≡ bound_at own (defining at next ds)
+    level-block s.no_definition own k at next env = refl
+    level-block (s.and_also d ds) own k at next env =
+        (λ i. one-block d own k at next env i ++ level-block ds own (k + scopes_in_def d) at (next + places_of d) env i)
+        ∙ sym (bound-append own (defining_one at next d) (defining at (next + places_of d) ds))
 
-    mutual
-      place-numbers : (d : s.Definition) (own k : ℕ) (env : List Scope) → chem.place_of (definition number literal own env k d) ≡ numbers number own (place_words d)
-      place-numbers (s.Rule pats body) own k env = refl
-      place-numbers (s.Place o a ds body) own k env = ap (λ l. number (binder own a) ∷ l) (places-numbers ds own k env)
+  mutual
+    place-numbers : (d : s.Definition) (own k : ℕ) (env : List Scope) → chem.place_of (definition number own env k d) ≡ numbers number own (place_words d)
+    place-numbers (s.Rule pats body) own k env = refl
+    place-numbers (s.Place o a ds body) own k env = ap (λ l. number (binder own a) ∷ l) (places-numbers ds own k env)
 
-      pub places-numbers : (ds : s.Definitions) (own k : ℕ) (env : List Scope) → chem.places_of (t.definitions (level number literal own env k ds)) ≡ numbers number own (all_place_words ds)
-      places-numbers s.no_definition own k env = refl
-      places-numbers (s.and_also d ds) own k env =
-          (λ i. place-numbers d own k env i ++ places-numbers ds own (k + scopes_in_def d) env i) ∙ sym (numbers-append own (place_words d) (all_place_words ds))
+    pub places-numbers : (ds : s.Definitions) (own k : ℕ) (env : List Scope) → chem.places_of (t.definitions (level number own env k ds)) ≡ numbers number own (all_place_words ds)
+    places-numbers s.no_definition own k env = refl
+    places-numbers (s.and_also d ds) own k env =
+        (λ i. place-numbers d own k env i ++ places-numbers ds own (k + scopes_in_def d) env i) ∙ sym (numbers-append own (place_words d) (all_place_words ds))
 
-    mutual
-      one-described : (d : s.Definition) (own k : ℕ) (env : List Scope) (ws front back : List Word) (here : Option Ref) (n next : ℕ)
-          → ws ≡ front ++ (place_words d ++ back) → next ≡ suc (length front) → here ≡ location own ws n
-          → Described own (location own ws) (patterned n next d) (chem.patterns_in here (definition number literal own env k d))
-      one-described (s.Rule pats body) own k env ws front back here n next e m h = pats-described own k (location own ws) here n pats h
-      one-described (s.Place o a ds body) own k env ws front back here n next e m h =
-          let is : nth ws (length front) ≡ Some a = ap (λ l. nth l (length front)) e ∙ nth-behind front a (all_place_words ds ++ back) in
-          let at_place : Some (ref.Binder (number (binder own a))) ≡ location own ws next = sym (ap (location own ws) m ∙ ap (λ x. placed x own) is) in
-          all-described ds own k env ws (front ++ a ∷ []) back (Some (ref.Binder (number (binder own a)))) next (next + 1)
-          (e ∙ sym (append_assoc front (a ∷ []) (all_place_words ds ++ back)))
-          (omega (arith, m, length-append-words front (a ∷ []))) at_place
+  mutual
+    one-described : (d : s.Definition) (own k : ℕ) (env : List Scope) (ws front back : List Word) (here : Option Ref) (n next : ℕ)
+        → ws ≡ front ++ (place_words d ++ back) → next ≡ suc (length front) → here ≡ location own ws n
+        → Described own (location own ws) (patterned n next d) (chem.patterns_in here (definition number own env k d))
+    one-described (s.Rule pats body) own k env ws front back here n next e m h = pats-described own k (location own ws) here n pats h
+    one-described (s.Place o a ds body) own k env ws front back here n next e m h =
+        let is : nth ws (length front) ≡ Some a = ap (λ l. nth l (length front)) e ∙ nth-behind front a (all_place_words ds ++ back) in
+        let at_place : Some (ref.Binder (number (binder own a))) ≡ location own ws next = sym (ap (location own ws) m ∙ ap (λ x. placed x own) is) in
+        all-described ds own k env ws (front ++ a ∷ []) back (Some (ref.Binder (number (binder own a)))) next (next + 1)
+        (e ∙ sym (append_assoc front (a ∷ []) (all_place_words ds ++ back)))
+        (omega (arith, m, length-append-words front (a ∷ []))) at_place
 
-      pub all-described : (ds : s.Definitions) (own k : ℕ) (env : List Scope) (ws front back : List Word) (here : Option Ref) (n next : ℕ)
-          → ws ≡ front ++ (all_place_words ds ++ back) → next ≡ suc (length front) → here ≡ location own ws n
-          → Described own (location own ws) (all_patterned n next ds) (chem.patterns_of here (t.definitions (level number literal own env k ds)))
-      all-described s.no_definition own k env ws front back here n next e m h = tt
-      all-described (s.and_also d ds) own k env ws front back here n next e m h =
-          let x = place_words d in let y = all_place_words ds in
-          let flat = e ∙ ap (λ l. front ++ l) (append_assoc x y back) in
-          described-append own (location own ws) (patterned n next d) (all_patterned n (next + places_of d) ds)
-          (chem.patterns_in here (definition number literal own env k d)) (chem.patterns_of here (t.definitions (level number literal own env (k + scopes_in_def d) ds)))
-          (one-described d own k env ws front (y ++ back) here n next flat m h)
-          (all-described ds own (k + scopes_in_def d) env ws (front ++ x) back here n (next + places_of d) (flat ∙ sym (append_assoc front x (y ++ back)))
-          (omega (arith, m, length-append-words front x, place-count d)) h)
+    pub all-described : (ds : s.Definitions) (own k : ℕ) (env : List Scope) (ws front back : List Word) (here : Option Ref) (n next : ℕ)
+        → ws ≡ front ++ (all_place_words ds ++ back) → next ≡ suc (length front) → here ≡ location own ws n
+        → Described own (location own ws) (all_patterned n next ds) (chem.patterns_of here (t.definitions (level number own env k ds)))
+    all-described s.no_definition own k env ws front back here n next e m h = tt
+    all-described (s.and_also d ds) own k env ws front back here n next e m h =
+        let x = place_words d in let y = all_place_words ds in
+        let flat = e ∙ ap (λ l. front ++ l) (append_assoc x y back) in
+        described-append own (location own ws) (patterned n next d) (all_patterned n (next + places_of d) ds)
+        (chem.patterns_in here (definition number own env k d)) (chem.patterns_of here (t.definitions (level number own env (k + scopes_in_def d) ds)))
+        (one-described d own k env ws front (y ++ back) here n next flat m h)
+        (all-described ds own (k + scopes_in_def d) env ws (front ++ x) back here n (next + places_of d) (flat ∙ sym (append_assoc front x (y ++ back)))
+        (omega (arith, m, length-append-words front x, place-count d)) h)
 
-    mutual
-      one-named : (d : s.Definition) (own k : ℕ) (env : List Scope) → IsNamed (definition number literal own env k d)
-      one-named (s.Rule pats body) own k env = tt
-      one-named (s.Place o a ds body) own k env = (tt, all-named ds own k env)
+  mutual
+    one-named : (d : s.Definition) (own k : ℕ) (env : List Scope) → IsNamed (definition number own env k d)
+    one-named (s.Rule pats body) own k env = tt
+    one-named (s.Place o a ds body) own k env = (tt, all-named ds own k env)
 
-      pub all-named : (ds : s.Definitions) (own k : ℕ) (env : List Scope) → AreNamed (t.definitions (level number literal own env k ds))
-      all-named s.no_definition own k env = tt
-      all-named (s.and_also d ds) own k env = (one-named d own k env, all-named ds own (k + scopes_in_def d) env)
+    pub all-named : (ds : s.Definitions) (own k : ℕ) (env : List Scope) → AreNamed (t.definitions (level number own env k ds))
+    all-named s.no_definition own k env = tt
+    all-named (s.and_also d ds) own k env = (one-named d own k env, all-named ds own (k + scopes_in_def d) env)

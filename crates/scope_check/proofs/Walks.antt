@@ -2,7 +2,7 @@
 use Rattle.std.proofs.Common.{◌≡◌, ℕ, ◌+◌, ◌<◌, ◌≤◌, inl, inr, ◌||◌, List, [], ◌∷◌, ◌++◌, length, drop, get_or, refl, sym, ap, ◌∙◌, subst, arith, append_assoc, append-nil, length-append, is_some}
 use Rattle.join_parse.specs.declared.word.Word.{Word}
 use Rattle.join_parse.specs.declared.word.PatTree.{PatTree}
-use Rattle.join_parse.specs.Source.{Process, Zero, Msg, Go, Fail, Halt, Group, Def, Processes, none, one_more, Definition, Rule, Place, Definitions, no_definition, and_also}
+use Rattle.join_parse.specs.Source.{Process, Zero, Msg, Go, Fail, Halt, Add, Same, Group, Def, Processes, none, one_more, Definition, Rule, Place, Definitions, no_definition, and_also}
 use Rattle.scope_names.specs.declared.scope.Sort.TheVariants.{Channel, Location, Parameter}
 use Rattle.scope_check.specs.Blocks.{Defining, channels, params, parameters, defining, defining_one, places_of, block, first_in, scopes_in, scopes_in_all, scopes_in_def, scopes_in_defs}
 use Rattle.scope_check.specs.Numbers.{Binder, binder, is_same, in_params, in_patterns, in_process, in_processes, in_definition, in_definitions, firsts_after}
@@ -121,6 +121,8 @@ module _ (number : Binder → ℕ) (whole : List (List ℕ)) where
     walk-so (Go b d) spell k before rest f c = record { counts = nothing before rest spell c; long = refl; fit = λ ts more e. tt }
     walk-so (Fail b d) spell k before rest f c = record { counts = nothing before rest spell c; long = refl; fit = λ ts more e. tt }
     walk-so Halt spell k before rest f c = record { counts = nothing before rest spell c; long = refl; fit = λ ts more e. tt }
+    walk-so (Add l r d) spell k before rest f c = record { counts = nothing before rest spell c; long = refl; fit = λ ts more e. tt }
+    walk-so (Same l r d e) spell k before rest f c = record { counts = nothing before rest spell c; long = refl; fit = λ ts more e. tt }
     walk-so (Group ps) spell k before rest f c = let r = all-so ps spell k before rest f c in record { counts = r.counts; long = r.long; fit = r.fit }
     walk-so (Def ds ps) spell k before rest f c =
         let n = scopes_in_defs ds in

@@ -6,7 +6,8 @@ use Rattle.join_parse.specs.declared.word.Word.{Word}
 use Rattle.join_parse.specs.declared.word.PatTree.{PatTree}
 use Rattle.join_parse.specs.declared.word.SeenTree.{SeenTree}
 use Rattle.join_parse.specs.declared.tree.PlaceTree.{PlaceTree}
-use Rattle.join_parse.specs.Source.{Process, Zero, Msg, Go, Fail, Halt, Group, Def, Processes}
+use Rattle.join_parse.specs.Source.{Process, Zero, Msg, Go, Fail, Halt, Add, Same, Group, Def}
+use Rattle.join_parse.specs.Source.{Processes}
 use Rattle.join_parse.specs.Source.{none, one_more, Definition, Rule, Place, Definitions}
 use Rattle.join_parse.specs.Source.{no_definition, and_also, processes, definitions}
 use Rattle.join_parse.specs.Grammar.{TreeOfText}
@@ -103,6 +104,8 @@ abbrev mutual
   scopes_in (Go b k) = 0
   scopes_in (Fail b k) = 0
   scopes_in Halt = 0
+  scopes_in (Add l r c) = 0
+  scopes_in (Same l r c d) = 0
   scopes_in (Group ps) = scopes_in_all ps
   scopes_in (Def ds ps) = 1 + scopes_in_defs ds + scopes_in_all ps
 

@@ -8,8 +8,8 @@ use Rattle.join_parse.specs.declared.word.Word.{Word}
 use Rattle.join_parse.specs.declared.word.PatTree.{PatTree}
 use Rattle.join_parse.specs.declared.tree.PlaceTree.{PlaceTree}
 use Rattle.join_parse.specs.Grammar.{TreeOfText}
-use Rattle.chem_model.specs.declared.name.Ref.{Ref}
 use Rattle.chem_model.specs.Each.{IsIn}
+use Rattle.chem_model.specs.ProgramFacts.{most_sites}
 use Rattle.scope_names.specs.declared.scope.Sort.{Sort}
 use Rattle.scope_names.specs.declared.scope.Sort.TheVariants.{Channel, Location}
 use Rattle.scope_names.specs.declared.scope.Sort.TheVariants.{Observed, Parameter}
@@ -97,11 +97,8 @@ pub record WrongSite (limit : ℕ) (sites : List PlaceTree) (f : Fault) : Type 0
   pub here : f.place ≡ site.opener
   pub wrong : f.kind ≡ Scope6
 
--- The faults of a tree in which there may be this many sites, and an argument that isn't a name
--- stands for this.
-pub data IsFault (limit : ℕ) (literal : Word → Option Ref) (t : TreeOfText)
-    (f : Fault) : Type 0 where
-  of_use : (u : Use) → IsIn u (uses_of literal t) → WrongUse u f → IsFault limit literal t f
-  of_declared : (d : Declared) → IsIn d (declared_of t) → WrongDeclared d f
-      → IsFault limit literal t f
-  of_site : WrongSite limit t.sites f → IsFault limit literal t f
+-- the faults of a tree: how many sites there may be is the matter of its version
+pub data IsFault (t : TreeOfText) (f : Fault) : Type 0 where
+  of_use : (u : Use) → IsIn u (uses_of t) → WrongUse u f → IsFault t f
+  of_declared : (d : Declared) → IsIn d (declared_of t) → WrongDeclared d f → IsFault t f
+  of_site : WrongSite (most_sites t.version) t.sites f → IsFault t f

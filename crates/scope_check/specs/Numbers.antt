@@ -4,7 +4,7 @@ use Rattle.std.specs.List.{list_any}
 use Rattle.std.specs.Str.{bytes_eq}
 use Rattle.join_parse.specs.declared.word.Word.{Word}
 use Rattle.join_parse.specs.declared.word.PatTree.{PatTree}
-use Rattle.join_parse.specs.Source.{Process, Zero, Msg, Go, Fail, Halt, Group, Def}
+use Rattle.join_parse.specs.Source.{Process, Zero, Msg, Go, Fail, Halt, Add, Same, Group, Def}
 use Rattle.join_parse.specs.Source.{Processes, none, one_more, Definition, Rule}
 use Rattle.join_parse.specs.Source.{Place, Definitions, no_definition, and_also}
 use Rattle.join_parse.specs.Grammar.{TreeOfText}
@@ -36,6 +36,8 @@ abbrev mutual
   in_process k (Go b c) = []
   in_process k (Fail b c) = []
   in_process k Halt = []
+  in_process k (Add l r c) = []
+  in_process k (Same l r c d) = []
   in_process k (Group ps) = in_processes k ps
   in_process k (Def ds ps) =
       in_definitions k (k + 1) ds ++ in_processes (k + 1 + scopes_in_defs ds) ps

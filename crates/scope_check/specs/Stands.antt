@@ -1,7 +1,8 @@
 -- The program that a tree stands for.
 use Rattle.std.specs.Prelude.{ℕ, ◌+◌, List, [], ◌∷◌, Option, Some, None, length}
-use Rattle.std.specs.Option.{unwrap_or}
 use Rattle.join_parse.specs.declared.word.Word.{Word}
+use Rattle.join_parse.specs.declared.word.Arg.{Arg}
+use Rattle.join_parse.specs.declared.word.Arg.TheVariants as arg
 use Rattle.join_parse.specs.declared.word.PatTree.{PatTree}
 use Rattle.join_parse.specs.declared.word.SeenTree.{SeenTree}
 use Rattle.join_parse.specs.declared.tree.PlaceTree.{PlaceTree}
@@ -12,6 +13,7 @@ use Rattle.chem_model.specs.declared.name.Ref.{Ref}
 use Rattle.chem_model.specs.declared.name.Ref.TheVariants as ref
 use Rattle.chem_model.specs.declared.name.Name.TheVariants as name
 use Rattle.chem_model.specs.declared.name.Pat.{Pat}
+use Rattle.chem_model.specs.Operations.{add, same}
 use Rattle.chem_model.specs.Process as t
 use Rattle.scope_names.specs.declared.scope.Sort.{Sort}
 use Rattle.scope_names.specs.declared.scope.Sort.TheVariants.{Channel, Location}
@@ -56,52 +58,59 @@ module _ (number : Binder → ℕ) where
       record { on = ref.Binder (number (binder own p.on)); params = numbers k p.params }
       ∷ pats_of own k ps
 
-  -- And this is what an argument that isn't a name stands for: None for one that is, and that
-  -- stands for what it is resolved to.
-  module _ (literal : Word → Option Ref) where
-    abbrev pub refs_of : List Scope → List Word → List Ref
-    refs_of env [] = []
-    refs_of env (w ∷ ws) = unwrap_or (literal w) (ref_of env w) ∷ refs_of env ws
+  -- an argument stands for what its word is resolved to, or for its number
+  abbrev pub arg_of : List Scope → Arg → Ref
+  arg_of env (arg.Word w) = ref_of env w
+  arg_of env (arg.Num value place) = ref.Known (name.Num value)
 
-    abbrev mutual
-      pub process : List Scope → ℕ → s.Process → t.Process
-      process env k s.Zero = t.Par t.none
-      process env k (s.Msg on args) = t.Msg (ref_of env on) (refs_of env args)
-      process env k (s.Go b c) = t.Go (ref_of env b) (ref_of env c)
-      process env k (s.Fail b c) = t.Fail (ref_of env b) (ref_of env c)
-      process env k s.Halt = t.Halt
-      process env k (s.Group ps) = together (members env k ps)
-      process env k (s.Def ds ps) =
-          t.Def (t.definitions (level k (open_at k (block ds) env) (k + 1) ds))
-          (together (members (open_at k (block ds) env) (k + 1 + scopes_in_defs ds) ps))
+  abbrev pub args_of : List Scope → List Arg → List Ref
+  args_of env [] = []
+  args_of env (a ∷ vs) = arg_of env a ∷ args_of env vs
 
-      pub members : List Scope → ℕ → s.Processes → List t.Process
-      members env k s.none = []
-      members env k (s.one_more p ps) = process env k p ∷ members env (k + scopes_in p) ps
+  abbrev mutual
+    pub process : List Scope → ℕ → s.Process → t.Process
+    process env k s.Zero = t.Par t.none
+    process env k (s.Msg on args) = t.Msg (ref_of env on) (args_of env args)
+    process env k (s.Go b c) = t.Go (ref_of env b) (ref_of env c)
+    process env k (s.Fail b c) = t.Fail (ref_of env b) (ref_of env c)
+    process env k s.Halt = t.Halt
+    process env k (s.Add l r c) =
+        t.Msg (ref.Known (name.Op add)) (arg_of env l ∷ arg_of env r ∷ ref_of env c ∷ [])
+    process env k (s.Same l r c d) =
+        t.Msg (ref.Known (name.Op same))
+        (arg_of env l ∷ arg_of env r ∷ ref_of env c ∷ ref_of env d ∷ [])
+    process env k (s.Group ps) = together (members env k ps)
+    process env k (s.Def ds ps) =
+        t.Def (t.definitions (level k (open_at k (block ds) env) (k + 1) ds))
+        (together (members (open_at k (block ds) env) (k + 1 + scopes_in_defs ds) ps))
 
-      pub definition : (own : ℕ) → List Scope → ℕ → s.Definition → t.Definition
-      definition own env k (s.Rule pats body) =
-          t.Rule (pats_of own k pats)
-          (together (members (open_at k (parameters (params pats)) env) (k + 1) body))
-      definition own env k (s.Place o a ds body) =
-          t.Place (ref.Binder (number (binder own a))) (t.definitions (level own env k ds))
-          (together (members env (k + scopes_in_defs ds) body))
+    pub members : List Scope → ℕ → s.Processes → List t.Process
+    members env k s.none = []
+    members env k (s.one_more p ps) = process env k p ∷ members env (k + scopes_in p) ps
 
-      pub level : (own : ℕ) → List Scope → ℕ → s.Definitions → List t.Definition
-      level own env k s.no_definition = []
-      level own env k (s.and_also d ds) =
-          definition own env k d ∷ level own env (k + scopes_in_def d) ds
+    pub definition : (own : ℕ) → List Scope → ℕ → s.Definition → t.Definition
+    definition own env k (s.Rule pats body) =
+        t.Rule (pats_of own k pats)
+        (together (members (open_at k (parameters (params pats)) env) (k + 1) body))
+    definition own env k (s.Place o a ds body) =
+        t.Place (ref.Binder (number (binder own a))) (t.definitions (level own env k ds))
+        (together (members env (k + scopes_in_defs ds) body))
 
-    abbrev pub site_terms : List Scope → ℕ → List PlaceTree → List SiteTerm
-    site_terms env k [] = []
-    site_terms env k (x ∷ xs) =
-        record {
-          name = number (binder 0 x.name);
-          defs = level 0 env k (definitions x.defs);
-          body =
-              together (members env (k + scopes_in_defs (definitions x.defs)) (processes x.body));
-        } ∷ site_terms env
-        (k + (scopes_in_defs (definitions x.defs) + scopes_in_all (processes x.body))) xs
+    pub level : (own : ℕ) → List Scope → ℕ → s.Definitions → List t.Definition
+    level own env k s.no_definition = []
+    level own env k (s.and_also d ds) =
+        definition own env k d ∷ level own env (k + scopes_in_def d) ds
+
+  abbrev pub site_terms : List Scope → ℕ → List PlaceTree → List SiteTerm
+  site_terms env k [] = []
+  site_terms env k (x ∷ xs) =
+      record {
+        name = number (binder 0 x.name);
+        defs = level 0 env k (definitions x.defs);
+        body =
+            together (members env (k + scopes_in_defs (definitions x.defs)) (processes x.body));
+      } ∷ site_terms env
+      (k + (scopes_in_defs (definitions x.defs) + scopes_in_all (processes x.body))) xs
 
 abbrev pub seen_decls : List SeenTree → List SeenDecl
 seen_decls [] = []
@@ -111,10 +120,11 @@ abbrev pub texts : List Binder → List (List ℕ)
 texts [] = []
 texts (b ∷ bs) = b.text ∷ texts bs
 
-abbrev pub program : (literal : Word → Option Ref) → TreeOfText → ProgramTerms
-program literal tree = record {
+abbrev pub program : TreeOfText → ProgramTerms
+program tree = record {
+  version = tree.version;
   seen = seen_decls tree.seen;
-  sites = site_terms (index_of (binders tree)) literal (open_at 0 (outermost tree) []) 1 tree.sites;
+  sites = site_terms (index_of (binders tree)) (open_at 0 (outermost tree) []) 1 tree.sites;
   tops = length (site_level tree);
   spell = texts (binders tree);
 }

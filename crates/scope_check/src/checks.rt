@@ -10,7 +10,8 @@ ghost use Rattle.scope_check.specs.inside.Naming.{outermost, walk_sites as walke
 ghost use Rattle.scope_check.specs.inside.Twin.{site_terms_in, level_uses_in};
 ghost use Rattle.scope_check.specs.Stands.{seen_decls};
 ghost use Rattle.scope_check.specs.Checked.{IsProgramOf, IsRefusedAs, AnswersProgram, AnswersFault};
-ghost use Rattle.scope_check.specs.Checked.{HasOneOutcome, most_sites};
+ghost use Rattle.scope_check.specs.Checked.{HasOneOutcome};
+ghost use Rattle.chem_model.specs.ProgramFacts.{most_sites};
 ghost use Rattle.join_parse.specs.Grammar.{TreeOfText};
 
 use crate::block::{Defining, observed, sites};
@@ -24,8 +25,15 @@ use join_parse::{PlaceTree, SeenTree, Tree};
 use scope_names::{Env, Scope};
 use std::alloc::Global;
 
-// How many sites a text may have.
-const SITES: usize = 64;
+/// How many sites a text of a version may have.
+fn sites_of_version(version: u32) -> usize
+    ensures { result ≡ most_sites version }
+{
+    match version {
+        2 => 256,
+        _ => 64,
+    }
+}
 
 /// Notes the sites above the limit.
 fn above(limit: usize, sites: &[PlaceTree], least: &mut Option<Fault>)
@@ -168,15 +176,16 @@ fn declarations(alloc: Global, trees: &[SeenTree]) -> Result<SeenDecls, Memory>
 /// The first fault of the definitions, and of the sites above the limit.
 fn first_declared(
     alloc: Global,
+    version: u32,
     names: &[Defining<'_>],
     trees: &[PlaceTree],
 ) -> Result<Option<Fault>, Memory>
     ensures { IfOk result (λ least. least
-        ≡ first_of (first_of (first_of None (many (drop most_sites trees.now)))
+        ≡ first_of (first_of (first_of None (many (drop (most_sites version) trees.now)))
         (clashes_in [] names.now)) (level_faults (sites_of trees.now))) }
 {
     let mut least = None;
-    above(SITES, trees, &mut least);
+    above(sites_of_version(version), trees, &mut least);
     clashes(alloc, names, &mut least)?;
     within(alloc, trees, &mut least)?;
     Ok(least)
@@ -189,7 +198,7 @@ fn program_with<'a>(alloc: Global, names: &[Defining<'a>], tree: &'a Tree) -> Re
     ensures fault { IfErr result (IsRefusedAs tree.now) }
 {
     let trees = tree.sites.as_slice();
-    let mut least = first_declared(alloc, names, trees)?;
+    let mut least = first_declared(alloc, tree.version, names, trees)?;
     let tables = numbered(alloc, names, trees)?;
     let sites = terms(alloc, tables.scopes.as_slice(), trees, &mut least)?;
     if let Some(fault) = least {
@@ -202,6 +211,7 @@ fn program_with<'a>(alloc: Global, names: &[Defining<'a>], tree: &'a Tree) -> Re
     }
     let seen = declarations(alloc, tree.seen.as_slice())?;
     Ok(Program {
+        version: tree.version,
         seen,
         sites,
         tops: tables.tops,
@@ -222,7 +232,8 @@ fn program_of(alloc: Global, tree: &Tree) -> Result<Program, Front>
 ///
 /// The first fault has the least place, and at one place the kind that stands first among `Scope1`
 /// to `Arity4`. Its place is a byte offset from 0: of the identifier that is wrong, or of the
-/// keyword `site` of the 65th site. No other kind is answered.
+/// keyword `site` of the 65th site, in a text of the second version of the 257th. No other kind is
+/// answered.
 ///
 /// It answers a program exactly where the tree has one, and a fault exactly where the tree has it,
 /// but for want of memory.

@@ -217,6 +217,8 @@ fn process(alloc: Global, p: &ProcTree, least: &mut Option<Fault>) -> Result<(),
     match p.node() {
         ProcNode::Zero
         | ProcNode::Msg { .. }
+        | ProcNode::Add { .. }
+        | ProcNode::Same { .. }
         | ProcNode::Go { .. }
         | ProcNode::Fail { .. }
         | ProcNode::Halt => Ok(()),

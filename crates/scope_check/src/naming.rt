@@ -174,6 +174,8 @@ pub fn walk<'a>(
     match p.node() {
         ProcNode::Zero
         | ProcNode::Msg { .. }
+        | ProcNode::Add { .. }
+        | ProcNode::Same { .. }
         | ProcNode::Go { .. }
         | ProcNode::Fail { .. }
         | ProcNode::Halt => Ok(()),

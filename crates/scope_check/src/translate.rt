@@ -13,7 +13,7 @@ ghost use Rattle.scope_check.specs.inside.Twin.{level_uses_in, site_terms_in};
 ghost use Rattle.scope_check.specs.inside.Shown.{Shows};
 
 use crate::fault::Fault;
-use crate::words::{all_sent, binder_of, called, headed, patterns_of};
+use crate::words::{added, all_sent, binder_of, called, compared, headed, patterns_of};
 use chem_model::{Defn, Defs, Memory, Proc, Procs, Ref, SiteTerm, SiteTerms};
 use join_parse::{DefNode, DefTree, DefTrees, PlaceTree, ProcNode, ProcTree, ProcTrees};
 use scope_names::{Env, Scope};
@@ -36,9 +36,9 @@ pub fn process(
     match p.node() {
         ProcNode::Zero => Ok((Proc::par(Procs::new(alloc)), at)),
         ProcNode::Msg { on, args } => {
-            let words = args.as_slice();
-            let on = called(env, on, words.len(), least);
-            let refs = all_sent(alloc, env, words, least)?;
+            let args = args.as_slice();
+            let on = called(env, on, args.len(), least);
+            let refs = all_sent(alloc, env, args, least)?;
             Ok((Proc::msg(on, refs), at))
         }
         ProcNode::Go { target, cont } => {
@@ -52,6 +52,19 @@ pub fn process(
             Ok((Proc::fail(target, cont), at))
         }
         ProcNode::Halt => Ok((Proc::halt(), at)),
+        ProcNode::Add { left, right, cont } => {
+            let sum = added(alloc, env, left, right, cont, least)?;
+            Ok((sum, at))
+        }
+        ProcNode::Same {
+            left,
+            right,
+            yes,
+            no,
+        } => {
+            let choice = compared(alloc, env, left, right, yes, no, least)?;
+            Ok((choice, at))
+        }
         ProcNode::Group(list) => body(alloc, scopes, at, env, list, least),
         ProcNode::Def { defs, body: list } => {
             let own = &scopes[at];

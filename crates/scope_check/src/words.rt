@@ -2,16 +2,23 @@
 ghost use Rattle.std.specs.Prelude.{◌≡◌, IfOk, OnOk, None, length};
 ghost use Rattle.scope_check.specs.inside.Order.{first_of};
 ghost use Rattle.scope_check.specs.inside.Twin.{called_by, headed_by, sent_in, sent_by, ref_by};
-ghost use Rattle.scope_check.specs.inside.Twin.{refs_in, binder_by, binder_in, binders_in, pats_in};
+ghost use Rattle.scope_check.specs.inside.Twin.{arg_in, arg_faults, args_in, binder_by, binder_in};
+ghost use Rattle.scope_check.specs.inside.Twin.{binders_in, pats_in, added_in, added_faults};
+ghost use Rattle.scope_check.specs.inside.Twin.{compared_in, compared_faults};
 ghost use Rattle.scope_check.specs.inside.FaultList.{called_as, headed_for};
 ghost use Rattle.scope_names.specs.Frames.{in_env, in_frame};
 
 use crate::fault::{Fault, note};
-use chem_model::{Memory, Name, Nums, Pat, Pats, Ref, Refs};
+use chem_model::{Memory, Name, Nums, Pat, Pats, Proc, Ref, Refs};
 use join_base::Kind;
-use join_parse::{PatTree, Word};
+use join_parse::{Arg, PatTree, Word};
 use scope_names::{Entry, Env, Scope, Sort};
 use std::alloc::Global;
+
+// The operations, as names of messages.
+const ADD: u32 = 0;
+
+const SAME: u32 = 1;
 
 /// What a resolved word stands for.
 fn reference(entry: Option<Entry>) -> Ref
@@ -113,21 +120,77 @@ fn sent(env: &Env<'_>, word: &Word, least: &mut Option<Fault>) -> Ref
     reference(entry)
 }
 
-/// Words as arguments.
+/// An argument: what its word is resolved to, or its number.
+fn argument(env: &Env<'_>, arg: &Arg, least: &mut Option<Fault>) -> Ref
+    ensures value { result ≡ arg_in env.now arg.now }
+    ensures faults { least.new ≡ first_of least.old (arg_faults env.now arg.now) }
+{
+    match arg {
+        Arg::Word(word) => sent(env, word, least),
+        Arg::Num { value, .. } => Ref::Known(Name::Num(*value)),
+    }
+}
+
+/// The arguments of a message.
 pub fn all_sent(
     alloc: Global,
     env: &Env<'_>,
-    words: &[Word],
+    args: &[Arg],
     least: &mut Option<Fault>,
 ) -> Result<Refs, Memory>
-    ensures value { IfOk result (λ refs. refs ≡ refs_in env.now words.now) }
-    ensures faults { OnOk result (least.new ≡ first_of least.old (sent_in env.now words.now)) }
+    ensures value { IfOk result (λ refs. refs ≡ args_in env.now args.now) }
+    ensures faults { OnOk result (least.new ≡ first_of least.old (sent_in env.now args.now)) }
 {
     let mut refs = Refs::new(alloc);
-    for word in words {
-        refs.push(sent(env, word, least))?;
+    for arg in args {
+        refs.push(argument(env, arg, least))?;
     }
     Ok(refs)
+}
+
+/// `add`, as a message on the operation. Its last name is used as the name of a message with one
+/// argument.
+pub fn added(
+    alloc: Global,
+    env: &Env<'_>,
+    left: &Arg,
+    right: &Arg,
+    cont: &Word,
+    least: &mut Option<Fault>,
+) -> Result<Proc, Memory>
+    ensures value { IfOk result (λ p. p ≡ added_in env.now left.now right.now cont.now) }
+    ensures faults { OnOk result (least.new
+        ≡ first_of least.old (added_faults env.now left.now right.now cont.now)) }
+{
+    let left = argument(env, left, least);
+    let right = argument(env, right, least);
+    let cont = called(env, cont, 1, least);
+    let args = Refs::from_slice(alloc, &[left, right, cont])?;
+    Ok(Proc::msg(Ref::Known(Name::Op(ADD)), args))
+}
+
+/// `same`, as a message on the operation. Its last two names are used as the names of messages
+/// without arguments.
+pub fn compared(
+    alloc: Global,
+    env: &Env<'_>,
+    left: &Arg,
+    right: &Arg,
+    yes: &Word,
+    no: &Word,
+    least: &mut Option<Fault>,
+) -> Result<Proc, Memory>
+    ensures value { IfOk result (λ p. p
+        ≡ compared_in env.now left.now right.now yes.now no.now) }
+    ensures faults { OnOk result (least.new
+        ≡ first_of least.old (compared_faults env.now left.now right.now yes.now no.now)) }
+{
+    let left = argument(env, left, least);
+    let right = argument(env, right, least);
+    let yes = called(env, yes, 0, least);
+    let no = called(env, no, 0, least);
+    let args = Refs::from_slice(alloc, &[left, right, yes, no])?;
+    Ok(Proc::msg(Ref::Known(Name::Op(SAME)), args))
 }
 
 /// The number of a word in its scope.

@@ -10,10 +10,12 @@ use Rattle.join_lex.specs.declared.token.Sign.TheVariants as sign
 use Rattle.join_lex.specs.declared.token.Kind2.{Kind2}
 use Rattle.join_lex.specs.declared.token.Kind2.TheVariants as kind
 use Rattle.join_lex.specs.declared.token.Token.{Token}
+use Rattle.join_lex.specs.Versions.{is_version_word, is_two}
 use Rattle.join_parse.specs.declared.bounds.Bounds.{Bounds}
-use Rattle.join_parse.specs.Begins.{Symbol, AName, AZero, ACount, ASite, AKey, ASign, CloseGroup}
-use Rattle.join_parse.specs.Begins.{CloseSquare, EndDef, Program, Sites, Body, Defs, MoreDefs}
-use Rattle.join_parse.specs.Begins.{DefRest, MorePatterns, Names, MoreNames, AProc, MoreProcs}
+use Rattle.join_parse.specs.Begins.{Symbol, AName, AVersion, ATwo, AZero, ACount, ASite, AKey}
+use Rattle.join_parse.specs.Begins.{ASign, CloseGroup, CloseSquare, EndDef, Program, Sites, Body}
+use Rattle.join_parse.specs.Begins.{Defs, MoreDefs, DefRest, MorePatterns, Names, MoreNames}
+use Rattle.join_parse.specs.Begins.{ANumber, AnArg, Args, MoreArgs, AProc, MoreProcs}
 
 abbrev pub key_number : Key → ℕ
 key_number key.Observe = 0
@@ -25,6 +27,8 @@ key_number key.Go = 5
 key_number key.Fail = 6
 key_number key.Halt = 7
 key_number key.Void = 8
+key_number key.Add = 9
+key_number key.Same = 10
 
 abbrev pub sign_number : Sign → ℕ
 sign_number sign.Arrow = 0
@@ -56,6 +60,12 @@ is_name (kind.Number n) = false
 is_name (kind.Key j) = false
 is_name (kind.Sign t) = false
 
+abbrev pub is_number : Kind2 → Bool
+is_number (kind.Ident t) = false
+is_number (kind.Number n) = true
+is_number (kind.Key j) = false
+is_number (kind.Sign t) = false
+
 abbrev pub is_zero : Kind2 → Bool
 is_zero (kind.Ident t) = false
 is_zero (kind.Number n) = n == 0
@@ -75,50 +85,63 @@ pub data Move : Type 0 where
   Pass : Move
   No : Move
 
-abbrev pub step : Symbol → Kind2 → Move
-step AName k = if is_name k then Push [] else No
-step AZero k = if is_zero k then Push [] else No
-step ACount k = if is_count k then Push [] else No
-step ASite k = if is_key key.Site k then Push [] else No
-step (AKey key.Site) k = No
-step (AKey j) k = if is_key j k then Push [] else No
-step (ASign s) k = if is_sign s k then Push [] else No
-step CloseGroup k = if is_sign sign.ParenRight k then Push [] else No
-step CloseSquare k = if is_sign sign.SquareRight k then Push [] else No
-step EndDef k = Pass
-step Program k =
+abbrev pub step : Bool → Symbol → Kind2 → Move
+step second AName k = if is_name k then Push [] else No
+step second AVersion k = if is_version_word k then Push [] else No
+step second ATwo k = if is_two k then Push [] else No
+step second AZero k = if is_zero k then Push [] else No
+step second ACount k = if is_count k then Push [] else No
+step second ASite k = if is_key key.Site k then Push [] else No
+step second (AKey key.Site) k = No
+step second (AKey j) k = if is_key j k then Push [] else No
+step second (ASign s) k = if is_sign s k then Push [] else No
+step second CloseGroup k = if is_sign sign.ParenRight k then Push [] else No
+step second CloseSquare k = if is_sign sign.SquareRight k then Push [] else No
+step second EndDef k = Pass
+step second Program k =
     if is_key key.Observe k
     then Push (AName ∷ ASign sign.Slash ∷ ACount ∷ ASign sign.Semicolon ∷ Program ∷ [])
     else if is_key key.Site k then Push (AName ∷ Body false ∷ Sites ∷ [])
     else No
-step Sites k = if is_key key.Site k then Push (AName ∷ Body false ∷ Sites ∷ []) else Pass
-step (Body within) k =
+step second Sites k = if is_key key.Site k then Push (AName ∷ Body false ∷ Sites ∷ []) else Pass
+step second (Body within) k =
     if is_sign sign.SquareLeft k
     then Push (Defs within ∷ ASign sign.Colon ∷ AProc ∷ CloseSquare ∷ []) else No
-step (Defs within) k =
+step second (Defs within) k =
     if is_key key.Void k then Push []
     else if is_name k then Push (DefRest within ∷ MoreDefs within ∷ []) else No
-step (MoreDefs within) k =
+step second (MoreDefs within) k =
     if is_key key.And k then Push (AName ∷ DefRest within ∷ MoreDefs within ∷ []) else Pass
-step (DefRest within) k =
+step second (DefRest within) k =
     if is_sign sign.ParenLeft k then Push (Names ∷ MorePatterns ∷ AProc ∷ [])
     else if not within && is_sign sign.SquareLeft k
     then Push (Defs true ∷ ASign sign.Colon ∷ AProc ∷ CloseSquare ∷ [])
     else No
-step MorePatterns k =
+step second MorePatterns k =
     if is_sign sign.Arrow k then Push []
     else if is_sign sign.Bar k then Push (AName ∷ ASign sign.ParenLeft ∷ Names ∷ MorePatterns ∷ [])
     else No
-step Names k =
+step second Names k =
     if is_sign sign.ParenRight k then Push []
     else if is_name k then Push (MoreNames 1 ∷ []) else No
-step (MoreNames n) k =
+step second (MoreNames n) k =
     if is_sign sign.ParenRight k then Push []
     else if is_sign sign.Comma k && nat_lt n 255 then Push (AName ∷ MoreNames (n + 1) ∷ [])
     else No
-step AProc k =
+step second ANumber k = if is_number k then Push [] else No
+step second AnArg k =
+    if is_name k then Push [] else if second && is_number k then Push [] else No
+step second Args k =
+    if is_sign sign.ParenRight k then Push []
+    else if is_name k then Push (MoreArgs 1 ∷ [])
+    else if second && is_number k then Push (MoreArgs 1 ∷ []) else No
+step second (MoreArgs n) k =
+    if is_sign sign.ParenRight k then Push []
+    else if is_sign sign.Comma k && nat_lt n 255 then Push (AnArg ∷ MoreArgs (n + 1) ∷ [])
+    else No
+step second AProc k =
     if is_zero k then Push (MoreProcs ∷ [])
-    else if is_name k then Push (ASign sign.ParenLeft ∷ Names ∷ MoreProcs ∷ [])
+    else if is_name k then Push (ASign sign.ParenLeft ∷ Args ∷ MoreProcs ∷ [])
     else if is_sign sign.ParenLeft k then Push (AProc ∷ CloseGroup ∷ MoreProcs ∷ [])
     else if is_key key.Halt k
     then Push (ASign sign.ParenLeft ∷ ASign sign.ParenRight ∷ MoreProcs ∷ [])
@@ -128,18 +151,24 @@ step AProc k =
     else if is_key key.Fail k
     then Push (ASign sign.ParenLeft ∷ AName ∷ ASign sign.Comma ∷ AName
     ∷ ASign sign.ParenRight ∷ MoreProcs ∷ [])
+    else if second && is_key key.Add k
+    then Push (ASign sign.ParenLeft ∷ AnArg ∷ ASign sign.Comma ∷ AnArg ∷ ASign sign.Comma
+    ∷ AName ∷ ASign sign.ParenRight ∷ MoreProcs ∷ [])
+    else if second && is_key key.Same k
+    then Push (ASign sign.ParenLeft ∷ AnArg ∷ ASign sign.Comma ∷ AnArg ∷ ASign sign.Comma
+    ∷ AName ∷ ASign sign.Comma ∷ AName ∷ ASign sign.ParenRight ∷ MoreProcs ∷ [])
     else if is_key key.Def k then Push (Defs false ∷ AKey key.Inside ∷ AProc ∷ EndDef ∷ [])
     else No
-step MoreProcs k = if is_sign sign.Bar k then Push (AProc ∷ []) else Pass
+step second MoreProcs k = if is_sign sign.Bar k then Push (AProc ∷ []) else Pass
 
 abbrev pub moved : Move → List Symbol → Option (List Symbol) → Option (List Symbol)
 moved (Push more) stack passed = Some (more ++ stack)
 moved Pass stack passed = passed
 moved No stack passed = None
 
-abbrev pub advance : List Symbol → Kind2 → Option (List Symbol)
-advance [] k = None
-advance (s ∷ stack) k = moved (step s k) stack (advance stack k)
+abbrev pub advance : Bool → List Symbol → Kind2 → Option (List Symbol)
+advance second [] k = None
+advance second (s ∷ stack) k = moved (step second s k) stack (advance second stack k)
 
 -- The symbol may be nothing.
 abbrev pub may_pass : Symbol → Bool
@@ -178,4 +207,5 @@ next b go place (Some stack) =
 
 unfoldable pub outcome : Bounds → List Token → List Symbol → Outcome
 outcome b [] stack = if may_end stack then Whole else Stop Grammar1 b.end
-outcome b (t ∷ ts) stack = next b (outcome b ts) t.span.from (advance stack t.kind)
+outcome b (t ∷ ts) stack =
+    next b (outcome b ts) t.span.from (advance b.second stack t.kind)

@@ -2,11 +2,11 @@
 use Rattle.std.specs.Prelude.{◌≡◌, ℕ, Bool, true, false, List, [], ◌∷◌, ◌++◌}
 use Rattle.join_lex.specs.declared.token.Key.TheVariants as key
 use Rattle.join_lex.specs.declared.token.Sign.TheVariants as sign
-use Rattle.join_parse.specs.Terminals.{Terminal, a_number, a_key, a_sign, named}
+use Rattle.join_parse.specs.Terminals.{Terminal, a_key, a_sign, named}
 use Rattle.join_parse.specs.declared.word.SeenTree.{SeenTree}
 use Rattle.join_parse.specs.declared.tree.PlaceTree.{PlaceTree}
 use Rattle.join_parse.specs.Source.{processes, definitions}
-use Rattle.join_parse.specs.Grammar.{of_processes, of_definitions}
+use Rattle.join_parse.specs.Grammar.{nowhere, unplaced, of_processes, of_definitions}
 use Rattle.join_parse.specs.Printed.{spelling}
 
 -- the space before a word, where it isn't the first
@@ -30,12 +30,12 @@ between false t rest = t ∷ rest
 
 abbrev pub one_declaration : SeenTree → List Terminal → List Terminal
 one_declaration d rest =
-    a_key key.Observe ∷ named d.name ∷ a_sign sign.Slash ∷ a_number d.count ∷ a_sign sign.Semicolon
-    ∷ rest
+    a_key key.Observe ∷ named d.name ∷ a_sign sign.Slash
+    ∷ unplaced nowhere d.count (a_sign sign.Semicolon ∷ rest)
 
 -- a site or place behind its opener
 abbrev pub of_place : PlaceTree → List Terminal → List Terminal
 of_place s rest =
     named s.name ∷ a_sign sign.SquareLeft
-    ∷ of_definitions (definitions s.defs)
-    (a_sign sign.Colon ∷ of_processes (processes s.body) (a_sign sign.SquareRight ∷ rest))
+    ∷ of_definitions nowhere (definitions s.defs)
+    (a_sign sign.Colon ∷ of_processes nowhere (processes s.body) (a_sign sign.SquareRight ∷ rest))

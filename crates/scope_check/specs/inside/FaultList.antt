@@ -8,7 +8,8 @@ use Rattle.join_base.specs.declared.fault.Kind.TheVariants.{Arity1, Arity2, Arit
 use Rattle.join_parse.specs.declared.word.Word.{Word}
 use Rattle.join_parse.specs.declared.word.PatTree.{PatTree}
 use Rattle.join_parse.specs.declared.tree.PlaceTree.{PlaceTree}
-use Rattle.join_parse.specs.Source.{Process, Zero, Msg, Go, Fail, Halt, Group, Def, Processes, none}
+use Rattle.join_parse.specs.Source.{Process, Zero, Msg, Go, Fail, Halt, Add, Same, Group, Def}
+use Rattle.join_parse.specs.Source.{Processes, none}
 use Rattle.join_parse.specs.Source.{one_more, Definition, Rule, Place, Definitions, no_definition}
 use Rattle.join_parse.specs.Source.{and_also}
 use Rattle.scope_names.specs.declared.scope.Sort.{Sort}
@@ -73,6 +74,8 @@ abbrev mutual
   process_faults (Go b c) = []
   process_faults (Fail b c) = []
   process_faults Halt = []
+  process_faults (Add l r c) = []
+  process_faults (Same l r c d) = []
   process_faults (Group ps) = processes_faults ps
   process_faults (Def ds ps) = clashes [] (block ds) ++ (level_faults ds ++ processes_faults ps)
 

@@ -4,7 +4,8 @@ use Rattle.std.specs.Prelude.{ℕ, ◌+◌, Bool, true, false, List, [], ◌∷�
 use Rattle.join_parse.specs.declared.word.Word.{Word}
 use Rattle.join_parse.specs.declared.word.PatTree.{PatTree}
 use Rattle.join_parse.specs.declared.tree.PlaceTree.{PlaceTree}
-use Rattle.join_parse.specs.Source.{Process, Zero, Msg, Go, Fail, Halt, Group, Def, Processes, none}
+use Rattle.join_parse.specs.Source.{Process, Zero, Msg, Go, Fail, Halt, Add, Same, Group, Def}
+use Rattle.join_parse.specs.Source.{Processes, none}
 use Rattle.join_parse.specs.Source.{one_more, Definition, Rule, Place, Definitions, no_definition}
 use Rattle.join_parse.specs.Source.{and_also}
 use Rattle.scope_names.specs.declared.scope.Entry.{Entry}
@@ -80,6 +81,8 @@ abbrev mutual
   walk spell (Go b c) = record { tables = []; spell = spell }
   walk spell (Fail b c) = record { tables = []; spell = spell }
   walk spell Halt = record { tables = []; spell = spell }
+  walk spell (Add l r c) = record { tables = []; spell = spell }
+  walk spell (Same l r c d) = record { tables = []; spell = spell }
   walk spell (Group ps) = walk_all spell ps
   walk spell (Def ds ps) =
       let a = walk_level 0 1 spell [] ds in

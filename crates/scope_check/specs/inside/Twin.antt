@@ -3,12 +3,15 @@
 use Rattle.std.specs.Prelude.{ℕ, ◌+◌, List, [], ◌∷◌, ◌++◌, Option, Some, None, length}
 use Rattle.std.proofs.Common.{get_or}
 use Rattle.join_parse.specs.declared.word.Word.{Word}
+use Rattle.join_parse.specs.declared.word.Arg.{Arg}
+use Rattle.join_parse.specs.declared.word.Arg.TheVariants as arg
 use Rattle.join_parse.specs.declared.word.PatTree.{PatTree}
 use Rattle.join_parse.specs.Source as s
 use Rattle.chem_model.specs.declared.name.Ref.{Ref}
 use Rattle.chem_model.specs.declared.name.Ref.TheVariants as ref
 use Rattle.chem_model.specs.declared.name.Name.TheVariants as name
 use Rattle.chem_model.specs.declared.name.Pat.{Pat}
+use Rattle.chem_model.specs.Operations.{add, same}
 use Rattle.chem_model.specs.Process as t
 use Rattle.scope_names.specs.declared.scope.Sort.{Sort}
 use Rattle.scope_names.specs.declared.scope.Sort.TheVariants.{Channel, Location, Observed}
@@ -38,9 +41,13 @@ abbrev pub sent_by : Word → Option Entry → List Fault
 sent_by w None = fault Scope1 w
 sent_by w (Some e) = []
 
-abbrev pub sent_in : List Table → List Word → List Fault
+abbrev pub arg_faults : List Table → Arg → List Fault
+arg_faults env (arg.Word w) = sent_by w (in_env w.text env)
+arg_faults env (arg.Num value place) = []
+
+abbrev pub sent_in : List Table → List Arg → List Fault
 sent_in env [] = []
-sent_in env (w ∷ ws) = sent_by w (in_env w.text env) ++ sent_in env ws
+sent_in env (a ∷ vs) = arg_faults env a ++ sent_in env vs
 
 abbrev pub ref_as_entry : Sort → ℕ → Ref
 ref_as_entry (Observed m i) b = ref.Known (name.Seen i)
@@ -52,9 +59,35 @@ abbrev pub ref_by : Option Entry → Ref
 ref_by None = ref.Binder 0
 ref_by (Some e) = ref_as_entry e.sort e.binder
 
-abbrev pub refs_in : List Table → List Word → List Ref
-refs_in env [] = []
-refs_in env (w ∷ ws) = ref_by (in_env w.text env) ∷ refs_in env ws
+abbrev pub ref_in : List Table → Word → Ref
+ref_in env w = ref_by (in_env w.text env)
+
+abbrev pub arg_in : List Table → Arg → Ref
+arg_in env (arg.Word w) = ref_in env w
+arg_in env (arg.Num value place) = ref.Known (name.Num value)
+
+abbrev pub args_in : List Table → List Arg → List Ref
+args_in env [] = []
+args_in env (a ∷ vs) = arg_in env a ∷ args_in env vs
+
+-- messages on operations, with the faults of their uses
+abbrev pub added_in : List Table → (left right : Arg) → Word → t.Process
+added_in env l r c =
+    t.Msg (ref.Known (name.Op add)) (arg_in env l ∷ arg_in env r ∷ ref_in env c ∷ [])
+
+abbrev pub compared_in : List Table → (left right : Arg) → (alike apart : Word) → t.Process
+compared_in env l r c d =
+    t.Msg (ref.Known (name.Op same))
+    (arg_in env l ∷ arg_in env r ∷ ref_in env c ∷ ref_in env d ∷ [])
+
+abbrev pub added_faults : List Table → (left right : Arg) → Word → List Fault
+added_faults env l r c =
+    arg_faults env l ++ (arg_faults env r ++ called_by c 1 (in_env c.text env))
+
+abbrev pub compared_faults : List Table → (left right : Arg) → (alike apart : Word) → List Fault
+compared_faults env l r c d =
+    arg_faults env l ++ (arg_faults env r
+    ++ (called_by c 0 (in_env c.text env) ++ called_by d 0 (in_env d.text env)))
 
 abbrev pub binder_by : Option Entry → ℕ
 binder_by None = 0
@@ -80,11 +113,13 @@ module _ (tables : List Table) where
   abbrev mutual
     pub process_in : List Table → ℕ → s.Process → t.Process
     process_in env at s.Zero = t.Par t.none
-    process_in env at (s.Msg on args) = t.Msg (ref_by (in_env on.text env)) (refs_in env args)
+    process_in env at (s.Msg on args) = t.Msg (ref_by (in_env on.text env)) (args_in env args)
     process_in env at (s.Go b c) = t.Go (ref_by (in_env b.text env)) (ref_by (in_env c.text env))
     process_in env at (s.Fail b c) =
         t.Fail (ref_by (in_env b.text env)) (ref_by (in_env c.text env))
     process_in env at s.Halt = t.Halt
+    process_in env at (s.Add l r c) = added_in env l r c
+    process_in env at (s.Same l r c d) = compared_in env l r c d
     process_in env at (s.Group ps) = together (members_in env at ps)
     process_in env at (s.Def ds ps) =
         t.Def (t.definitions (level_in (table_at at) (table_at at ∷ env) (at + 1) ds))
@@ -117,6 +152,8 @@ module _ (tables : List Table) where
     uses_in env at (s.Fail b c) =
         headed_by b (in_env b.text env) ++ called_by c 0 (in_env c.text env)
     uses_in env at s.Halt = []
+    uses_in env at (s.Add l r c) = added_faults env l r c
+    uses_in env at (s.Same l r c d) = compared_faults env l r c d
     uses_in env at (s.Group ps) = all_uses_in env at ps
     uses_in env at (s.Def ds ps) =
         level_uses_in (table_at at ∷ env) (at + 1) ds

@@ -5,7 +5,7 @@ use Rattle.join_lex.specs.declared.token.Key.TheVariants as key
 use Rattle.join_lex.specs.declared.token.Sign.TheVariants as sign
 use Rattle.join_parse.specs.Terminals.{a_key, a_sign}
 use Rattle.join_parse.specs.Source.{processes, definitions}
-use Rattle.join_parse.specs.Grammar.{of_process, of_processes, of_definition, of_definitions}
+use Rattle.join_parse.specs.Grammar.{nowhere, of_process, of_processes, of_definition, of_definitions}
 use Rattle.join_parse.specs.Members.{procs_depth-member, defs_depth-member}
 use Rattle.join_parse.proofs.Prints.{member-prints, left_members, members-law, left_clauses, clauses-law, definitions-begin}
 use Rattle.join_parse.proofs.print.+print.Goals as goal
@@ -26,19 +26,19 @@ put_definitions-loop-member-init t c = λ rest. definitions-begin c.as_slice-mem
 pub put_place-returns : goal.put_place-returns
 put_place-returns t c =
     on_ok_weaker c.put_sign-3.result
-    (λ p rest. c.in_ok-put_word.ensures (a_sign sign.SquareLeft ∷ of_definitions (definitions c.args.place.now.defs) (a_sign sign.Colon ∷ of_processes (processes c.args.place.now.body) (a_sign sign.SquareRight ∷ rest)))
-    ∙ c.in_ok-put_sign.ensures (of_definitions (definitions c.args.place.now.defs) (a_sign sign.Colon ∷ of_processes (processes c.args.place.now.body) (a_sign sign.SquareRight ∷ rest)))
-    ∙ c.in_ok-put_definitions.ensures (a_sign sign.Colon ∷ of_processes (processes c.args.place.now.body) (a_sign sign.SquareRight ∷ rest))
-    ∙ c.in_ok-put_sign-2.ensures (of_processes (processes c.args.place.now.body) (a_sign sign.SquareRight ∷ rest))
+    (λ p rest. c.in_ok-put_word.ensures (a_sign sign.SquareLeft ∷ of_definitions nowhere (definitions c.args.place.now.defs) (a_sign sign.Colon ∷ of_processes nowhere (processes c.args.place.now.body) (a_sign sign.SquareRight ∷ rest)))
+    ∙ c.in_ok-put_sign.ensures (of_definitions nowhere (definitions c.args.place.now.defs) (a_sign sign.Colon ∷ of_processes nowhere (processes c.args.place.now.body) (a_sign sign.SquareRight ∷ rest)))
+    ∙ c.in_ok-put_definitions.ensures (a_sign sign.Colon ∷ of_processes nowhere (processes c.args.place.now.body) (a_sign sign.SquareRight ∷ rest))
+    ∙ c.in_ok-put_sign-2.ensures (of_processes nowhere (processes c.args.place.now.body) (a_sign sign.SquareRight ∷ rest))
     ∙ c.in_ok-put_processes.ensures (a_sign sign.SquareRight ∷ rest) ∙ p rest)
     c.put_sign-3.ensures
 
 pub put_processes-loop-member-preserved : goal.put_processes-loop-member-preserved
 put_processes-loop-member-preserved t c =
-    member-prints left_members of_process (a_sign sign.Bar) members-law (of_processes (processes c.as_slice-member-items.result.now)) c.args.out.now c.loop-member.out c.put_sign_between.new.out c.put_process.new.out c.loop-member.first
+    member-prints left_members (of_process nowhere) (a_sign sign.Bar) members-law (of_processes nowhere (processes c.as_slice-member-items.result.now)) c.args.out.now c.loop-member.out c.put_sign_between.new.out c.put_process.new.out c.loop-member.first
     c.as_slice-member-items.result.now c.loop-member.member-index c.member-item.result c.loop-member-test.true c.member-item.is c.loop-member.invariant c.in_ok-put_sign_between.ensures c.in_ok-put_process.ensures
 
 pub put_definitions-loop-member-preserved : goal.put_definitions-loop-member-preserved
 put_definitions-loop-member-preserved t c =
-    member-prints left_clauses of_definition (a_key key.And) clauses-law (of_definitions (definitions c.as_slice-member-items.result.now)) c.args.out.now c.loop-member.out c.put_and_between.new.out c.put_definition.new.out c.loop-member.first
+    member-prints left_clauses (of_definition nowhere) (a_key key.And) clauses-law (of_definitions nowhere (definitions c.as_slice-member-items.result.now)) c.args.out.now c.loop-member.out c.put_and_between.new.out c.put_definition.new.out c.loop-member.first
     c.as_slice-member-items.result.now c.loop-member.member-index c.member-item.result c.loop-member-test.true c.member-item.is c.loop-member.invariant c.in_ok-put_and_between.ensures c.in_ok-put_definition.ensures

@@ -6,7 +6,7 @@ use Rattle.join_parse.specs.Terminals.{a_key, a_sign, named}
 use Rattle.join_parse.specs.Source.{processes, definitions}
 use Rattle.join_parse.specs.Grammar.{patterns, of_processes, of_definitions}
 use Rattle.join_parse.specs.Begins.{AName, AKey, ASign, CloseGroup, CloseSquare, EndDef, Body, Defs, MoreDefs, DefRest, MorePatterns, Names, AProc, MoreProcs}
-use Rattle.join_parse.specs.inside.Parsed.{AtMost, Exactly, Reads}
+use Rattle.join_parse.specs.inside.Parsed.{AtMost, Exactly, places, Reads}
 use Rattle.join_parse.proofs.Moves.{key-reads, exit-before, fails-before}
 use Rattle.join_parse.proofs.Expansions.{close-group, close-square, end-def, defs-void, defs-some, more_defs-and, more_defs-end, def-place-at, def-rule-at, body-opens-at, body-deep, body-stops, proc-zero-at, proc-message, proc-group-at, proc-group-deep, proc-halt, proc-go, proc-fail, proc-def-at, proc-def-deep, proc-stops, procs-bar-at, procs-end}
 use Rattle.join_parse.proofs.Lists.{processes-more, processes-last, definitions-first, definitions-more, definitions-all}
@@ -122,7 +122,7 @@ definitions-ands-init t c =
         further = c.in_ok-first.ensures.reads.further;
         within = c.in_ok-first.ensures.reads.within;
       };
-      listed = definitions-first c.args.tokens.now c.args.at c.in_ok-first.upto c.args.within c.in_ok-first.first c.in_ok-first.ensures.spelled;
+      listed = definitions-first c.args.b.second c.args.tokens.now c.args.at c.in_ok-first.upto c.args.within c.in_ok-first.first c.in_ok-first.ensures.spelled;
     })
 
 pub definitions-returns-in_err-more-clause-fails : goal.definitions-returns-in_err-more-clause-fails
@@ -139,7 +139,7 @@ definitions-ands-preserved t c =
         further = omega (arith, c.ands.invariant.reads.further, c.in_ok-more.ensures.reads.further);
         within = c.in_ok-more.ensures.reads.within;
       };
-      listed = definitions-more c.args.tokens.now c.args.at c.ands.end (c.ands.end + 1) c.in_ok-more.upto c.args.within c.ands.list c.in_ok-more.more c.ands.invariant.listed c.ands-test.ensures.spelled c.in_ok-more.ensures.spelled;
+      listed = definitions-more c.args.b.second c.args.tokens.now c.args.at c.ands.end (c.ands.end + 1) c.in_ok-more.upto c.args.within c.ands.list c.in_ok-more.more c.ands.invariant.listed c.ands-test.ensures.spelled c.in_ok-more.ensures.spelled;
     })
 
 pub definitions-returns-clause-reads : goal.definitions-returns-clause-reads
@@ -152,7 +152,7 @@ definitions-returns-clause-reads t c =
 
 pub definitions-returns-clause-spelled : goal.definitions-returns-clause-spelled
 definitions-returns-clause-spelled t c =
-    definitions-all c.args.tokens.now c.args.at c.ands.end c.args.within c.ands.list c.ands.invariant.listed
+    definitions-all c.args.b.second c.args.tokens.now c.args.at c.ands.end c.args.within c.ands.list c.ands.invariant.listed
 
 pub group-returns-then-depth-b-clause-fails : goal.group-returns-then-depth-b-clause-fails
 group-returns-then-depth-b-clause-fails t c =
@@ -188,113 +188,39 @@ processes-returns-then-not-is_sign_at-clause-reads t c =
 
 pub processes-returns-then-not-is_sign_at-clause-spelled : goal.processes-returns-then-not-is_sign_at-clause-spelled
 processes-returns-then-not-is_sign_at-clause-spelled t c =
-    rw c.in_ok-push.ensures.ok (processes-last c.args.tokens.now c.args.at c.members.end c.in_ok-member.upto c.members.list c.in_ok-member.member c.members.invariant.listed c.in_ok-member.ensures.spelled)
+    rw c.in_ok-push.ensures.ok (processes-last c.args.b.second c.args.tokens.now c.args.at c.members.end c.in_ok-member.upto c.members.list c.in_ok-member.member c.members.invariant.listed c.in_ok-member.ensures.spelled)
 
 pub processes-members-preserved : goal.processes-members-preserved
 processes-members-preserved t c =
     rw c.in_ok-push.ensures.ok (record {
       runs = λ stack h. c.members.invariant.runs stack h ∙ c.in_ok-member.ensures.reads.runs stack h ∙ procs-bar-at c.args.b c.args.tokens.now c.in_ok-member.upto stack (sym c.if-not-is_sign_at.ensures.is) (omega arith);
       from = omega (arith, c.members.invariant.from, c.in_ok-member.ensures.reads.further);
-      listed = processes-more c.args.tokens.now c.args.at c.members.end c.in_ok-member.upto (c.in_ok-member.upto + 1) c.members.list c.in_ok-member.member c.members.invariant.listed c.in_ok-member.ensures.simple c.in_ok-member.ensures.spelled c.if-not-is_sign_at.ensures.spelled;
+      listed = processes-more c.args.b.second c.args.tokens.now c.args.at c.members.end c.in_ok-member.upto (c.in_ok-member.upto + 1) c.members.list c.in_ok-member.member c.members.invariant.listed c.in_ok-member.ensures.simple c.in_ok-member.ensures.spelled c.if-not-is_sign_at.ensures.spelled;
     })
 
 pub processes-returns-clause-spelled : goal.processes-returns-clause-spelled
 processes-returns-clause-spelled t c =
-    rw c.in_ok-push-2.ensures.ok (processes-last c.args.tokens.now c.args.at c.members.end c.in_ok-last.upto c.members.list c.in_ok-last.last c.members.invariant.listed c.in_ok-last.ensures.spelled)
-
-pub simple-returns-then-is_zero_at-clause-reads : goal.simple-returns-then-is_zero_at-clause-reads
-simple-returns-then-is_zero_at-clause-reads t c =
-    record {
-      runs = λ stack h. proc-zero-at c.args.b c.args.tokens.now c.args.at stack (sym c.if-is_zero_at.ensures.is) (omega arith);
-      further = omega arith;
-      within = c.if-is_zero_at.ensures.within;
-    }
-
-pub simple-returns-in_err-message-clause-fails : goal.simple-returns-in_err-message-clause-fails
-simple-returns-in_err-message-clause-fails t c =
-    exit-before c.args.b (Exactly c.args.depth) c.args.tokens.now c.args.at (AProc ∷ []) (AtMost c.args.b.levels) c.args.at (AName ∷ ASign sign.ParenLeft ∷ Names ∷ []) (λ stack. MoreProcs ∷ stack)
-    (λ stack h. proc-message c.args.b _ stack (sym c.if-is_name_at.ensures.is))
-    (λ stack h. omega arith) c.from_residual.result _ c.from_residual.ensures.1 c.in_err-message.ensures.fails
-
-pub simple-returns-then-is_name_at-clause-reads : goal.simple-returns-then-is_name_at-clause-reads
-simple-returns-then-is_name_at-clause-reads t c =
-    record {
-      runs = λ stack h. proc-message c.args.b _ stack (sym c.if-is_name_at.ensures.is) ∙ c.in_ok-message.ensures.reads.runs (MoreProcs ∷ stack) (omega arith);
-      further = c.in_ok-message.ensures.reads.further;
-      within = c.in_ok-message.ensures.reads.within;
-    }
-
-pub simple-returns-in_err-upto-clause-fails : goal.simple-returns-in_err-upto-clause-fails
-simple-returns-in_err-upto-clause-fails t c =
-    exit-before c.args.b (Exactly c.args.depth) c.args.tokens.now c.args.at (AProc ∷ []) (AtMost c.args.b.levels) (c.args.at + 1) (ASign sign.ParenLeft ∷ []) (λ stack. ASign sign.ParenRight ∷ MoreProcs ∷ stack)
-    (λ stack h. proc-halt c.args.b _ stack (sym c.if-is_key_at.ensures.is) ∙ (key-reads c.args.b key.Halt c.args.tokens.now c.args.at (sym c.if-is_key_at.ensures.is) c.if-is_key_at.ensures.within).runs (ASign sign.ParenLeft ∷ ASign sign.ParenRight ∷ MoreProcs ∷ stack) (omega arith))
-    (λ stack h. omega arith) c.from_residual-in_err-upto.result _ c.from_residual-in_err-upto.ensures.1 c.in_err-upto.ensures.fails
-
-pub simple-returns-in_err-upto-2-clause-fails : goal.simple-returns-in_err-upto-2-clause-fails
-simple-returns-in_err-upto-2-clause-fails t c =
-    exit-before c.args.b (Exactly c.args.depth) c.args.tokens.now c.args.at (AProc ∷ []) (AtMost c.args.b.levels) c.in_ok-upto.upto (ASign sign.ParenRight ∷ []) (λ stack. MoreProcs ∷ stack)
-    (λ stack h. proc-halt c.args.b _ stack (sym c.if-is_key_at.ensures.is) ∙ (key-reads c.args.b key.Halt c.args.tokens.now c.args.at (sym c.if-is_key_at.ensures.is) c.if-is_key_at.ensures.within).runs (ASign sign.ParenLeft ∷ ASign sign.ParenRight ∷ MoreProcs ∷ stack) (omega arith) ∙ c.in_ok-upto.ensures.reads.runs (ASign sign.ParenRight ∷ MoreProcs ∷ stack) (omega arith))
-    (λ stack h. omega arith) c.from_residual-in_err-upto-2.result _ c.from_residual-in_err-upto-2.ensures.1 c.in_err-upto-2.ensures.fails
-
-pub simple-returns-then-is_key_at-clause-reads : goal.simple-returns-then-is_key_at-clause-reads
-simple-returns-then-is_key_at-clause-reads t c =
-    record {
-      runs = λ stack h. proc-halt c.args.b _ stack (sym c.if-is_key_at.ensures.is) ∙ (key-reads c.args.b key.Halt c.args.tokens.now c.args.at (sym c.if-is_key_at.ensures.is) c.if-is_key_at.ensures.within).runs (ASign sign.ParenLeft ∷ ASign sign.ParenRight ∷ MoreProcs ∷ stack) (omega arith) ∙ c.in_ok-upto.ensures.reads.runs (ASign sign.ParenRight ∷ MoreProcs ∷ stack) (omega arith) ∙ c.in_ok-upto-2.ensures.reads.runs (MoreProcs ∷ stack) (omega arith);
-      further = omega (arith, c.in_ok-upto.ensures.reads.further, c.in_ok-upto-2.ensures.reads.further);
-      within = c.in_ok-upto-2.ensures.reads.within;
-    }
-
-pub simple-returns-in_err-target-clause-fails : goal.simple-returns-in_err-target-clause-fails
-simple-returns-in_err-target-clause-fails t c =
-    exit-before c.args.b (Exactly c.args.depth) c.args.tokens.now c.args.at (AProc ∷ []) (AtMost c.args.b.levels) (c.args.at + 1) (ASign sign.ParenLeft ∷ AName ∷ ASign sign.Comma ∷ AName ∷ ASign sign.ParenRight ∷ []) (λ stack. MoreProcs ∷ stack)
-    (λ stack h. proc-go c.args.b _ stack (sym c.if-is_key_at-2.ensures.is) ∙ (key-reads c.args.b key.Go c.args.tokens.now c.args.at (sym c.if-is_key_at-2.ensures.is) c.if-is_key_at-2.ensures.within).runs (ASign sign.ParenLeft ∷ AName ∷ ASign sign.Comma ∷ AName ∷ ASign sign.ParenRight ∷ MoreProcs ∷ stack) (omega arith))
-    (λ stack h. omega arith) c.from_residual-in_err-target.result _ c.from_residual-in_err-target.ensures.1 c.in_err-target.ensures.fails
-
-pub simple-returns-then-is_key_at-2-clause-reads : goal.simple-returns-then-is_key_at-2-clause-reads
-simple-returns-then-is_key_at-2-clause-reads t c =
-    record {
-      runs = λ stack h. proc-go c.args.b _ stack (sym c.if-is_key_at-2.ensures.is) ∙ (key-reads c.args.b key.Go c.args.tokens.now c.args.at (sym c.if-is_key_at-2.ensures.is) c.if-is_key_at-2.ensures.within).runs (ASign sign.ParenLeft ∷ AName ∷ ASign sign.Comma ∷ AName ∷ ASign sign.ParenRight ∷ MoreProcs ∷ stack) (omega arith) ∙ c.in_ok-target.ensures.reads.runs (MoreProcs ∷ stack) (omega arith);
-      further = omega (arith, c.in_ok-target.ensures.reads.further);
-      within = c.in_ok-target.ensures.reads.within;
-    }
-
-pub simple-returns-in_err-target-2-clause-fails : goal.simple-returns-in_err-target-2-clause-fails
-simple-returns-in_err-target-2-clause-fails t c =
-    exit-before c.args.b (Exactly c.args.depth) c.args.tokens.now c.args.at (AProc ∷ []) (AtMost c.args.b.levels) (c.args.at + 1) (ASign sign.ParenLeft ∷ AName ∷ ASign sign.Comma ∷ AName ∷ ASign sign.ParenRight ∷ []) (λ stack. MoreProcs ∷ stack)
-    (λ stack h. proc-fail c.args.b _ stack (sym c.if-is_key_at-3.ensures.is) ∙ (key-reads c.args.b key.Fail c.args.tokens.now c.args.at (sym c.if-is_key_at-3.ensures.is) c.if-is_key_at-3.ensures.within).runs (ASign sign.ParenLeft ∷ AName ∷ ASign sign.Comma ∷ AName ∷ ASign sign.ParenRight ∷ MoreProcs ∷ stack) (omega arith))
-    (λ stack h. omega arith) c.from_residual-in_err-target-2.result _ c.from_residual-in_err-target-2.ensures.1 c.in_err-target-2.ensures.fails
-
-pub simple-returns-then-is_key_at-3-clause-reads : goal.simple-returns-then-is_key_at-3-clause-reads
-simple-returns-then-is_key_at-3-clause-reads t c =
-    record {
-      runs = λ stack h. proc-fail c.args.b _ stack (sym c.if-is_key_at-3.ensures.is) ∙ (key-reads c.args.b key.Fail c.args.tokens.now c.args.at (sym c.if-is_key_at-3.ensures.is) c.if-is_key_at-3.ensures.within).runs (ASign sign.ParenLeft ∷ AName ∷ ASign sign.Comma ∷ AName ∷ ASign sign.ParenRight ∷ MoreProcs ∷ stack) (omega arith) ∙ c.in_ok-target-2.ensures.reads.runs (MoreProcs ∷ stack) (omega arith);
-      further = omega (arith, c.in_ok-target-2.ensures.reads.further);
-      within = c.in_ok-target-2.ensures.reads.within;
-    }
-
-pub simple-returns-clause-fails : goal.simple-returns-clause-fails
-simple-returns-clause-fails t c =
-    rw c.refused.ensures (λ stack h. proc-stops c.args.b _ stack (sym c.if-is_zero_at.ensures.is) (sym c.if-is_name_at.ensures.is) (sym c.if-is_sign_at.ensures.is) (sym c.if-is_key_at.ensures.is) (sym c.if-is_key_at-2.ensures.is) (sym c.if-is_key_at-3.ensures.is) c.requires.other)
+    rw c.in_ok-push-2.ensures.ok (processes-last c.args.b.second c.args.tokens.now c.args.at c.members.end c.in_ok-last.upto c.members.list c.in_ok-last.last c.members.invariant.listed c.in_ok-last.ensures.spelled)
 
 pub body-returns-clause-spelled : goal.body-returns-clause-spelled
 body-returns-clause-spelled t c = (
   c.in_ok-defs.ensures.spelled.0,
   c.in_ok-body.ensures.spelled.0,
-  c.if-not-is_sign_at.ensures.spelled ∙ ap (λ r. a_sign sign.SquareLeft ∷ r) (c.in_ok-defs.ensures.spelled.1 ∙ ap (of_definitions (definitions c.in_ok-defs.defs)) (c.in_ok-upto.ensures.spelled ∙ ap (λ r. a_sign sign.Colon ∷ r) (c.in_ok-body.ensures.spelled.1 ∙ ap (of_processes (processes c.in_ok-body.body)) c.in_ok-upto-2.ensures.spelled))),
+  c.if-not-is_sign_at.ensures.spelled ∙ ap (λ r. a_sign sign.SquareLeft ∷ r) (c.in_ok-defs.ensures.spelled.1 ∙ ap (of_definitions (places c.args.tokens.now) (definitions c.in_ok-defs.defs)) (c.in_ok-upto.ensures.spelled ∙ ap (λ r. a_sign sign.Colon ∷ r) (c.in_ok-body.ensures.spelled.1 ∙ ap (of_processes (places c.args.tokens.now) (processes c.in_ok-body.body)) c.in_ok-upto-2.ensures.spelled))),
 )
 
 pub def_in-returns-clause-spelled : goal.def_in-returns-clause-spelled
 def_in-returns-clause-spelled t c =
     rw c.def.ensures (
       (c.in_ok-defs.ensures.spelled.0, c.in_ok-body.ensures.spelled.0),
-      c.requires.spelled ∙ ap (λ r. a_key key.Def ∷ r) (c.in_ok-defs.ensures.spelled.1 ∙ ap (of_definitions (definitions c.in_ok-defs.defs)) (c.in_ok-upto.ensures.spelled ∙ ap (λ r. a_key key.Inside ∷ r) c.in_ok-body.ensures.spelled.1)),
+      c.requires.spelled ∙ ap (λ r. a_key key.Def ∷ r) (c.in_ok-defs.ensures.spelled.1 ∙ ap (of_definitions (places c.args.tokens.now) (definitions c.in_ok-defs.defs)) (c.in_ok-upto.ensures.spelled ∙ ap (λ r. a_key key.Inside ∷ r) c.in_ok-body.ensures.spelled.1)),
     )
 
 pub group-returns-clause-spelled : goal.group-returns-clause-spelled
 group-returns-clause-spelled t c =
     rw c.group.ensures (
       c.in_ok-members.ensures.spelled.0,
-      c.requires.spelled ∙ ap (λ r. a_sign sign.ParenLeft ∷ r) (c.in_ok-members.ensures.spelled.1 ∙ ap (of_processes (processes c.in_ok-members.members)) c.in_ok-upto.ensures.spelled),
+      c.requires.spelled ∙ ap (λ r. a_sign sign.ParenLeft ∷ r) (c.in_ok-members.ensures.spelled.1 ∙ ap (of_processes (places c.args.tokens.now) (processes c.in_ok-members.members)) c.in_ok-upto.ensures.spelled),
     )
 
 pub rule-returns-in_err-pats-clause-fails : goal.rule-returns-in_err-pats-clause-fails
@@ -345,20 +271,11 @@ pub place-returns-clause-spelled : goal.place-returns-clause-spelled
 place-returns-clause-spelled t c =
     rw c.place.ensures ((refl, c.in_ok-defs.ensures.spelled.0, c.in_ok-defs.ensures.spelled.1), c.in_ok-name.ensures.spelled ∙ ap (λ r. named c.in_ok-name.name ∷ r) c.in_ok-defs.ensures.spelled.2)
 
-pub simple-returns-then-is_zero_at-clause-spelled : goal.simple-returns-then-is_zero_at-clause-spelled
-simple-returns-then-is_zero_at-clause-spelled t c = rw c.zero.ensures (tt, c.if-is_zero_at.ensures.spelled)
+pub simple-returns-clause-reads : goal.simple-returns-clause-reads
+simple-returns-clause-reads t c =
+    IfOk-weaker c.leaf.result (λ r. Reads c.args.b (AtMost c.args.b.levels) c.args.tokens.now c.args.at (AProc ∷ []) r.1 (MoreProcs ∷ [])) (λ r. Reads c.args.b (Exactly c.args.depth) c.args.tokens.now c.args.at (AProc ∷ []) r.1 (MoreProcs ∷ []))
+    (λ r q. record { runs = λ stack h. q.runs stack (omega arith); further = q.further; within = q.within }) c.leaf.ensures.reads
 
-pub simple-returns-then-is_name_at-clause-spelled : goal.simple-returns-then-is_name_at-clause-spelled
-simple-returns-then-is_name_at-clause-spelled t c = rw c.msg.ensures (c.in_ok-message.ensures.few, c.in_ok-message.ensures.spelled)
-
-pub simple-returns-then-is_key_at-clause-spelled : goal.simple-returns-then-is_key_at-clause-spelled
-simple-returns-then-is_key_at-clause-spelled t c =
-    rw c.halt.ensures (tt, c.if-is_key_at.ensures.spelled ∙ ap (λ r. a_key key.Halt ∷ r) (c.in_ok-upto.ensures.spelled ∙ ap (λ r. a_sign sign.ParenLeft ∷ r) c.in_ok-upto-2.ensures.spelled))
-
-pub simple-returns-then-is_key_at-2-clause-spelled : goal.simple-returns-then-is_key_at-2-clause-spelled
-simple-returns-then-is_key_at-2-clause-spelled t c =
-    rw c.go.ensures (tt, c.if-is_key_at-2.ensures.spelled ∙ ap (λ r. a_key key.Go ∷ r) c.in_ok-target.ensures.spelled)
-
-pub simple-returns-then-is_key_at-3-clause-spelled : goal.simple-returns-then-is_key_at-3-clause-spelled
-simple-returns-then-is_key_at-3-clause-spelled t c =
-    rw c.fail.ensures (tt, c.if-is_key_at-3.ensures.spelled ∙ ap (λ r. a_key key.Fail ∷ r) c.in_ok-target-2.ensures.spelled)
+pub simple-returns-clause-fails : goal.simple-returns-clause-fails
+simple-returns-clause-fails t c =
+    fails-before c.args.b (Exactly c.args.depth) c.args.tokens.now c.args.at (AProc ∷ []) (AtMost c.args.b.levels) c.args.at (AProc ∷ []) (λ stack. stack) (λ stack h. refl) (λ stack h. omega arith) c.leaf.result c.leaf.ensures.fails

@@ -35,7 +35,7 @@ abbrev pub invariant-processes-members : goal.invariant-processes-members
 invariant-processes-members l = record {
   runs : Runs l.b (Exactly l.depth) l.tokens l.at (AProc ∷ []) l.end (AProc ∷ []);
   from : l.at ≤ l.end;
-  listed : ListedProcesses l.tokens l.at l.end l.list;
+  listed : ListedProcesses l.b.second l.tokens l.at l.end l.list;
 }
 
 abbrev pub decreases-processes-members : goal.decreases-processes-members
@@ -44,7 +44,7 @@ decreases-processes-members l = length l.tokens - l.end
 abbrev pub invariant-definitions-ands : goal.invariant-definitions-ands
 invariant-definitions-ands l = record {
   reads : Reads l.b (Exactly l.depth) l.tokens l.at (Defs l.within ∷ []) l.end (MoreDefs l.within ∷ []);
-  listed : ListedDefinitions l.tokens l.at l.end l.within l.list;
+  listed : ListedDefinitions l.b.second l.tokens l.at l.end l.within l.list;
 }
 
 abbrev pub decreases-definitions-ands : goal.decreases-definitions-ands

@@ -6,9 +6,9 @@ use Rattle.join_parse.proofs.program.declarations.Given as goal
 
 abbrev pub invariant-observed : goal.invariant-observed
 invariant-observed l = record {
-  runs : Runs l.b (AtMost l.b.levels) l.tokens 0 (Program ∷ []) l.end (Program ∷ []);
+  runs : Runs l.b (AtMost l.b.levels) l.tokens l.at (Program ∷ []) l.end (Program ∷ []);
   within : l.end ≤ length l.tokens;
-  listed : ListedDeclarations l.tokens 0 l.end l.list;
+  listed : ListedDeclarations l.tokens l.at l.end l.list;
 }
 
 abbrev pub decreases-observed : goal.decreases-observed

@@ -19,7 +19,7 @@ sites-preserved c = rw c.in_ok-push-2.ensures.ok (record {
     further = omega (arith, c.sites.invariant.reads.further, c.in_ok-more.ensures.reads.further);
     within = c.in_ok-more.ensures.reads.within;
   };
-  listed = sites-more c.args.tokens.now c.args.at c.sites.end c.in_ok-more.upto c.sites.list c.in_ok-more.more c.sites.invariant.listed c.in_ok-more.ensures.spelled;
+  listed = sites-more c.args.b.second c.args.tokens.now c.args.at c.sites.end c.in_ok-more.upto c.sites.list c.in_ok-more.more c.sites.invariant.listed c.in_ok-more.ensures.spelled;
   some = some-push c.sites.list c.in_ok-more.more;
 })
 
@@ -31,7 +31,7 @@ returns-clause-reads c = record {
 }
 
 pub returns-clause-sites : goal.returns-clause-sites
-returns-clause-sites c = (sites-all c.args.tokens.now c.args.at c.sites.end c.sites.list c.sites.invariant.listed).0
+returns-clause-sites c = (sites-all c.args.b.second c.args.tokens.now c.args.at c.sites.end c.sites.list c.sites.invariant.listed).0
 
 pub returns-clause-spelled : goal.returns-clause-spelled
-returns-clause-spelled c = (sites-all c.args.tokens.now c.args.at c.sites.end c.sites.list c.sites.invariant.listed).1
+returns-clause-spelled c = (sites-all c.args.b.second c.args.tokens.now c.args.at c.sites.end c.sites.list c.sites.invariant.listed).1

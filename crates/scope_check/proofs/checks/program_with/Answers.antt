@@ -17,7 +17,7 @@ returns-in-Some-clause-fault c =
     let t = c.args.tree.now in
     let trees = c.as_slice-trees.ensures.members ∙ ap (λ (x : TreeOfText). x.sites) c.tree.view_is in
     let tables = c.as_slice.ensures.value ∙ tables-are t c.as_slice-trees.result.now c.args.names.now c.in_ok-tables.tables.scopes.items trees c.requires c.in_ok-tables.ensures.scopes in
-    let noted = noted-by t c.as_slice-trees.result.now c.args.names.now c.as_slice.result.now _ _ c.in_ok-least.least c.terms.new.least trees c.requires tables
+    let noted = noted-by t _ c.as_slice-trees.result.now c.args.names.now c.as_slice.result.now _ _ c.in_ok-least.least c.terms.new.least (ap (λ (x : TreeOfText). x.version) c.tree.view_is) trees c.requires tables
     refl refl c.in_ok-least.ensures c.in_ok-sites.ensures.faults in
     let some : c.terms.new.least ≡ Some c.in-Some.fault = search rules in
     refused t c.terms.new.least c.in-Some.fault noted some
@@ -27,10 +27,11 @@ invariant_of-result c =
     let t = c.args.tree.now in
     let trees = c.as_slice-trees.ensures.members ∙ ap (λ (x : TreeOfText). x.sites) c.tree.view_is in
     let tables = c.as_slice.ensures.value ∙ tables-are t c.as_slice-trees.result.now c.args.names.now c.in_ok-tables.tables.scopes.items trees c.requires c.in_ok-tables.ensures.scopes in
-    let noted = noted-by t c.as_slice-trees.result.now c.args.names.now c.as_slice.result.now _ _ c.in_ok-least.least c.terms.new.least trees c.requires tables
+    let noted = noted-by t _ c.as_slice-trees.result.now c.args.names.now c.as_slice.result.now _ _ c.in_ok-least.least c.terms.new.least (ap (λ (x : TreeOfText). x.version) c.tree.view_is) trees c.requires tables
     refl refl c.in_ok-least.ensures c.in_ok-sites.ensures.faults in
     let none : c.terms.new.least ≡ None = search rules in
-    (answers t (subst IsTree c.tree.view_is c.tree.invariant) c.terms.new.least noted none c.in_ok-seen.seen c.in_ok-sites.sites c.in_ok-tables.tables.tops c.in_ok-tables.tables.spell
+    (answers t (subst IsTree c.tree.view_is c.tree.invariant) c.terms.new.least noted none _ c.in_ok-seen.seen c.in_ok-sites.sites c.in_ok-tables.tables.tops c.in_ok-tables.tables.spell
+    (ap (λ (x : TreeOfText). x.version) c.tree.view_is)
     (c.in_ok-seen.ensures ∙ ap seen_decls (c.as_slice-2.ensures.members ∙ ap (λ (x : TreeOfText). x.seen) c.tree.view_is))
     (sites-made t c.as_slice-trees.result.now c.as_slice.result.now c.in_ok-sites.sites trees tables c.in_ok-sites.ensures.value)
     (tops-made t c.args.names.now c.in_ok-tables.tables.tops c.requires c.in_ok-tables.ensures.tops)
@@ -41,10 +42,11 @@ returns-clause-program c =
     let t = c.args.tree.now in
     let trees = c.as_slice-trees.ensures.members ∙ ap (λ (x : TreeOfText). x.sites) c.tree.view_is in
     let tables = c.as_slice.ensures.value ∙ tables-are t c.as_slice-trees.result.now c.args.names.now c.in_ok-tables.tables.scopes.items trees c.requires c.in_ok-tables.ensures.scopes in
-    let noted = noted-by t c.as_slice-trees.result.now c.args.names.now c.as_slice.result.now _ _ c.in_ok-least.least c.terms.new.least trees c.requires tables
+    let noted = noted-by t _ c.as_slice-trees.result.now c.args.names.now c.as_slice.result.now _ _ c.in_ok-least.least c.terms.new.least (ap (λ (x : TreeOfText). x.version) c.tree.view_is) trees c.requires tables
     refl refl c.in_ok-least.ensures c.in_ok-sites.ensures.faults in
     let none : c.terms.new.least ≡ None = search rules in
-    (answers t (subst IsTree c.tree.view_is c.tree.invariant) c.terms.new.least noted none c.in_ok-seen.seen c.in_ok-sites.sites c.in_ok-tables.tables.tops c.in_ok-tables.tables.spell
+    (answers t (subst IsTree c.tree.view_is c.tree.invariant) c.terms.new.least noted none _ c.in_ok-seen.seen c.in_ok-sites.sites c.in_ok-tables.tables.tops c.in_ok-tables.tables.spell
+    (ap (λ (x : TreeOfText). x.version) c.tree.view_is)
     (c.in_ok-seen.ensures ∙ ap seen_decls (c.as_slice-2.ensures.members ∙ ap (λ (x : TreeOfText). x.seen) c.tree.view_is))
     (sites-made t c.as_slice-trees.result.now c.as_slice.result.now c.in_ok-sites.sites trees tables c.in_ok-sites.ensures.value)
     (tops-made t c.args.names.now c.in_ok-tables.tables.tops c.requires c.in_ok-tables.ensures.tops)

@@ -1,0 +1,12 @@
+use Rattle.std.proofs.Common.{◌∷◌, ◌∙◌}
+use Rattle.std.proofs.lemmas.Result.{on_ok_weaker}
+use Rattle.join_lex.specs.declared.token.Sign.TheVariants as sign
+use Rattle.join_parse.specs.Terminals.{a_sign, named}
+use Rattle.join_parse.proofs.print.put_closing_name.Goals as goal
+
+pub returns : goal.returns
+returns c =
+    on_ok_weaker c.put_sign-2.result
+    (λ p rest. c.in_ok-put_sign.ensures (named c.args.name.now ∷ a_sign sign.ParenRight ∷ rest)
+    ∙ c.in_ok-put_word.ensures (a_sign sign.ParenRight ∷ rest) ∙ p rest)
+    c.put_sign-2.ensures
