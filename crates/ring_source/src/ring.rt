@@ -1,3 +1,4 @@
+// The text of a ring of sites, round which an agent travels.
 ghost use Rattle.std.specs.Prelude.{◌≡◌, ◌<◌, ◌≤◌, ◌%◌, ◌++◌, decimal, IfOk, OnOk};
 ghost use Rattle.ring_source.specs.Ring.{go_text, rule_text, rules_text, agent_text, agent_at};
 ghost use Rattle.ring_source.specs.Ring.{messages_text, message_text, site_text, ring_text};

@@ -1,14 +1,15 @@
 -- What the fields of a log spell is the log's text.
 use Rattle.std.proofs.Common.{◌≡◌, ℕ, zero, suc, ◌<◌, ◌≤◌, List, [], ◌∷◌, ◌++◌, length, codes, refl, sym, ap, subst, ◌∙◌, append-nil, append_assoc, arith}
+use Rattle.std.proofs.lemmas.Bool.{le-leb, lt-leb}
 use Rattle.std.specs.Prelude.{decimal}
 use Rattle.chem_model.specs.declared.event.AtomId.{AtomId}
 use Rattle.chem_model.specs.declared.event.Event.{Event}
 use Rattle.chem_model.specs.declared.event.Event.TheVariants.{React, Move, Halt, Detect}
 use Rattle.chem_model.specs.Each.{Each}
-use Rattle.trace_text.specs.LogText.{LogParts, IsAtom, IsLogged, Spells, pair_text, atoms_text, event_text, events_text, log_text}
+use Rattle.trace_text.specs.LogText.{LogParts, IsAtom, IsLogged, Spells, pair_text, atoms_text, event_text, events_text, beginning, log_text}
 use Rattle.trace_text.proofs.Pieces.{three, four, log_cut}
 use Rattle.trace_text.specs.Fields.{Format, whole, field, number, counted, IsNumber, SpellsBy}
-use Rattle.trace_text.specs.LogFields.{literal, pair, further, taken, one_pair, event_line, lines, counted_text, last_part, events_part, budget_part, log_fields}
+use Rattle.trace_text.specs.LogFields.{literal, pair, further, taken, one_pair, event_line, lines, counted_text, last_part, events_part, least_budget, most_budget, budget_part, log_fields}
 
 -- an atom behind a space, and those behind it
 one_atom : (bytes later r : List ℕ) (a : AtomId) (more : List AtomId) (rest : List ℕ)
@@ -28,7 +29,7 @@ react_line bytes later r rest rule took e g h =
 
 -- the parts of a log, one behind the other
 log_is : (log : LogParts) (bytes a s b c1 c d1 d e1 e t : List ℕ) (count : ℕ)
-    → bytes ≡ codes "joinlog 1\nsource " ++ a
+    → bytes ≡ beginning log.budget ++ a
     → a ≡ decimal (length log.source) ++ (codes "\n" ++ (log.source ++ s))
     → s ≡ codes "\nbudget " ++ b
     → b ≡ decimal log.budget ++ c1
@@ -63,11 +64,11 @@ module _ {A : Type 0} (y : A) where
 
   pair_spelt : (next : AtomId → Format A) (bytes : List ℕ) → SpellsBy (pair next) y bytes → PairSpelt next bytes
   pair_spelt next bytes (site, r, n, h) =
-      let p = literal_spelt (codes ".") (field (number 18446744073709551615) (λ k. next (record { site = site; k = k }))) r h in
+      let p = literal_spelt (codes ".") (field (number 0 18446744073709551615) (λ k. next (record { site = site; k = k }))) r h in
       let q = p.follows in
       let k = q.0 in
       let rest = q.1 in
-      let m : IsNumber 18446744073709551615 k p.rest rest = q.2 in
+      let m : IsNumber 0 18446744073709551615 k p.rest rest = q.2 in
       record {
         atom = record { site = site; k = k };
         rest = rest;
@@ -235,31 +236,49 @@ module _ {A : Type 0} (y : A) where
 the_log : (made log : LogParts) (bytes : List ℕ) → made ≡ log → Spells made bytes → Spells log bytes
 the_log made log bytes e h = subst (λ (l : LogParts). Spells l bytes) e h
 
-pub log_spelt : (n : ℕ) (log : LogParts) (bytes : List ℕ) → SpellsBy (log_fields n) log bytes → Spells log bytes
-unfolding log_fields
-log_spelt n log bytes h =
-    let a = literal_spelt log (codes "joinlog 1\nsource ") (counted_text 1048576 (budget_part n)) bytes h in
-    let source = counted_spelt log 1048576 (budget_part n) a.rest a.follows in
-    let b = literal_spelt log (codes "\nbudget ") (field (number 1000000) (events_part n source.text)) source.rest source.follows in
+-- the budgets of a kind of logs, and how these begin
+record IsKind (kind : ℕ) (start : List ℕ) : Type 0 where
+  begins : (budget : ℕ) → least_budget kind ≤ budget → budget ≤ most_budget kind → beginning budget ≡ start
+  small : most_budget kind ≤ 4000000
+
+first : IsKind 0 (codes "joinlog 1\nsource ")
+unfolding beginning
+first = record { begins = λ budget low high. rw (le-leb budget 1000000 high) refl; small = omega arith }
+
+second : IsKind 1 (codes "joinlog 2\nsource ")
+unfolding beginning
+second = record { begins = λ budget low high. rw (lt-leb budget 1000000 (omega (arith, low))) refl; small = omega arith }
+
+kind_spelt : (n kind : ℕ) (start : List ℕ) (log : LogParts) (bytes a : List ℕ) → IsKind kind start → bytes ≡ start ++ a → SpellsBy (counted_text 1048576 (budget_part n kind)) log a → Spells log bytes
+kind_spelt n kind start log bytes a k e h =
+    let source = counted_spelt log 1048576 (budget_part n kind) a h in
+    let b = literal_spelt log (codes "\nbudget ") (field (number (least_budget kind) (most_budget kind)) (events_part n source.text)) source.rest source.follows in
     let budget = b.follows in
-    let b_is : IsNumber 1000000 budget.0 b.rest budget.1 = budget.2 in
-    let c = literal_spelt log (codes "\nevents ") (field (number budget.0) (λ count. literal (codes "\n") (lines n [] count (last_part source.text budget.0)))) budget.1 budget.3 in
+    let b_is : IsNumber (least_budget kind) (most_budget kind) budget.0 b.rest budget.1 = budget.2 in
+    let starts : bytes ≡ beginning budget.0 ++ a = e ∙ ap (λ t. t ++ a) (sym (k.begins budget.0 b_is.large b_is.small)) in
+    let c = literal_spelt log (codes "\nevents ") (field (number 0 budget.0) (λ count. literal (codes "\n") (lines n [] count (last_part source.text budget.0)))) budget.1 budget.3 in
     let count = c.follows in
-    let c_is : IsNumber budget.0 count.0 c.rest count.1 = count.2 in
+    let c_is : IsNumber 0 budget.0 count.0 c.rest count.1 = count.2 in
     let d = literal_spelt log (codes "\n") (lines n [] count.0 (last_part source.text budget.0)) count.1 count.3 in
     let events = lines_spelt log n [] count.0 (last_part source.text budget.0) d.rest d.follows in
     let last : List ℕ → Format LogParts = λ trace. whole (record { source = source.text; budget = budget.0; events = events.events; trace = trace }) in
-    let e = literal_spelt log (codes "trace ") (counted_text 18446744073709551615 last) events.rest events.follows in
-    let trace = counted_spelt log 18446744073709551615 last e.rest e.follows in
+    let t = literal_spelt log (codes "trace ") (counted_text 18446744073709551615 last) events.rest events.follows in
+    let trace = counted_spelt log 18446744073709551615 last t.rest t.follows in
     let made : LogParts = record { source = source.text; budget = budget.0; events = events.events; trace = trace.text } in
     let is_log : made ≡ log = trace.follows.0 in
-    let all : bytes ≡ log_text made = log_is made bytes a.rest source.rest b.rest budget.1 c.rest count.1 d.rest events.rest e.rest trace.rest count.0 a.is source.is b.is b_is.is c.is c_is.is d.is events.is e.is trace.is events.counted trace.follows.1 in
+    let all : bytes ≡ log_text made = log_is made bytes a source.rest b.rest budget.1 c.rest count.1 d.rest events.rest t.rest trace.rest count.0 starts source.is b.is b_is.is c.is c_is.is d.is events.is t.is trace.is events.counted trace.follows.1 in
     let spells : Spells made bytes = record {
       is = all;
       source = source.small;
-      budget = b_is.small;
+      budget = omega (arith, b_is.small, k.small);
       events = omega (arith, c_is.small, events.counted);
       logged = events.logged;
       trace = omega (arith, trace.small);
     } in
     the_log made log bytes is_log spells
+
+pub log_spelt : (n : ℕ) (log : LogParts) (bytes : List ℕ) → SpellsBy (log_fields n) log bytes → Spells log bytes
+unfolding log_fields
+log_spelt n log bytes (zero, a, e, h) = kind_spelt n 0 (codes "joinlog 1\nsource ") log bytes a first e h
+log_spelt n log bytes (suc zero, a, e, h) = kind_spelt n 1 (codes "joinlog 2\nsource ") log bytes a second e.1 h
+log_spelt n log bytes (suc (suc i), a, e, h) = absurd e.1.1

@@ -8,7 +8,7 @@ use Rattle.std.proofs.lemmas.Fmt.{digits_decimal, digits_value-decimal, decimal-
 use Rattle.std.proofs.lemmas.List.{take_at, drop_at, take-append-drop, length-append, length-take}
 use Rattle.std.proofs.lemmas.Str.Parse.{IsNumeralModel, IsDigitsTest, numerals_by_fold}
 use Rattle.trace_text.specs.Fields.{Field, word, number, counted, ValueOf, is_digit, NoDigit, IsWord, IsNumber, IsField, IsNoField}
-use Rattle.trace_text.specs.inside.Reading.{behind, first_word, word_at, value_of, is_numeral}
+use Rattle.trace_text.specs.inside.Reading.{behind, first_word, word_at, value_of, is_between, is_numeral}
 use Rattle.trace_text.specs.inside.Reading.{front}
 
 -- ---- words
@@ -107,44 +107,45 @@ true_both true true e = (refl, refl)
 true_both true false e = cc
 true_both false t e = cc
 
-numeral_of : (most n : ℕ) (ds : List ℕ) → n ≤ most → n < 2 ^ 64 → value_of ds ≡ n → 0 < length ds → (0 < n → 48 < get_or ds 0 0) → (n ≡ 0 → length ds ≡ 1) → is_numeral most ds ≡ true
-numeral_of most n [] small bits is some head alone = absurd (omega arith)
-numeral_of most n (d ∷ ds) small bits is some head alone =
+numeral_of : (low high n : ℕ) (ds : List ℕ) → low ≤ n → n ≤ high → n < 2 ^ 64 → value_of ds ≡ n → 0 < length ds → (0 < n → 48 < get_or ds 0 0) → (n ≡ 0 → length ds ≡ 1) → is_numeral low high ds ≡ true
+numeral_of low high n [] large small bits is some head alone = absurd (omega arith)
+numeral_of low high n (d ∷ ds) large small bits is some head alone =
     elim (cases_lt 0 n) [
       | inl lt ↦
           let above = head lt in
           let not_zero : (d == 48) ≡ false = grind (arith, nat_tests) in
-          rw (not_zero, is) (both_true _ _ (le-leb n most small) (grind (arith, nat_tests)))
+          rw (not_zero, is) bounds
       | inr le ↦
           let one : length ds ≡ 0 = omega (arith, alone (omega arith)) in
           rw (one, is) (go (d == 48))
     ]
   where
-    bounds : (nat_le n most && nat_lt n (2 ^ 64)) ≡ true
-    bounds = both_true _ _ (le-leb n most small) (grind (arith, nat_tests))
+    bounds : is_between low high n ≡ true
+    bounds = both_true _ _ (le-leb low n large) (both_true _ _ (le-leb n high small) (grind (arith, nat_tests)))
 
-    go : (t : Bool) → ((not t || true) && (nat_le n most && nat_lt n (2 ^ 64))) ≡ true
+    go : (t : Bool) → ((not t || true) && is_between low high n) ≡ true
     go true = bounds
     go false = bounds
 
-decimal_is : (most n : ℕ) → n ≤ most → n < 2 ^ 64 → is_numeral most (decimal n) ≡ true
-decimal_is most n small bits = numeral_of most n (decimal n) small bits (digits_value-decimal own n bits) (decimal_nonempty n bits) (λ lt. first_decimal n lt bits) (λ e. rw e (ap length (decimal_digit 0 (omega arith))))
+decimal_is : (low high n : ℕ) → low ≤ n → n ≤ high → n < 2 ^ 64 → is_numeral low high (decimal n) ≡ true
+decimal_is low high n large small bits = numeral_of low high n (decimal n) large small bits (digits_value-decimal own n bits) (decimal_nonempty n bits) (λ lt. first_decimal n lt bits) (λ e. rw e (ap length (decimal_digit 0 (omega arith))))
 
-number_stands : (most n : ℕ) (bytes rest : List ℕ) → IsNumber most n bytes rest → front (number most) bytes ≡ Ok (n, rest)
-number_stands most n bytes rest h =
+number_stands : (low high n : ℕ) (bytes rest : List ℕ) → IsNumber low high n bytes rest → front (number low high) bytes ≡ Ok (n, rest)
+number_stands low high n bytes rest h =
     let run : prefix_len is_digit (decimal n ++ rest) ≡ length (decimal n) = run_is (decimal n) rest (digits_decimal own n h.bits) h.longest in
-    rw h.is (rw (run, take_at (decimal n) rest (length (decimal n)) refl, drop_at (decimal n) rest (length (decimal n)) refl, decimal_is most n h.small h.bits, digits_value-decimal own n h.bits) refl)
+    rw h.is (rw (run, take_at (decimal n) rest (length (decimal n)) refl, drop_at (decimal n) rest (length (decimal n)) refl, decimal_is low high n h.large h.small h.bits, digits_value-decimal own n h.bits) refl)
 
 -- what is a numeral is a number of 64 bits in decimal
-numeral_is : (most : ℕ) (ds : List ℕ) → Digits ds → is_numeral most ds ≡ true → (value_of ds ≤ most) × (value_of ds < 2 ^ 64) × (decimal (value_of ds) ≡ ds)
-numeral_is most [] digits e = cc
-numeral_is most (d ∷ ds) digits e =
+numeral_is : (low high : ℕ) (ds : List ℕ) → Digits ds → is_numeral low high ds ≡ true → (low ≤ value_of ds) × (value_of ds ≤ high) × (value_of ds < 2 ^ 64) × (decimal (value_of ds) ≡ ds)
+numeral_is low high [] digits e = cc
+numeral_is low high (d ∷ ds) digits e =
     let p = true_both _ _ e in
     let q = true_both _ _ p.1 in
-    let bits : value_of (d ∷ ds) < 2 ^ 64 = grind (arith, nat_tests, q.1) in
+    let r = true_both _ _ q.1 in
+    let bits : value_of (d ∷ ds) < 2 ^ 64 = grind (arith, nat_tests, r.1) in
     let alone : d ≡ 48 → length (d ∷ ds) ≡ 1 = λ zero_first. lone d ds zero_first p.0 in
     let some : 0 < length (d ∷ ds) = omega arith in
-    (leb-true _ _ q.0, bits, decimal-digits_value own (d ∷ ds) digits some alone bits)
+    (leb-true _ _ q.0, leb-true _ _ r.0, bits, decimal-digits_value own (d ∷ ds) digits some alone bits)
   where
     lone : (d : ℕ) (ds : List ℕ) → d ≡ 48 → (not (d == 48) || length ds == 0) ≡ true → length (d ∷ ds) ≡ 1
     lone d [] first e = refl
@@ -154,20 +155,20 @@ numeral_is most (d ∷ ds) digits e =
         let off : (not (d == 48) || length (x ∷ ds) == 0) ≡ false = rw (head, long) refl in
         cc
 
-number_front : (most : ℕ) (bytes : List ℕ) → ((n : ℕ) × (rest : List ℕ) × IsNumber most n bytes rest) ⊎ (front (number most) bytes ≡ Err (length bytes))
-number_front most bytes = go (is_numeral most (take run bytes)) refl
+number_front : (low high : ℕ) (bytes : List ℕ) → ((n : ℕ) × (rest : List ℕ) × IsNumber low high n bytes rest) ⊎ (front (number low high) bytes ≡ Err (length bytes))
+number_front low high bytes = go (is_numeral low high (take run bytes)) refl
   where
     run : ℕ
     run = prefix_len is_digit bytes
 
-    go : (t : Bool) → is_numeral most (take (prefix_len is_digit bytes) bytes) ≡ t → ((n : ℕ) × (rest : List ℕ) × IsNumber most n bytes rest) ⊎ (front (number most) bytes ≡ Err (length bytes))
+    go : (t : Bool) → is_numeral low high (take (prefix_len is_digit bytes) bytes) ≡ t → ((n : ℕ) × (rest : List ℕ) × IsNumber low high n bytes rest) ⊎ (front (number low high) bytes ≡ Err (length bytes))
     go true is =
         let d = run_digits bytes in
-        let p = numeral_is most (take (prefix_len is_digit bytes) bytes) d.0 is in
+        let p = numeral_is low high (take (prefix_len is_digit bytes) bytes) d.0 is in
         inl (
           value_of (take (prefix_len is_digit bytes) bytes),
           drop (prefix_len is_digit bytes) bytes,
-          record { small = p.0; bits = p.1; is = rw p.2 (sym (take-append-drop (prefix_len is_digit bytes) bytes)); longest = d.1 },
+          record { large = p.0; small = p.1; bits = p.2; is = rw p.3 (sym (take-append-drop (prefix_len is_digit bytes) bytes)); longest = d.1 },
         )
     go false is = inr (rw is refl)
 
@@ -176,7 +177,7 @@ number_front most bytes = go (is_numeral most (take run bytes)) refl
 -- where a field stands it is read
 pub stands : (f : Field) (value : ValueOf f) (bytes rest : List ℕ) → IsField f value bytes rest → front f bytes ≡ Ok (value, rest)
 stands (word words) i bytes rest h = word_stands words i bytes rest h
-stands (number most) n bytes rest h = number_stands most n bytes rest h
+stands (number low high) n bytes rest h = number_stands low high n bytes rest h
 stands (counted n) text bytes rest h =
     let long : leb n (length (text ++ rest)) ≡ true = le-leb _ _ (omega (arith, length-append text rest, h.0)) in
     rw h.1 (rw (long, take_at text rest n h.0, drop_at text rest n h.0) refl)
@@ -184,7 +185,7 @@ stands (counted n) text bytes rest h =
 -- a field stands at the front, or reading it fails
 pub stands_or_not : (f : Field) (bytes : List ℕ) → ((value : ValueOf f) × (rest : List ℕ) × IsField f value bytes rest) ⊎ (front f bytes ≡ Err (length bytes))
 stands_or_not (word words) bytes = word_front words bytes
-stands_or_not (number most) bytes = number_front most bytes
+stands_or_not (number low high) bytes = number_front low high bytes
 stands_or_not (counted n) bytes =
     elim (cases_lt (length bytes) n) [
       | inl lt ↦ inr (rw (lt-leb _ _ lt) refl)
@@ -213,5 +214,5 @@ word_shorter (w ∷ words) (suc i) bytes rest h = word_shorter words i bytes res
 -- what is behind a field is no longer
 pub shorter : (f : Field) (value : ValueOf f) (bytes rest : List ℕ) → IsField f value bytes rest → length rest ≤ length bytes
 shorter (word words) i bytes rest h = word_shorter words i bytes rest h
-shorter (number most) n bytes rest h = omega (arith, ap length h.is, length-append (decimal n) rest)
+shorter (number low high) n bytes rest h = omega (arith, ap length h.is, length-append (decimal n) rest)
 shorter (counted n) text bytes rest h = omega (arith, ap length h.1, length-append text rest)

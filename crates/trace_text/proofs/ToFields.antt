@@ -1,15 +1,16 @@
 -- A log's text is spelled by the fields of a log, where no reaction takes too many atoms.
-use Rattle.std.proofs.Common.{◌≡◌, ◌≢◌, ℕ, zero, suc, ◌+◌, ◌<◌, ◌≤◌, ◌^◌, List, [], ◌∷◌, ◌++◌, length, codes, refl, sym, ap, subst, ◌∙◌, append-nil, append_assoc, arith}
+use Rattle.std.proofs.Common.{◌≡◌, ◌≢◌, ℕ, zero, suc, ◌+◌, ◌<◌, ◌≤◌, ◌^◌, List, [], ◌∷◌, ◌++◌, length, codes, drop, refl, sym, ap, subst, ◌∙◌, append-nil, append_assoc, arith, cond, inl, inr}
+use Rattle.std.proofs.lemmas.Bool.{cases_lt, le-leb, lt-leb}
 use Rattle.std.specs.Prelude.{decimal}
 use Rattle.std.proofs.lemmas.List.{length-append}
 use Rattle.chem_model.specs.declared.event.AtomId.{AtomId}
 use Rattle.chem_model.specs.declared.event.Event.{Event}
 use Rattle.chem_model.specs.declared.event.Event.TheVariants.{React, Move, Halt, Detect}
 use Rattle.chem_model.specs.Each.{Each}
-use Rattle.trace_text.specs.LogText.{LogParts, IsAtom, IsLogged, Spells, pair_text, atoms_text, event_text, events_text, log_text}
+use Rattle.trace_text.specs.LogText.{LogParts, IsAtom, IsLogged, Spells, pair_text, atoms_text, event_text, events_text, beginning, log_text}
 use Rattle.trace_text.proofs.Pieces.{three, four, last_five, log_cut}
-use Rattle.trace_text.specs.Fields.{Format, whole, NoDigit, IsNumber, SpellsBy}
-use Rattle.trace_text.specs.LogFields.{literal, pair, further, taken, one_pair, event_line, lines, counted_text, last_part, events_part, budget_part, log_fields}
+use Rattle.trace_text.specs.Fields.{Format, whole, NoDigit, IsWord, IsNumber, SpellsBy}
+use Rattle.trace_text.specs.LogFields.{literal, pair, further, taken, one_pair, event_line, lines, counted_text, last_part, events_part, beginnings, least_budget, most_budget, budget_part, log_fields}
 
 pair_cut : (bytes a b c rest : List ℕ) → bytes ≡ (a ++ b ++ c) ++ rest → bytes ≡ a ++ (b ++ (c ++ rest))
 pair_cut bytes a b c rest e = e ∙ three a b c rest
@@ -52,7 +53,7 @@ part_fits n bytes front text rest e le = omega (arith, le, ap length e, length-a
 
 log_fits : (log : LogParts) (bytes : List ℕ) (n : ℕ) → bytes ≡ log_text log → length bytes ≤ n → length (events_text log.events) ≤ n
 log_fits log bytes n e le =
-    let front : List ℕ = codes "joinlog 1\nsource " ++ decimal (length log.source) ++ codes "\n" ++ log.source ++ codes "\nbudget " ++ decimal log.budget ++ codes "\nevents " ++ decimal (length log.events) ++ codes "\n" in
+    let front : List ℕ = beginning log.budget ++ decimal (length log.source) ++ codes "\n" ++ log.source ++ codes "\nbudget " ++ decimal log.budget ++ codes "\nevents " ++ decimal (length log.events) ++ codes "\n" in
     part_fits n bytes front (events_text log.events) (codes "trace " ++ (decimal (length log.trace) ++ (codes "\n" ++ log.trace))) (e ∙ last_five front (events_text log.events) (codes "trace ") (decimal (length log.trace)) (codes "\n") log.trace) le
 
 -- ---- parts
@@ -71,8 +72,8 @@ module _ {A : Type 0} (y : A) where
   pair_spells : (next : AtomId → Format A) (a : AtomId) (bytes rest : List ℕ) → IsAtom a → NoDigit rest → bytes ≡ pair_text a.site a.k ++ rest → SpellsBy (next a) y rest → SpellsBy (pair next) y bytes
   pair_spells next a bytes rest bounded no_digit e h =
       let behind_point : List ℕ = decimal a.k ++ rest in
-      let k_is : IsNumber 18446744073709551615 a.k behind_point rest = record { small = omega (arith, bounded.1); bits = bounded.1; is = refl; longest = no_digit } in
-      let site_is : IsNumber 4294967295 a.site bytes (codes "." ++ behind_point) = record { small = omega (arith, bounded.0); bits = omega (arith, bounded.0); is = pair_cut bytes (decimal a.site) (codes ".") (decimal a.k) rest e; longest = refl } in
+      let k_is : IsNumber 0 18446744073709551615 a.k behind_point rest = record { large = omega arith; small = omega (arith, bounded.1); bits = bounded.1; is = refl; longest = no_digit } in
+      let site_is : IsNumber 0 4294967295 a.site bytes (codes "." ++ behind_point) = record { large = omega arith; small = omega (arith, bounded.0); bits = omega (arith, bounded.0); is = pair_cut bytes (decimal a.site) (codes ".") (decimal a.k) rest e; longest = refl } in
       (a.site, codes "." ++ behind_point, site_is, (0, behind_point, refl, (a.k, rest, k_is, h)))
 
   no_digit_behind : (more : List AtomId) (rest : List ℕ) → NoDigit (atoms_text more ++ (codes "\n" ++ rest))
@@ -137,8 +138,28 @@ module _ {A : Type 0} (y : A) where
   counted_spells : (most : ℕ) (next : List ℕ → Format A) (text bytes rest : List ℕ) → length text ≤ most → length text < 2 ^ 64
       → bytes ≡ decimal (length text) ++ (codes "\n" ++ (text ++ rest)) → SpellsBy (next text) y rest → SpellsBy (counted_text most next) y bytes
   counted_spells most next text bytes rest small bits e h =
-      let count_is : IsNumber most (length text) bytes (codes "\n" ++ (text ++ rest)) = record { small = small; bits = bits; is = e; longest = refl } in
+      let count_is : IsNumber 0 most (length text) bytes (codes "\n" ++ (text ++ rest)) = record { large = omega arith; small = small; bits = bits; is = e; longest = refl } in
       (length text, codes "\n" ++ (text ++ rest), count_is, (0, text ++ rest, refl, (text, rest, (refl, refl), h)))
+
+-- the kind of a log whose budget is this, with what is behind its beginning
+record IsBegun (budget : ℕ) (bytes rest : List ℕ) : Type 0 where
+  kind : ℕ
+  word : IsWord beginnings kind bytes rest
+  large : least_budget kind ≤ budget
+  small : budget ≤ most_budget kind
+
+begun : (budget : ℕ) (bytes rest : List ℕ) → budget ≤ 4000000 → bytes ≡ beginning budget ++ rest → IsBegun budget bytes rest
+unfolding beginning
+begun budget bytes rest most e =
+    elim (cases_lt 1000000 budget) [
+      | inl lt ↦
+          let text : bytes ≡ codes "joinlog 2\nsource " ++ rest = rw (sym (ap (λ t. cond t (codes "joinlog 1\nsource ") (codes "joinlog 2\nsource ") ++ rest) (lt-leb budget 1000000 lt))) e in
+          let other : (later : List ℕ) → bytes ≢ codes "joinlog 1\nsource " ++ later = λ later g. unlike 50 49 (codes "\nsource " ++ rest) (codes "\nsource " ++ later) (drop 8 bytes) (λ s. omega (arith, s)) (ap (drop 8) text) (ap (drop 8) g) in
+          record { kind = 1; word = (other, text); large = omega (arith, lt); small = most }
+      | inr le ↦
+          let text : bytes ≡ codes "joinlog 1\nsource " ++ rest = rw (sym (ap (λ t. cond t (codes "joinlog 1\nsource ") (codes "joinlog 2\nsource ") ++ rest) (le-leb budget 1000000 le))) e in
+          record { kind = 0; word = text; large = omega arith; small = le }
+    ]
 
 pub log_spells : (n : ℕ) (log : LogParts) (bytes : List ℕ) → Spells log bytes → length bytes ≤ n → SpellsBy (log_fields n) log bytes
 unfolding log_fields
@@ -152,13 +173,13 @@ log_spells n log bytes h le =
     let r3 : List ℕ = decimal log.budget ++ r4 in
     let r2 : List ℕ = codes "\nbudget " ++ r3 in
     let r1 : List ℕ = decimal (length log.source) ++ (codes "\n" ++ (log.source ++ r2)) in
-    let text : bytes ≡ codes "joinlog 1\nsource " ++ r1 = h.is ∙ log_cut log in
+    let b = begun log.budget bytes r1 h.budget (h.is ∙ log_cut log) in
     let few : Each (Few n) log.events = events_fit n log.events (log_fits log bytes n h.is le) in
     let last : List ℕ → Format LogParts = λ trace. whole (record { source = log.source; budget = log.budget; events = log.events; trace = trace }) in
     let trace_spelled = counted_spells log 18446744073709551615 last log.trace r9 [] (omega (arith, h.trace)) h.trace (ap (λ t. decimal (length log.trace) ++ (codes "\n" ++ t)) (sym (append-nil log.trace))) (refl, refl) in
     let lines_spelled = lines_spells log n [] log.events (last_part log.source log.budget) r7 r8 h.logged few refl (literal_spells log (codes "trace ") (counted_text 18446744073709551615 last) r8 r9 refl trace_spelled) in
-    let count_is : IsNumber log.budget (length log.events) r5 r6 = record { small = h.events; bits = omega (arith, h.events, h.budget); is = refl; longest = refl } in
-    let budget_is : IsNumber 1000000 log.budget r3 r4 = record { small = h.budget; bits = omega (arith, h.budget); is = refl; longest = refl } in
+    let count_is : IsNumber 0 log.budget (length log.events) r5 r6 = record { large = omega arith; small = h.events; bits = omega (arith, h.events, h.budget); is = refl; longest = refl } in
+    let budget_is : IsNumber (least_budget b.kind) (most_budget b.kind) log.budget r3 r4 = record { large = b.large; small = b.small; bits = omega (arith, h.budget); is = refl; longest = refl } in
     let events_spelled : SpellsBy (events_part n log.source log.budget) log r4 = (0, r5, refl, (length log.events, r6, count_is, (0, r7, refl, lines_spelled))) in
-    let budget_spelled : SpellsBy (budget_part n log.source) log r2 = (0, r3, refl, (log.budget, r4, budget_is, events_spelled)) in
-    literal_spells log (codes "joinlog 1\nsource ") (counted_text 1048576 (budget_part n)) bytes r1 text (counted_spells log 1048576 (budget_part n) log.source r1 r2 h.source (omega (arith, h.source)) refl budget_spelled)
+    let budget_spelled : SpellsBy (budget_part n b.kind log.source) log r2 = (0, r3, refl, (log.budget, r4, budget_is, events_spelled)) in
+    (b.kind, r1, b.word, counted_spells log 1048576 (budget_part n b.kind) log.source r1 r2 h.source (omega (arith, h.source)) refl budget_spelled)

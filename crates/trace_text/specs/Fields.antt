@@ -3,16 +3,16 @@
 use Rattle.std.specs.Prelude.{◌≡◌, ◌≢◌, ◌⊎◌, ℕ, zero, suc, ◌+◌, ◌<◌, ◌≤◌, ◌^◌, nat_le, decimal}
 use Rattle.std.specs.Prelude.{List, [], ◌∷◌, ◌++◌, length, Bool, false, ◌&&◌}
 
--- A field is one of these words, a number that is at most this, or so many bytes.
+-- A field is one of these words, a number from low to high, or so many bytes.
 pub data Field : Type 0 where
   word : List (List ℕ) → Field
-  number : ℕ → Field
+  number : (low high : ℕ) → Field
   counted : ℕ → Field
 
 -- what a field says: which of the words it is, from 0; the number; the bytes
 abbrev pub ValueOf : Field → Type 0
 ValueOf (word words) = ℕ
-ValueOf (number most) = ℕ
+ValueOf (number low high) = ℕ
 ValueOf (counted count) = List ℕ
 
 abbrev pub is_digit : ℕ → Bool
@@ -32,8 +32,9 @@ IsWord (w ∷ words) (suc i) bytes rest =
 
 -- a number of 64 bits in decimal, without leading zeros, and behind it a rest that begins with no
 -- digit: so it is the longest run of digits
-pub record IsNumber (most n : ℕ) (bytes rest : List ℕ) : Type 0 where
-  pub small : n ≤ most
+pub record IsNumber (low high n : ℕ) (bytes rest : List ℕ) : Type 0 where
+  pub large : low ≤ n
+  pub small : n ≤ high
   pub bits : n < 2 ^ 64
   pub is : bytes ≡ decimal n ++ rest
   pub longest : NoDigit rest
@@ -41,7 +42,7 @@ pub record IsNumber (most n : ℕ) (bytes rest : List ℕ) : Type 0 where
 -- at the front of the bytes the field stands with this value, and the rest behind it
 abbrev pub IsField : (f : Field) → ValueOf f → List ℕ → List ℕ → Type 0
 IsField (word words) i bytes rest = IsWord words i bytes rest
-IsField (number most) n bytes rest = IsNumber most n bytes rest
+IsField (number low high) n bytes rest = IsNumber low high n bytes rest
 IsField (counted count) text bytes rest = (length text ≡ count) × (bytes ≡ text ++ rest)
 
 -- the field doesn't stand at the front of the bytes: they differ from it, or end within it

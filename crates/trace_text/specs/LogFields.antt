@@ -15,9 +15,9 @@ literal text next = field (word (text ∷ [])) (λ _. next)
 -- a pair: its site, and its number there
 abbrev pub pair : {A : Type 0} → (AtomId → Format A) → Format A
 pair next =
-    field (number 4294967295) (λ site.
+    field (number 0 4294967295) (λ site.
     literal (codes ".") (
-    field (number 18446744073709551615) (λ k.
+    field (number 0 18446744073709551615) (λ k.
     next (record { site = site; k = k }))))
 
 -- the format behind a space, or the one behind a line feed
@@ -74,7 +74,7 @@ lines n front (suc count) next =
 -- bytes behind their length, which is at most this
 abbrev pub counted_text : {A : Type 0} → ℕ → (List ℕ → Format A) → Format A
 counted_text most next =
-    field (number most) (λ count.
+    field (number 0 most) (λ count.
     literal (codes "\n") (
     field (counted count) next))
 
@@ -87,21 +87,33 @@ last_part source budget events =
 abbrev pub events_part : ℕ → List ℕ → ℕ → Format LogParts
 events_part n source budget =
     literal (codes "\nevents ") (
-    field (number budget) (λ count.
+    field (number 0 budget) (λ count.
     literal (codes "\n") (
     lines n [] count (last_part source budget))))
 
-abbrev pub budget_part : ℕ → List ℕ → Format LogParts
-budget_part n source =
+-- The table of kinds: how a log of each begins, and its least and largest budget.
+abbrev pub beginnings : List (List ℕ)
+beginnings = codes "joinlog 1\nsource " ∷ codes "joinlog 2\nsource " ∷ []
+
+abbrev pub least_budget : ℕ → ℕ
+least_budget zero = 0
+least_budget (suc _) = 1000001
+
+abbrev pub most_budget : ℕ → ℕ
+most_budget zero = 1000000
+most_budget (suc _) = 4000000
+
+abbrev pub budget_part : ℕ → ℕ → List ℕ → Format LogParts
+budget_part n kind source =
     literal (codes "\nbudget ") (
-    field (number 1000000) (events_part n source))
+    field (number (least_budget kind) (most_budget kind)) (events_part n source))
 
 -- A log in which each reaction takes at most so many atoms behind its first one: a format ends, so
 -- it has such a bound.
 unfoldable pub log_fields : ℕ → Format LogParts
 log_fields n =
-    literal (codes "joinlog 1\nsource ") (
-    counted_text 1048576 (budget_part n))
+    field (word beginnings) (λ kind.
+    counted_text 1048576 (budget_part n kind))
 
 -- The first field at which these bytes are no log begins at this place. No reaction takes more
 -- atoms than there are bytes.

@@ -1,5 +1,6 @@
 -- The log of a run: fields in this order, each written in one way.
 use Rattle.std.specs.Prelude.{◌≡◌, ℕ, ◌<◌, ◌≤◌, ◌^◌, List, [], ◌∷◌, ◌++◌, length, codes, decimal}
+use Rattle.std.specs.Prelude.{cond, nat_le}
 use Rattle.chem_model.specs.declared.event.AtomId.{AtomId}
 use Rattle.chem_model.specs.declared.event.Event.{Event}
 use Rattle.chem_model.specs.declared.event.Event.TheVariants.{React, Move, Halt, Detect}
@@ -31,9 +32,14 @@ abbrev pub events_text : List Event → List ℕ
 events_text [] = []
 events_text (e ∷ events) = event_text e ++ events_text events
 
+-- how a log begins: there are two kinds, and the second has the budgets above 1,000,000
+unfoldable pub beginning : ℕ → List ℕ
+beginning budget =
+    cond (nat_le budget 1000000) (codes "joinlog 1\nsource ") (codes "joinlog 2\nsource ")
+
 abbrev pub log_text : LogParts → List ℕ
 log_text log =
-    codes "joinlog 1\nsource " ++ decimal (length log.source) ++ codes "\n" ++ log.source
+    beginning log.budget ++ decimal (length log.source) ++ codes "\n" ++ log.source
     ++ codes "\nbudget " ++ decimal log.budget
     ++ codes "\nevents " ++ decimal (length log.events) ++ codes "\n" ++ events_text log.events
     ++ codes "trace " ++ decimal (length log.trace) ++ codes "\n" ++ log.trace
@@ -56,7 +62,7 @@ IsLogged (Detect a) = IsAtom a
 pub record Spells (log : LogParts) (bytes : List ℕ) : Type 0 where
   pub is : bytes ≡ log_text log
   pub source : length log.source ≤ 1048576
-  pub budget : log.budget ≤ 1000000
+  pub budget : log.budget ≤ 4000000
   pub events : length log.events ≤ log.budget
   pub logged : Each IsLogged log.events
   pub trace : length log.trace < 2 ^ 64

@@ -26,17 +26,19 @@ abbrev pub binder_spelling : ProgramTerms → Option ℕ → List ℕ
 binder_spelling p None = []
 binder_spelling p (Some b) = slice_index_or p.spell b []
 
--- ---- ranks: observed and site-level names have none
+-- ---- ranks: observed and site-level names, and numbers, have none
 
 abbrev pub is_inner : ProgramTerms → Option ℕ → Bool
 is_inner p None = false
 is_inner p (Some b) = not (nat_lt b p.tops)
 
--- a name that is neither observed nor site-level
+-- a name that was made, and for no site-level binder
 abbrev pub is_ranked : ProgramTerms → Naming → Name → Bool
 is_ranked p named (name.Seen i) = false
 is_ranked p named (name.Place a) = is_inner p (binder_in named (name.Place a))
 is_ranked p named (name.Chan s k h) = is_inner p (binder_in named (name.Chan s k h))
+is_ranked p named (name.Num n) = false
+is_ranked p named (name.Op i) = false
 
 -- whether a name is among these
 abbrev pub is_among : List Name → Name → Bool
@@ -75,6 +77,8 @@ abbrev pub name_text : ProgramTerms → Naming → List Name → Name → List �
 name_text p named ranks (name.Seen i) = seen_spelling p.seen i
 name_text p named ranks (name.Place a) = made_text p named ranks (name.Place a)
 name_text p named ranks (name.Chan s k h) = made_text p named ranks (name.Chan s k h)
+name_text p named ranks (name.Num n) = decimal n
+name_text p named ranks (name.Op i) = []
 
 -- names, joined by a comma and a space
 abbrev pub names_text : ProgramTerms → Naming → List Name → List Name → List ℕ

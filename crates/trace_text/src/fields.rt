@@ -47,30 +47,30 @@ fn value_of(digits: &[u8]) -> u128
     value
 }
 
-/// The number that digits are, where it has no leading zero and is at most this.
-fn numeral(digits: &[u8], most: u64) -> Option<u64>
-    ensures some { IfSome result (λ n. is_numeral most digits.now ≡ true) }
+/// The number that digits are, where it has no leading zero and is from `low` to `high`.
+fn numeral(digits: &[u8], low: u64, high: u64) -> Option<u64>
+    ensures some { IfSome result (λ n. is_numeral low high digits.now ≡ true) }
     ensures value { IfSome result (λ n. n ≡ value_of digits.now) }
-    ensures none { IfNone result (is_numeral most digits.now ≡ false) }
+    ensures none { IfNone result (is_numeral low high digits.now ≡ false) }
 {
     if let [] | [b'0', _, ..] = digits {
         return None;
     }
     let value = value_of(digits);
-    if value > most as u128 {
+    if value < low as u128 || value > high as u128 {
         return None;
     }
     Some(value as u64)
 }
 
-/// A number that is at most this: the longest run of digits at the front.
-pub(crate) fn number_at(bytes: &[u8], most: u64) -> Result<(u64, &[u8]), Fault>
-    ensures is { Gives (λ x. (x.0, x.1.now)) result (front (number most) bytes.now) }
-    ensures most { IfOk result (λ x. x.0 ≤ most) }
+/// A number from `low` to `high`: the longest run of digits at the front.
+pub(crate) fn number_at(bytes: &[u8], low: u64, high: u64) -> Result<(u64, &[u8]), Fault>
+    ensures is { Gives (λ x. (x.0, x.1.now)) result (front (number low high) bytes.now) }
+    ensures most { IfOk result (λ x. x.0 ≤ high) }
     ensures shorter { IfOk result (λ x. length x.1.now < length bytes.now) }
 {
     let (digits, rest) = bytes.split_at(digits_len(bytes));
-    let Some(number) = numeral(digits, most) else {
+    let Some(number) = numeral(digits, low, high) else {
         return Err(Fault::Wrong { left: bytes.len() });
     };
     Ok((number, rest))

@@ -1,7 +1,9 @@
+// The log of a run: the source, the budget, the events and the trace.
 ghost use Rattle.std.specs.Prelude.{◌≡◌, ◌≤◌, ◌++◌, length, codes, decimal, IfOk, OnOk};
 ghost use Rattle.chem_model.specs.Each.{Each};
 ghost use Rattle.trace_text.specs.LogText.{LogParts, HasOneSpelling, IsPair, IsAtom, pair_text};
-ghost use Rattle.trace_text.specs.LogText.{atoms_text, event_text, events_text, log_text};
+ghost use Rattle.trace_text.specs.LogText.{atoms_text, event_text, events_text, beginning};
+ghost use Rattle.trace_text.specs.LogText.{log_text};
 ghost use Rattle.trace_text.specs.Bounds.{IsBounded};
 ghost use Rattle.trace_text.specs.inside.Bounds.{TakesSome};
 ghost use Rattle.trace_text.specs.Printed.{IsLogOf};
@@ -26,7 +28,7 @@ pub fn log_bytes(
     ending: Ending,
 ) -> Result<Text, Memory>
     requires source { length source.now ≤ 1048576 }
-    requires budget { budget ≤ 1000000 }
+    requires budget { budget ≤ 4000000 }
     requires events { length book.now.journal ≤ budget }
     ensures { IfOk result (λ text. IsLogOf source.now budget book.now ending text) }
 {
@@ -64,7 +66,7 @@ pub fn log_of_parts(
     ensures bounded { OnOk result (Each IsBounded journal.now) }
 {
     let mut text = Items::new(alloc);
-    push_counted(&mut text, b"joinlog 1\nsource ", source)?;
+    push_counted(&mut text, beginning(budget), source)?;
     push_field(&mut text, b"\nbudget ", budget as u64)?;
     push_field(&mut text, b"\nevents ", journal.len() as u64)?;
     push_all(&mut text, b"\n")?;
@@ -77,6 +79,18 @@ pub fn log_of_parts(
 pub fn one_spelling()
     ensures { (log : LogParts) → HasOneSpelling log }
 {}
+
+/// How the log of a run with this budget begins.
+#[tactic(auto, unfolding(crate::specs::LogText::beginning))]
+fn beginning(budget: u32) -> &'static [u8]
+    ensures { result.now ≡ beginning budget }
+{
+    if budget > 1_000_000 {
+        b"joinlog 2\nsource "
+    } else {
+        b"joinlog 1\nsource "
+    }
+}
 
 /// Appends a literal, and a number behind it.
 fn push_field(text: &mut Text, literal: &[u8], number: u64) -> Result<(), Memory>

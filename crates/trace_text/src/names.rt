@@ -30,12 +30,12 @@ pub(crate) fn binder_spelling(program: &Program, binder: Option<u32>) -> &[u8]
     }
 }
 
-/// Whether a name has a rank: it is neither observed nor site-level.
+/// Whether a name has a rank: it was made, and for no site-level binder.
 pub(crate) fn is_ranked(program: &Program, binders: &Binders, name: Name) -> bool
     ensures { result ≡ is_ranked program.now binders.now name }
 {
     match name {
-        Name::Seen(_) => false,
+        Name::Seen(_) | Name::Num(_) | Name::Op(_) => false,
         Name::Place(_) | Name::Chan { .. } => match binders.get(name) {
             Some(binder) => binder >= program.tops,
             None => false,

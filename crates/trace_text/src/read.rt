@@ -3,11 +3,12 @@ ghost use Rattle.std.specs.Prelude.{◌≡◌, ◌≤◌, ◌<◌, ◌↔◌, []
 ghost use Rattle.trace_text.specs.declared.fault.LogEnd.TheVariants as end;
 ghost use Rattle.trace_text.specs.declared.read.Log.{Log};
 ghost use Rattle.trace_text.specs.LogText.{LogParts, Spells};
-ghost use Rattle.trace_text.specs.Fields.{SpellsBy, word};
+ghost use Rattle.trace_text.specs.Fields.{SpellsBy, word, number};
 ghost use Rattle.trace_text.specs.LogFields.{WrongAt, HasOneOutcome, log_fields, event_words, pair};
 ghost use Rattle.trace_text.specs.LogFields.{one_pair, taken, event_line, lines, counted_text};
+ghost use Rattle.trace_text.specs.LogFields.{beginnings, least_budget, most_budget};
 ghost use Rattle.trace_text.specs.ReadLog.{parts, NamesWrong, IsOrMemory};
-ghost use Rattle.trace_text.specs.inside.ReadLog.{index};
+ghost use Rattle.trace_text.specs.inside.ReadLog.{index, kind_index};
 ghost use Rattle.trace_text.specs.inside.Reading.{Gives, Reads, front, read, ended};
 
 use crate::fault::{Fault, LogEnd};
@@ -66,14 +67,48 @@ fn word_of(bytes: &[u8]) -> Result<(Word, &[u8]), Fault>
     Err(Fault::Wrong { left: bytes.len() })
 }
 
+/// The kind of a log, with which it begins: by how large its budget is.
+#[derive(Clone, Copy, PartialEq, Eq, Debug)]
+pub enum Kind {
+    First,
+    Second,
+}
+
+fn kind_of(bytes: &[u8]) -> Result<(Kind, &[u8]), Fault>
+    ensures is { Gives (λ x. (kind_index x.0, x.1.now)) result
+        (front (word beginnings) bytes.now) }
+    ensures shorter { IfOk result (λ x. length x.1.now ≤ length bytes.now) }
+{
+    if let Some(rest) = behind(bytes, b"joinlog 1\nsource ") {
+        return Ok((Kind::First, rest));
+    }
+    if let Some(rest) = behind(bytes, b"joinlog 2\nsource ") {
+        return Ok((Kind::Second, rest));
+    }
+    Err(Fault::Wrong { left: bytes.len() })
+}
+
+/// The budget of a log of this kind.
+fn budget_of(kind: Kind, bytes: &[u8]) -> Result<(u64, &[u8]), Fault>
+    ensures is { Gives (λ x. (x.0, x.1.now)) result (front
+        (number (least_budget (kind_index kind)) (most_budget (kind_index kind))) bytes.now) }
+    ensures most { IfOk result (λ x. x.0 ≤ 4000000) }
+    ensures shorter { IfOk result (λ x. length x.1.now ≤ length bytes.now) }
+{
+    match kind {
+        Kind::First => number_at(bytes, 0, 1_000_000),
+        Kind::Second => number_at(bytes, 1_000_001, 4_000_000),
+    }
+}
+
 /// A pair: its site, and its number there.
 fn pair_of(bytes: &[u8]) -> Result<(AtomId, &[u8]), Fault>
     ensures reads { Reads {Z = LogParts} (λ x. x.0) (λ x. x.1.now) pair bytes.now result }
     ensures shorter { IfOk result (λ x. length x.1.now < length bytes.now) }
 {
-    let (site, rest) = number_at(bytes, u32::MAX as u64)?;
+    let (site, rest) = number_at(bytes, 0, u32::MAX as u64)?;
     let rest = literal_at(rest, b".")?;
-    let (k, rest) = number_at(rest, u64::MAX)?;
+    let (k, rest) = number_at(rest, 0, u64::MAX)?;
     let site = site as u32;
     Ok((AtomId { site, k }, rest))
 }
@@ -158,7 +193,7 @@ fn counted_text(bytes: &[u8], most: u64) -> Result<(&[u8], &[u8]), Fault>
         (counted_text most) bytes.now result }
     ensures shorter { IfOk result (λ x. length x.1.now ≤ length bytes.now) }
 {
-    let (count, rest) = number_at(bytes, most)?;
+    let (count, rest) = number_at(bytes, 0, most)?;
     let rest = literal_at(rest, b"\n")?;
     counted_at(rest, count)
 }
@@ -177,12 +212,12 @@ fn ended(rest: &[u8]) -> Result<(), Fault>
 fn log_of(alloc: Global, bytes: &[u8]) -> Result<Log, Fault>
     ensures { Gives parts result (read (log_fields (length bytes.now)) bytes.now) }
 {
-    let rest = literal_at(bytes, b"joinlog 1\nsource ")?;
+    let (kind, rest) = kind_of(bytes)?;
     let (source, rest) = counted_text(rest, 1_048_576)?;
     let rest = literal_at(rest, b"\nbudget ")?;
-    let (budget, rest) = number_at(rest, 1_000_000)?;
+    let (budget, rest) = budget_of(kind, rest)?;
     let rest = literal_at(rest, b"\nevents ")?;
-    let (count, rest) = number_at(rest, budget)?;
+    let (count, rest) = number_at(rest, 0, budget)?;
     let rest = literal_at(rest, b"\n")?;
     let (events, rest) = lines_of(alloc, count, rest)?;
     let rest = literal_at(rest, b"trace ")?;

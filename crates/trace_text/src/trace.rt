@@ -1,3 +1,4 @@
+// The trace of a run as a text, a line an observable.
 ghost use Rattle.std.specs.Prelude.{◌≡◌, ◌+◌, ◌++◌, codes, decimal, IfOk, OnOk, OnErr};
 ghost use Rattle.trace_text.specs.TraceText.{place_in, name_text, made_text, names_text};
 ghost use Rattle.trace_text.specs.TraceText.{out_text, outs_text, ending_text, trace_text};
@@ -16,7 +17,8 @@ use trace_history::Book;
 ///
 /// A line is the observed name's spelling and, in round brackets, the arguments joined by a comma
 /// and a space. Observed and site-level names are written by their spelling. Any other name has `'`
-/// and its rank behind it, which counts such names from 1 by first appearance in the trace.
+/// and its rank behind it, which counts such names from 1 by first appearance in the trace. A
+/// number is written in decimal, without leading zeros.
 pub fn trace_bytes(alloc: Global, book: &Book, ending: Ending) -> Result<Text, Memory>
     ensures { IfOk result (λ text. IsTraceOf book.now ending text) }
 {
@@ -168,6 +170,9 @@ fn push_name(
     match name {
         Name::Seen(declaration) => push_all(text, seen_spelling(program, declaration)),
         Name::Place(_) | Name::Chan { .. } => push_made(text, program, binders, ranks, name),
+        Name::Num(number) => push_number(text, number),
+        // An operation is no argument, so it is in no trace.
+        Name::Op(_) => Ok(()),
     }
 }
 

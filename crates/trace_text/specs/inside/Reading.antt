@@ -33,23 +33,26 @@ word_at (w ∷ words) bytes = first_word (behind w bytes) (word_at words bytes)
 abbrev pub value_of : List ℕ → ℕ
 value_of digits = fold (λ v d. v * 10 + (d - 48)) 0 digits
 
--- digits are a number that is at most this: there is one, and no leading zero
-abbrev pub is_numeral : ℕ → List ℕ → Bool
-is_numeral most [] = false
-is_numeral most (d ∷ digits) =
-    (not (d == 48) || length digits == 0)
-    && (nat_le (value_of (d ∷ digits)) most && nat_lt (value_of (d ∷ digits)) (2 ^ 64))
+-- a value of 64 bits from low to high
+abbrev pub is_between : ℕ → ℕ → ℕ → Bool
+is_between low high n = nat_le low n && (nat_le n high && nat_lt n (2 ^ 64))
 
-abbrev pub number_at : ℕ → ℕ → List ℕ → Result (ℕ × List ℕ) ℕ
-number_at most n bytes =
-    cond (is_numeral most (take n bytes))
+-- digits are a number from low to high: there is one, and no leading zero
+abbrev pub is_numeral : ℕ → ℕ → List ℕ → Bool
+is_numeral low high [] = false
+is_numeral low high (d ∷ digits) =
+    (not (d == 48) || length digits == 0) && is_between low high (value_of (d ∷ digits))
+
+abbrev pub number_at : ℕ → ℕ → ℕ → List ℕ → Result (ℕ × List ℕ) ℕ
+number_at low high n bytes =
+    cond (is_numeral low high (take n bytes))
     (Ok (value_of (take n bytes), drop n bytes))
     (Err (length bytes))
 
 -- the field at the front, and what follows it
 abbrev pub front : (f : Field) → List ℕ → Result (ValueOf f × List ℕ) ℕ
 front (word words) bytes = word_at words bytes
-front (number most) bytes = number_at most (prefix_len is_digit bytes) bytes
+front (number low high) bytes = number_at low high (prefix_len is_digit bytes) bytes
 front (counted n) bytes =
     cond (nat_le n (length bytes)) (Ok (take n bytes, drop n bytes)) (Err (length bytes))
 
