@@ -15,10 +15,11 @@ use Rattle.trace_text.specs.declared.text.Ending.TheVariants.{Quiescent, Stopped
 use Rattle.join_top.specs.declared.run.Kept.{Kept as Left}
 use Rattle.join_top.specs.declared.top.Ended.{Ended}
 use Rattle.site_runner.specs.declared.outcome.How.{How}
-use Rattle.join_top.specs.declared.job.Job.{Job}
+use Rattle.join_top.specs.declared.job.Begun.{Begun}
 use Rattle.join_top.specs.Task.{Words, task, text_run}
-use Rattle.join_top.specs.Text.{IsProgramOfText}
-use Rattle.join_top.specs.RunJoin.{ComesExactly, OnTold, has_run, EndsAs, IsRunAsked, Keeps, GoesWith, IsMadeBy, IsMadeAsAsked, IsTextOf, IsWritten}
+use Rattle.text_program.specs.Text.{IsProgramOfText}
+use Rattle.text_program.specs.Streams.{OnTold, IsWritten}
+use Rattle.join_top.specs.RunJoin.{ComesExactly, has_run, EndsAs, IsRunAsked, Keeps, GoesWith, IsMadeBy, IsMadeAsAsked, IsTextOf}
 use Rattle.join_top.specs.inside.Job.{IsJob, IsRunOfJob, IsStatusOfJob}
 use Rattle.join_top.specs.inside.Ran.{ending_of, IsEnded, IsWholeOfBook, IsRunBy}
 
@@ -49,7 +50,7 @@ ended a source p k how quiet ending text made replays run stuck_is quiet_is ends
     ends_as : (n : Numbered) → solution k ≡ Some n → (t : Bool) → quiet ≡ t → EndsAs a.budget k.journal n (ending_of t)
     ends_as n e true h = quiet_is.0 h n e
     ends_as n e false h = (
-      (λ q. let t : quiet ≡ true = quiet_is.1 (λ m f. subst (λ (x : Numbered). Quiet x.seen (erase x)) (same_solution k n m e f) q) in cc),
+      (λ q. let t : quiet ≡ true = quiet_is.1 (λ m f. subst (λ (x : Numbered). Quiet x.version x.seen (erase x)) (same_solution k n m e f) q) in cc),
       not_spent h made.finished.ends,
     )
 
@@ -63,7 +64,7 @@ on_some : (kept : Option Left) (P Q : Left → Type 0) → ((k : Left) → P k �
 on_some None P Q f h = tt
 on_some (Some kept) P Q f h = f kept h
 
-module _ {S : Type 0} (words : Words) (left : S → Option (List ℕ)) (old new : S) (job : Job) (is_job : IsJob S words left old new job) (was now : Option (List ℕ)) where
+module _ {S : Type 0} (words : Words) (left : S → Option (List ℕ)) (old new : S) (job : Begun) (is_job : IsJob S words left old new job) (was now : Option (List ℕ)) where
   program_of : (status : ℕ) (kept : Left) → IsRunOfJob job status was now kept → IsProgramOfText job.text kept.program
   program_of status kept run = subst (IsProgramOfText job.text) (sym run.program) is_job.is_program
 
@@ -160,7 +161,7 @@ module _ (it : Ended) (status : ℕ) (kept : Left) (is : it ≡ record { status 
   pub is_kept : (ending : Ending) → GoesWith status ending → is_some it.kept ≡ has_run it.status
   is_kept ending goes = subst (λ (x : Ended). is_some x.kept ≡ has_run x.status) (sym is) (is_run_status status ending goes)
 
-  pub is_run_of : (job : Job) (was now : Option (List ℕ)) (text : List ℕ) (ending : Ending)
+  pub is_run_of : (job : Begun) (was now : Option (List ℕ)) (text : List ℕ) (ending : Ending)
       → kept.program ≡ job.program → IsEnded job.asked job.text kept text ending
       → IsMadeBy job.asked.by job.asked.workers job.asked.budget job.program kept.journal kept.how
       → GoesWith status ending → IsWritten status text was now

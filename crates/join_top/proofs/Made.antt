@@ -58,9 +58,9 @@ module _ (p : ProgramTerms) (workers budget : ℕ) where
     rounds_within law c journal (is_code, of_program, end, schedule) = (law p c fine is_code of_program budget journal end schedule).within
 
     -- a run in rounds from there
-    rounds_begun : RoundsReplay → (net : NetParts) → net.net ≡ opened_net net.code → net.code ≡ code_of p → (r : Result Done Memory)
+    rounds_begun : RoundsReplay → (net : NetParts) → net.net ≡ opened_net p.version net.code → net.code ≡ code_of p → (r : Result Done Memory)
         → IfOk r (λ (d : Done). RunsInRounds net (begun p) budget d.book)
-        → IfOk r (λ (d : Done). (begun p).journal ≡ [] → net.net ≡ opened_net net.code → RoundsOf (begun p).program net.code budget d.book.journal)
+        → IfOk r (λ (d : Done). (begun p).journal ≡ [] → net.net ≡ opened_net (begun p).program.version net.code → RoundsOf (begun p).program net.code budget d.book.journal)
         → IfOk r (λ (d : Done). d.how ≡ how.Rounds)
         → IfOk r (IsRunBy by.Rounds workers budget p)
     rounds_begun law net opened code (Err e) runs whole made = tt
@@ -69,15 +69,15 @@ module _ (p : ProgramTerms) (workers budget : ℕ) where
       made = (subst (λ (c : CodeParts). RoundsOf p c budget d.book.journal) code (whole refl opened), made);
     }
 
-    pub rounds_made : RoundsReplay → (net : NetParts) → net.net ≡ opened_net net.code → net.code ≡ code_of p → (book : BookKept) (r : Result Done Memory) → book ≡ begun p
+    pub rounds_made : RoundsReplay → (net : NetParts) → net.net ≡ opened_net p.version net.code → net.code ≡ code_of p → (book : BookKept) (r : Result Done Memory) → book ≡ begun p
         → IfOk r (λ (d : Done). RunsInRounds net book budget d.book)
-        → IfOk r (λ (d : Done). book.journal ≡ [] → net.net ≡ opened_net net.code → RoundsOf book.program net.code budget d.book.journal)
+        → IfOk r (λ (d : Done). book.journal ≡ [] → net.net ≡ opened_net book.program.version net.code → RoundsOf book.program net.code budget d.book.journal)
         → IfOk r (λ (d : Done). d.how ≡ how.Rounds)
         → IfOk r (IsRunBy by.Rounds workers budget p)
     rounds_made law net opened code book r e runs whole made =
         rounds_begun law net opened code r
         (subst (λ (b : BookKept). IfOk r (λ (d : Done). RunsInRounds net b budget d.book)) e runs)
-        (subst (λ (b : BookKept). IfOk r (λ (d : Done). b.journal ≡ [] → net.net ≡ opened_net net.code → RoundsOf b.program net.code budget d.book.journal)) e whole)
+        (subst (λ (b : BookKept). IfOk r (λ (d : Done). b.journal ≡ [] → net.net ≡ opened_net b.program.version net.code → RoundsOf b.program net.code budget d.book.journal)) e whole)
         made
 
 same_member : (n m : Numbered) → Some n ≡ Some m → n ≡ m
@@ -85,14 +85,14 @@ same_member n m e = cc
 
 -- the network that is opened from the program's code
 pub net_begun : (p : ProgramTerms) (c : CodeParts) → c ≡ code_of p → IsCode c → IsCodeOf p c → (r : Result NetParts Memory)
-    → IfOk r (λ (net : NetParts). net.net ≡ opened_net c) → IfOk r (λ (net : NetParts). net.code ≡ c) → IfOk r (λ (net : NetParts). net.events ≡ 0)
+    → IfOk r (λ (net : NetParts). net.net ≡ opened_net p.version c) → IfOk r (λ (net : NetParts). net.code ≡ c) → IfOk r (λ (net : NetParts). net.events ≡ 0)
     → IfOk r (λ (net : NetParts). Stands (rules_of_group p) net.net (opening p)) → IfOk r (λ (net : NetParts). RunsCode p net.code net.net) → IfOk r (IsBegun p)
 net_begun p c is is_code of_program (Err e) opened code events stands runs = tt
 net_begun p c is is_code of_program (Ok net) opened code events stands runs = record {
   code = code ∙ is;
   is_code = subst IsCode (sym code) is_code;
   of_program = subst (IsCodeOf p) (sym code) of_program;
-  opened = subst (λ (x : CodeParts). net.net ≡ opened_net x) (sym code) opened;
+  opened = subst (λ (x : CodeParts). net.net ≡ opened_net p.version x) (sym code) opened;
   events = events;
   stands = stands;
   runs = runs;

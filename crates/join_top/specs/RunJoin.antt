@@ -26,10 +26,13 @@ use Rattle.trace_text.specs.declared.text.Ending.TheVariants.{Quiescent, Stopped
 use Rattle.join_words.specs.declared.answer.Asked.{Asked}
 use Rattle.join_words.specs.declared.answer.By.{By}
 use Rattle.join_words.specs.declared.answer.By.TheVariants.{Alone, Rounds, Run}
+use Rattle.log_judge.specs.declared.ask.Ask.{Ask}
+use Rattle.log_judge.specs.Judged.{has_verdict, IsRefusedLog, IsNoLog, WritesVerdict}
 use Rattle.join_top.specs.declared.run.Kept.{Kept}
 use Rattle.join_top.specs.declared.top.Ended.{Ended}
 use Rattle.join_top.specs.Task.{Words, task, ring_asked, text_run, ReadOrRing}
-use Rattle.join_top.specs.Text.{IsRefusal, IsProgramOfText, refusal_line}
+use Rattle.text_program.specs.Streams.{OnTold, Gains, IsWritten, line_of}
+use Rattle.text_program.specs.Text.{IsRefusal, IsProgramOfText, refusal_line}
 use Rattle.join_top.specs.Printed.{IsWhole}
 
 -- a status comes exactly where a fact holds, but for want of memory, which has the status 6
@@ -40,11 +43,6 @@ pub record ComesExactly (status code : ℕ) (fact : Type 0) : Type 0 where
 -- the statuses at which there was a run: its text was written, or a write failed
 abbrev pub has_run : ℕ → Bool
 has_run status = (status == 0) || (status == 4) || (status == 5)
-
--- what holds of the bytes, where they are told
-abbrev pub OnTold : Option (List ℕ) → (List ℕ → Type 0) → Type 0
-OnTold None P = Unit {0}
-OnTold (Some text) P = P text
 
 -- ---- what is read
 
@@ -72,13 +70,6 @@ Reads {S} words status left old new =
 
 -- ---- what is written on the sink of errors
 
--- a sink gained exactly a text, or a prefix of it where its count of faults rose
-abbrev pub Gains : {K : Type 0} → (held : K → Option (List ℕ)) → (faults : K → ℕ)
-    → (old new : K) → (text : List ℕ) → Type 0
-Gains held faults old new text =
-    Appends (held old) (held new) text ⊎
-    (GainsPrefix (held old) (held new) text × Rose (faults old) (faults new))
-
 -- the text has this refusal, where it is told, and its line is gained
 pub record IsRefused (told : Option (List ℕ)) (gains : List ℕ → Type 0) : Type 0 where
   pub kind : Kind
@@ -91,14 +82,6 @@ abbrev pub Refuses : {E : Type 0} → Words → (told : Option (List ℕ)) → E
     → (held : E → Option (List ℕ)) → (faults : E → ℕ) → (old new : E) → Type 0
 Refuses words told ended held faults old new =
     ended.status ≡ 1 → IsRefused (text_run words told) (Gains held faults old new)
-
--- the line on the sink of errors that goes with a status; that of a refused text names its refusal
-abbrev pub line_of : ℕ → List ℕ
-line_of status =
-    if status == 2 then codes "usage: join MODE [N] [OPTIONS]\n" else
-    (if status == 3 then codes "read fault\n" else
-    (if status == 4 then codes "write fault\n" else
-    (if status == 6 then codes "out of memory\n" else [])))
 
 -- the sink of errors gained the line of the status; at 0 and at 5 it is as it was
 pub record IsLineAt (E : Type 0) (status : ℕ) (held : E → Option (List ℕ)) (faults : E → ℕ)
@@ -122,8 +105,9 @@ pub record IsRunOf (budget : ℕ) (p : ProgramTerms) (journal : List Event)
 
 -- how the run ended: the machine is quiet on the solution, or it isn't and the budget is spent
 abbrev pub EndsAs : ℕ → List Event → Numbered → Ending → Type 0
-EndsAs budget journal n Quiescent = Quiet n.seen (erase n)
-EndsAs budget journal n Stopped = (Quiet n.seen (erase n) → ⊥) × (length journal ≡ budget)
+EndsAs budget journal n Quiescent = Quiet n.version n.seen (erase n)
+EndsAs budget journal n Stopped =
+    (Quiet n.version n.seen (erase n) → ⊥) × (length journal ≡ budget)
 
 -- the run that the words ask for, of the program of the text that is run
 pub record IsRunAsked (words : Words) (told : Option (List ℕ)) (kept : Kept) : Type 0 where
@@ -190,13 +174,35 @@ pub record IsTextOf (words : Words) (told : Option (List ℕ)) (status : ℕ) (k
   pub status_is : GoesWith status ending
   pub whole : IsWhole asked source kept.program kept.journal solution ending text
 
--- the sink gained the text, or at 4 a prefix of it
-abbrev pub IsWritten : ℕ → List ℕ → Option (List ℕ) → Option (List ℕ) → Type 0
-IsWritten status text old new = ((status ≡ 4) × GainsPrefix old new text) ⊎ Appends old new text
-
 -- where a run is kept, the sink gained its whole text, or at 4 a prefix of it
 abbrev pub WritesWhole : {K : Type 0} → Words → (told : Option (List ℕ)) → Ended
     → (held : K → Option (List ℕ)) → (old new : K) → Type 0
 WritesWhole words told ended held old new = IfSome ended.kept (λ kept.
     (text : List ℕ) × IsTextOf words told ended.status kept text
     × IsWritten ended.status text (held old) (held new))
+
+-- ---- what is said of a log
+
+-- at 1 the bytes are those of a log whose source is refused, and the refusal's line is gained
+abbrev pub RefusesLog : (status : ℕ) → (told : Option (List ℕ)) → (gains : List ℕ → Type 0) → Type 0
+RefusesLog status told gains = status ≡ 1 → IsRefusedLog told gains
+
+-- at 8 the bytes are no log, or too many, and a line that says so is gained
+abbrev pub RefusesBytes : (status : ℕ) → (old new : Option (List ℕ)) → (gains : List ℕ → Type 0)
+    → Type 0
+RefusesBytes status old new gains = status ≡ 8 → IsNoLog old new gains
+
+-- at 0 and 7 the text that tells the verdict on the log was written whole, and at 4 a prefix of it
+abbrev pub TellsVerdict : Ask → (status : ℕ) → (told was now : Option (List ℕ)) → Type 0
+TellsVerdict ask status told was now =
+    has_verdict status ≡ true → WritesVerdict ask told status was now
+
+-- the sink of errors gained the line of the status; at 0 and at 7 it is as it was
+pub record IsLogLineAt (E : Type 0) (status : ℕ) (held : E → Option (List ℕ)) (faults : E → ℕ)
+    (old new : E) : Type 0 where
+  pub line : (status ≡ 1) ⊎ ((status ≡ 8) ⊎ Gains held faults old new (line_of status))
+  pub untouched : (status ≡ 0) ⊎ (status ≡ 7) → new ≡ old
+
+abbrev pub GainsLogLine : {E : Type 0} → (status : ℕ)
+    → (held : E → Option (List ℕ)) → (faults : E → ℕ) → (old new : E) → Type 0
+GainsLogLine {E} status held faults old new = IsLogLineAt E status held faults old new

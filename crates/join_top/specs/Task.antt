@@ -2,6 +2,10 @@
 use Rattle.std.specs.Prelude.{ℕ, List, String, string_bytes, map, Option, Some, None}
 use Rattle.std.specs.declared.alloc.Global.{Global}
 use Rattle.join_words.specs.declared.answer.Asked.{Asked}
+use Rattle.join_words.specs.declared.answer.Job.{Job}
+use Rattle.join_words.specs.declared.answer.Job.TheVariants as job
+use Rattle.log_judge.specs.declared.ask.Ask.{Ask}
+use Rattle.log_judge.specs.declared.ask.Ask.TheVariants as ask
 use Rattle.join_words.specs.Asks.{asked}
 use Rattle.ring_source.specs.Ring.{ring_text}
 
@@ -12,6 +16,28 @@ Words = List (String Global)
 -- what the words ask for; none where they are not of the line's form
 abbrev pub task : Words → Option Asked
 task words = asked (map string_bytes words)
+
+-- what a job wants of a log; a run wants nothing of one
+abbrev pub ask_of : Job → Option Ask
+ask_of job.Run = None
+ask_of job.Check = Some ask.Verdict
+ask_of job.Explain = Some ask.Causes
+
+abbrev pub ask_if : Option Asked → Option Ask
+ask_if None = None
+ask_if (Some a) = ask_of a.job
+
+-- what the words want of a log; none where they want something else, or nothing
+abbrev pub log_asked : Words → Option Ask
+log_asked words = ask_if (task words)
+
+-- one fact where something is wanted of a log, and another elsewhere
+abbrev pub LogOrRun : Option Ask → (Ask → Type 0) → Type 0 → Type 0
+LogOrRun None log run = run
+LogOrRun (Some ask) log run = log ask
+
+abbrev pub OnLog : Option Ask → (Ask → Type 0) → Type 0
+OnLog wanted log = LogOrRun wanted log (Unit {0})
 
 -- the size of the ring that is asked for
 abbrev pub ring_of : Option Asked → Option ℕ

@@ -1,4 +1,3 @@
 pub mod Begun
 pub mod Job
 pub mod Ran
-pub mod Text

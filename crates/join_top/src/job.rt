@@ -3,15 +3,15 @@ ghost use Rattle.std.specs.Prelude.{IfOk, IfErr};
 ghost use Rattle.join_top.specs.inside.Job.{IsJob, IsStop};
 
 use crate::task::{task, text_run};
-use crate::text::program_of;
 use chem_model::{Program, Text};
 use join_base::{Front, ReadEnd, Source};
 use join_words::Asked;
 use std::alloc::Global;
+use text_program::program_of;
 
 /// What a run begins with: what the words ask for, the text that is run, and its program.
 #[derive(Drop)]
-pub struct Job {
+pub struct Begun {
     pub asked: Asked,
     pub text: Text,
     pub program: Program,
@@ -30,7 +30,7 @@ pub enum Stop {
 }
 
 /// Reads what the words ask for, the text that is run, and its program.
-pub fn read_job<S: Source>(alloc: Global, words: &[String], source: &mut S) -> Result<Job, Stop>
+pub fn read_job<S: Source>(alloc: Global, words: &[String], source: &mut S) -> Result<Begun, Stop>
     ensures job { IfOk result (IsJob S words.now S.left source.old source.new) }
     ensures stop { IfErr result (IsStop words.now S.left S.faults source.old source.new) }
 {
@@ -44,7 +44,7 @@ pub fn read_job<S: Source>(alloc: Global, words: &[String], source: &mut S) -> R
         Err(end) => return Err(Stop::Source(end)),
     };
     match program_of(alloc, text.as_slice()) {
-        Ok(program) => Ok(Job {
+        Ok(program) => Ok(Begun {
             asked,
             text,
             program,

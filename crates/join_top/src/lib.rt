@@ -6,7 +6,6 @@ mod making;
 mod printed;
 mod run;
 mod task;
-mod text;
 mod top;
 
 pub use making::{begin, one_run};
@@ -14,5 +13,5 @@ pub use ring_source::ring_text;
 pub use run::Kept;
 pub use shared_net::{Gate, HoldGate, OpenGate, Phase};
 pub use site_runner::{FreeTeam, How, Team, Threaded};
-pub use text::one_outcome;
+pub use text_program::one_outcome;
 pub use top::{Ended, run_join};

@@ -38,8 +38,8 @@ pub fn make<G: Gate, T: Team + FreeTeam<G>>(
     }
 }
 
-/// On one thread, and in rounds, a program has at most one run for each budget, however many workers
-/// there are. It does nothing.
+/// On one thread, and in rounds, a program has at most one run for each budget, however many
+/// workers there are. It does nothing.
 pub fn one_run()
     ensures alone { MakesOneRun by.Alone }
     ensures rounds { MakesOneRun by.Rounds }
@@ -61,7 +61,8 @@ fn on_one_thread(alloc: Global, asked: &Asked, program: &Program) -> Result<Done
 pub fn begin(alloc: Global, program: &Program) -> Result<(Net, Book), Memory>
     ensures one { IfOk result (λ begun. StandForOne begun.1 begun.0) }
     ensures code { IfOk result (λ begun. begun.0.code ≡ code_of program.now) }
-    ensures opened { IfOk result (λ begun. begun.0.net ≡ opened_net begun.0.code) }
+    ensures opened { IfOk result (λ begun.
+        begun.0.net ≡ opened_net program.now.version begun.0.code) }
     ensures book { IfOk result (λ begun.
         begun.1 ≡ record { program = program.now; journal = [] }) }
 {
@@ -96,7 +97,7 @@ fn in_rounds<T: Team>(
 ) -> Result<Done, Memory>
     requires ready { T.ready }
     requires workers { (1 ≤ workers) × (workers ≤ 16) }
-    requires budget { budget ≤ 1000000 }
+    requires budget { budget ≤ 4000000 }
     ensures { IfOk result (IsRunBy by.Rounds workers budget program.now) }
 {
     rounds_replay();
@@ -116,7 +117,7 @@ fn on_free_threads<G, T: FreeTeam<G>>(
 ) -> Result<Done, Memory>
     requires ready { T.free_ready }
     requires workers { (1 ≤ workers) × (workers ≤ 16) }
-    requires budget { budget ≤ 1000000 }
+    requires budget { budget ≤ 4000000 }
     ensures { IfOk result (IsRunBy by.Run workers budget program.now) }
 {
     let code = compile(alloc, program)?;

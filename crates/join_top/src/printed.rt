@@ -19,7 +19,7 @@ pub fn printed(
     ending: Ending,
 ) -> Result<Text, Memory>
     requires source { WhereRead asked.now.ring (length source.now ≤ 1048576) }
-    requires budget { asked.now.budget ≤ 1000000 }
+    requires budget { asked.now.budget ≤ 4000000 }
     requires events { length book.now.journal ≤ asked.now.budget }
     ensures { IfOk result (IsWholeOfBook asked.now source.now book.now ending) }
 {

@@ -4,7 +4,7 @@ ghost use Rattle.join_base.specs.Bytes.{TakesCount};
 ghost use Rattle.join_base.specs.Counts.{Rose};
 ghost use Rattle.join_words.specs.Asks.{IsWithin, IsSizeIfAny};
 ghost use Rattle.join_top.specs.Task.{task, ring_asked, text_of};
-ghost use Rattle.join_top.specs.RunJoin.{OnTold};
+ghost use Rattle.text_program.specs.Streams.{OnTold};
 ghost use Rattle.join_top.specs.inside.Ran.{WhereRead, ReadsAll, ReadsPart};
 
 use chem_model::{Memory, Text};

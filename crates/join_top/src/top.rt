@@ -1,23 +1,30 @@
 //! The top call.
-ghost use Rattle.std.specs.Prelude.{◌≡◌, ◌⊎◌, ◌≤◌, IfSome, is_some, length, true, false, []};
+ghost use Rattle.std.specs.Prelude.{◌≡◌, ◌⊎◌, ◌≤◌, IfSome, IfOk, is_some, length, true, false, []};
 ghost use Rattle.join_base.specs.Counts.{Rose};
 ghost use Rattle.join_base.specs.declared.fault.Kind.TheVariants as kind;
 ghost use Rattle.join_words.specs.Asks.{IsWithin};
-ghost use Rattle.join_top.specs.Task.{task};
-ghost use Rattle.join_top.specs.Text.{refusal_line as line_of_refusal};
+ghost use Rattle.join_top.specs.Task.{task, ask_of, log_asked, LogOrRun, OnLog};
+ghost use Rattle.log_judge.specs.Judged.{has_verdict, IsLogStatus, IsLogReadAt};
+ghost use Rattle.join_top.specs.RunJoin.{RefusesLog, RefusesBytes, TellsVerdict, GainsLogLine};
+ghost use Rattle.text_program.specs.Text.{refusal_line as line_of_refusal};
 ghost use Rattle.join_top.specs.RunJoin.{ComesExactly, Reads, Refuses, Keeps, IsMadeAsAsked};
 ghost use Rattle.join_top.specs.RunJoin.{WritesWhole};
-ghost use Rattle.join_top.specs.RunJoin.{GainsLine, Gains, line_of, has_run, GoesWith, IsWritten};
-ghost use Rattle.join_top.specs.inside.Job.{StatusOf, GainsRefusal, IsStatusOfJob, IsRunOfJob};
+ghost use Rattle.text_program.specs.Streams.{Gains, line_of, IsWritten};
+ghost use Rattle.join_top.specs.RunJoin.{GainsLine, has_run, GoesWith};
+ghost use Rattle.join_top.specs.inside.Job.{StatusOf, GainsRefusal, IsStatusOfJob, IsRunOfJob, IsWanted};
 ghost use Rattle.join_top.specs.inside.Ran.{WhereRead};
 
-use crate::job::{Job, Stop, read_job};
+use crate::job::{Begun, Stop, read_job};
 use crate::run::{Kept, Ran, run};
-use crate::text::refusal_line;
+use crate::task::task;
+use chem_model::Memory;
 use join_base::{Front, Kind, ReadEnd, Sink, Source, write_piece};
+use join_words::Job;
+use log_judge::{Ask, judge_log};
 use shared_net::Gate;
 use site_runner::{FreeTeam, Team};
 use std::alloc::Global;
+use text_program::{refusal_line, status_line, write_line};
 use trace_text::Ending;
 
 const QUIESCENT: u8 = 0;
@@ -41,6 +48,13 @@ pub struct Ended {
     pub kept: Option<Kept>,
 }
 
+/// What the words want: something of a log, or something else or nothing; or memory ran out.
+enum Wanted {
+    Log(Ask),
+    Other,
+    NoMemory,
+}
+
 /// Does all that the program does, from its words and the bytes of its source to the bytes on `out`
 /// and `err`. The team works where the words ask for rounds or for free threads, which pass the
 /// gate in each of their turns. It returns wherever the calls of the team that it was handed
@@ -51,14 +65,103 @@ pub struct Ended {
 ///
 /// | status | comes |
 /// |---|---|
-/// | 0 | the run ended quiet, and its whole text was written |
-/// | 1 | the text is refused: it has a fault, which the line on `err` names with its place |
+/// | 0 | the run ended quiet, and its whole text was written; or the log is that of a run |
+/// | 1 | the text, or the log's source, is refused: the line on `err` names its fault and place |
 /// | 2 | the words are not of the line's form |
 /// | 3 | a read failed |
 /// | 4 | a write on `out` failed |
 /// | 5 | the budget is used up and something can still happen; the whole text was written |
 /// | 6 | memory ran out |
+/// | 7 | the log is that of no run, and the verdict was written |
+/// | 8 | the bytes are no log, or too many |
 pub fn run_join<S: Source, K: Sink, E: Sink, G: Gate, T: Team + FreeTeam<G>>(
+    alloc: Global,
+    words: &[String],
+    source: &mut S,
+    out: &mut K,
+    err: &mut E,
+    gate: &G,
+    team: &T,
+) -> Ended
+    requires ready { T.ready }
+    requires free_ready { T.free_ready }
+
+    ensures known { LogOrRun (log_asked words.now) (λ _. IsLogStatus result.status)
+        (result.status ≤ 6) }
+
+    ensures usage { ComesExactly result.status 2 (task words.now ≡ None) }
+
+    ensures read_fault { result.status ≡ 3 → Rose (S.faults source.old) (S.faults source.new) }
+    ensures reads_all { LogOrRun (log_asked words.now)
+        (λ _. IsLogReadAt result.status (S.left source.old) (S.left source.new))
+        (Reads words.now result.status S.left source.old source.new) }
+
+    ensures refusal { LogOrRun (log_asked words.now)
+        (λ _. RefusesLog result.status (S.left source.old) (Gains E.held E.faults err.old err.new))
+        (Refuses words.now (S.left source.old) result E.held E.faults err.old err.new) }
+    ensures no_log { OnLog (log_asked words.now) (λ _. RefusesBytes result.status
+        (S.left source.old) (S.left source.new) (Gains E.held E.faults err.old err.new)) }
+
+    ensures kept { LogOrRun (log_asked words.now) (λ _. result.kept ≡ None)
+        (Keeps words.now (S.left source.old) result) }
+    ensures how { IfSome result.kept (IsMadeAsAsked words.now) }
+
+    ensures whole_text { WritesWhole words.now (S.left source.old) result K.held out.old out.new }
+    ensures verdict { OnLog (log_asked words.now) (λ ask. TellsVerdict ask result.status
+        (S.left source.old) (K.held out.old) (K.held out.new)) }
+    ensures write_fault { result.status ≡ 4 → Rose (K.faults out.old) (K.faults out.new) }
+    ensures out_untouched { LogOrRun (log_asked words.now)
+        (λ _. has_verdict result.status ≡ false → out.new ≡ out.old)
+        (has_run result.status ≡ false → out.new ≡ out.old) }
+
+    ensures err_line { LogOrRun (log_asked words.now)
+        (λ _. GainsLogLine result.status E.held E.faults err.old err.new)
+        (GainsLine result.status E.held E.faults err.old err.new) }
+{
+    match read_wanted(alloc, words) {
+        Wanted::Log(ask) => Ended {
+            status: judge_log(alloc, ask, source, out, err),
+            kept: None,
+        },
+        Wanted::Other => run_program(alloc, words, source, out, err, gate, team),
+        Wanted::NoMemory => end(err, OUT_OF_MEMORY, None),
+    }
+}
+
+/// What the words want, as far as there was memory to read them.
+fn read_wanted(alloc: Global, words: &[String]) -> Wanted
+    ensures { IsWanted words.now result }
+{
+    match log_wanted(alloc, words) {
+        Ok(Some(ask)) => Wanted::Log(ask),
+        Ok(None) => Wanted::Other,
+        Err(_) => Wanted::NoMemory,
+    }
+}
+
+/// What the words want of a log. None where they want something else, or nothing.
+fn log_wanted(alloc: Global, words: &[String]) -> Result<Option<Ask>, Memory>
+    ensures { IfOk result (λ ask. ask ≡ log_asked words.now) }
+{
+    match task(alloc, words)? {
+        Some(asked) => Ok(ask_of(asked.job)),
+        None => Ok(None),
+    }
+}
+
+/// What a job wants of a log.
+fn ask_of(job: Job) -> Option<Ask>
+    ensures { result ≡ ask_of job }
+{
+    match job {
+        Job::Run => None,
+        Job::Check => Some(Ask::Verdict),
+        Job::Explain => Some(Ask::Causes),
+    }
+}
+
+/// The same where no log is wanted. It reads the words once more.
+fn run_program<S: Source, K: Sink, E: Sink, G: Gate, T: Team + FreeTeam<G>>(
     alloc: Global,
     words: &[String],
     source: &mut S,
@@ -101,7 +204,7 @@ pub fn run_join<S: Source, K: Sink, E: Sink, G: Gate, T: Team + FreeTeam<G>>(
 /// Runs a job, and writes the text of its run and the line that goes with its end.
 fn run_job<K: Sink, E: Sink, G: Gate, T: Team + FreeTeam<G>>(
     alloc: Global,
-    job: &Job,
+    job: &Begun,
     out: &mut K,
     err: &mut E,
     gate: &G,
@@ -169,14 +272,6 @@ fn write_text<K: Sink>(out: &mut K, ran: &Ran) -> u8
     }
 }
 
-/// Writes a line on `err`. Where that fails, the status stays.
-fn write_line<E: Sink>(err: &mut E, line: &[u8])
-    ensures gains { Gains E.held E.faults err.old err.new line.now }
-    ensures untouched { line.now ≡ [] → err.new ≡ err.old }
-{
-    let _ = write_piece(err, line);
-}
-
 /// Writes the line of a text that is too long, which takes no memory.
 fn refuse_long<E: Sink>(err: &mut E) -> Ended
     ensures ended { result ≡ record { status = 1; kept = None } }
@@ -215,19 +310,6 @@ fn end<E: Sink>(err: &mut E, status: u8, kept: Option<Kept>) -> Ended
     ensures line { Gains E.held E.faults err.old err.new (line_of status) }
     ensures untouched { line_of status ≡ [] → err.new ≡ err.old }
 {
-    write_line(err, line(status));
+    write_line(err, status_line(status));
     Ended { status, kept }
-}
-
-/// The line on `err` that goes with a status.
-fn line(status: u8) -> &'static [u8]
-    ensures { result.now ≡ line_of status }
-{
-    match status {
-        USAGE => b"usage: join MODE [N] [OPTIONS]\n",
-        READ_FAULT => b"read fault\n",
-        WRITE_FAULT => b"write fault\n",
-        OUT_OF_MEMORY => b"out of memory\n",
-        _ => b"",
-    }
 }

@@ -1,10 +1,11 @@
 -- What the reading of a line keeps, and which lines ask for nothing.
 use Rattle.std.proofs.Common.{◌≡◌, ◌∙◌, ℕ, Bool, cond, true, false, refl, ap, List, [], ◌∷◌, Option, Some, None, codes, length}
-use Rattle.std.specs.Prelude.{◌&&◌, is_some, nat_le, not, option_and_then, option_map}
+use Rattle.std.specs.Prelude.{◌&&◌, ◌||◌, is_some, nat_le, not, option_and_then, option_map}
 use Rattle.std.specs.Str.{bytes_eq}
 use Rattle.std.specs.Str.Parse.{digits_value}
 use Rattle.join_words.specs.Line.{Field, Kind, Line, Plain, Reading, Text, budget, by, finished, flag, given, into, is_dashed, kind_of, logged, name_of, none, one, option_word, read_from, read_word, two, unknown, value_of, valued, with_plain, word_at, workers}
-use Rattle.join_words.specs.Asks.{judged, number_in, number_or, by_mode}
+use Rattle.join_words.specs.Asks.{judged, number_in, number_or, by_mode, bare_job, bare_or_run, nothing_asked}
+use Rattle.join_words.specs.declared.answer.Job.{Job}
 use Rattle.join_words.specs.declared.answer.Asked.{Asked}
 
 abbrev pub at : Field → Line → Option Text
@@ -55,20 +56,33 @@ both_none : {X : Type 0} (b : Bool) → cond {A = Option X} b None None ≡ None
 both_none true = refl
 both_none false = refl
 
+not_bare : (a b c : Bool) → not (a || (b || (true || c))) ≡ false
+not_bare true b c = refl
+not_bare false true c = refl
+not_bare false false c = refl
+
+-- neither a run nor a command without options takes `--by`
+no_bare : (l : Line) (t : Text) → l.by ≡ Some (45 ∷ t) → (o : Option Job) (m : Text) (b w : ℕ) → bare_or_run l o m b w ≡ None
+no_bare l t e None m b w = rw e refl
+no_bare l t e (Some j) m b w =
+    ap (λ (o : Option Text). cond (not (is_some l.budget || (is_some l.workers || (is_some o || l.log)))) (Some (record nothing_asked { job = j })) None) e
+    ∙ ap (λ x. cond x (Some (record nothing_asked { job = j })) None) (not_bare (is_some l.budget) (is_some l.workers) l.log)
+
 no_by : (l : Line) (t : Text) → l.by ≡ Some (45 ∷ t) → (p : Plain) (b w : ℕ) → by_mode l p b w ≡ None
 no_by l t e none b w = refl
-no_by l t e (one m) b w = rw e (both_none (bytes_eq m (codes "gen")))
+no_by l t e (one m) b w =
+    ap (λ o. cond (bytes_eq m (codes "gen")) None o) (no_bare l t e (bare_job m) m b w) ∙ both_none (bytes_eq m (codes "gen"))
 no_by l t e (two m n) b w = rw e (rw (then_none {X = ℕ} {Y = Asked} (number_in 1 64 n)) (rw (both_none {X = Asked} l.log) (both_none (bytes_eq m (codes "gen")))))
 
 pub spoils : (f : Field) (t : Text) (l : Line) → at f l ≡ Some (45 ∷ t) → judged l ≡ None
 spoils budget t l e =
-    ap (λ o. option_and_then (λ b. option_and_then (λ w. by_mode l l.plain b w) (number_or 4 1 16 l.workers)) (number_or 100000 0 1000000 o)) e
-    ∙ ap (option_and_then (λ b. option_and_then (λ w. by_mode l l.plain b w) (number_or 4 1 16 l.workers))) (no_number 0 1000000 t)
+    ap (λ o. option_and_then (λ b. option_and_then (λ w. by_mode l l.plain b w) (number_or 4 1 16 l.workers)) (number_or 100000 0 4000000 o)) e
+    ∙ ap (option_and_then (λ b. option_and_then (λ w. by_mode l l.plain b w) (number_or 4 1 16 l.workers))) (no_number 0 4000000 t)
 spoils workers t l e =
-    ap (λ o. option_and_then (λ b. option_and_then (λ w. by_mode l l.plain b w) (number_or 4 1 16 o)) (number_or 100000 0 1000000 l.budget)) e
-    ∙ ap (λ o. option_and_then (λ b. option_and_then (λ w. by_mode l l.plain b w) o) (number_or 100000 0 1000000 l.budget)) (no_number 1 16 t)
-    ∙ then_none (number_or 100000 0 1000000 l.budget)
-spoils by t l e = go (number_or 100000 0 1000000 l.budget) (number_or 4 1 16 l.workers)
+    ap (λ o. option_and_then (λ b. option_and_then (λ w. by_mode l l.plain b w) (number_or 4 1 16 o)) (number_or 100000 0 4000000 l.budget)) e
+    ∙ ap (λ o. option_and_then (λ b. option_and_then (λ w. by_mode l l.plain b w) o) (number_or 100000 0 4000000 l.budget)) (no_number 1 16 t)
+    ∙ then_none (number_or 100000 0 4000000 l.budget)
+spoils by t l e = go (number_or 100000 0 4000000 l.budget) (number_or 4 1 16 l.workers)
   where
     go : (b w : Option ℕ) → option_and_then (λ b. option_and_then (λ w. by_mode l l.plain b w) w) b ≡ None
     go None w = refl

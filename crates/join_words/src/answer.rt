@@ -5,6 +5,23 @@ use chem_model::Memory;
 use std::alloc::{AllocError, AllocFailed, Global};
 use thiserror::Error;
 
+/// What is done: a program is run, or a log is judged, or what it leaves is explained.
+#[derive(Clone, Copy, Debug, PartialEq, Eq)]
+pub enum Job {
+    Run,
+    Check,
+    Explain,
+}
+
+impl Job {
+    /// A value that is equal to this one. It takes no memory.
+    pub fn copy(&self, _alloc: Global) -> Result<Job, Memory>
+        ensures { result ≡ Ok self.now }
+    {
+        Ok(*self)
+    }
+}
+
 /// Who runs a program: one thread that works the sites one after another, the threads in rounds, or
 /// the threads freely.
 #[derive(Clone, Copy, Debug, PartialEq, Eq)]
@@ -26,12 +43,14 @@ impl By {
 /// What a command line asks for.
 #[derive(Clone, Copy, Debug, PartialEq, Eq)]
 pub struct Asked {
+    /// What is done. Where no program is run, what follows has its defaults.
+    pub job: Job,
     /// Who runs the program.
     pub by: By,
     /// The number of sites of the ring that is generated and run, 1 to 64. Without it the program
     /// is read.
     pub ring: Option<u32>,
-    /// The most events that the run may have, 0 to 1,000,000.
+    /// The most events that the run may have, 0 to 4,000,000.
     pub budget: u32,
     /// The number of threads, 1 to 16. `By::Alone` doesn't use it.
     pub workers: u32,

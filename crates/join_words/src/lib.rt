@@ -6,5 +6,5 @@ mod line;
 mod number;
 mod read;
 
-pub use answer::{Asked, By, WordEnd};
+pub use answer::{Asked, By, Job, WordEnd};
 pub use read::read_words;

@@ -1,10 +1,11 @@
 // From the texts of a line to what it asks for.
 ghost use Rattle.std.specs.Prelude.{◌≡◌, map, option_map, string_bytes, IfOk, IfSome};
 ghost use Rattle.join_words.specs.Asks.{Answers, IsWithin, asked, by_named, by_or_alone, judged};
+ghost use Rattle.join_words.specs.Asks.{bare, bare_job, run_as};
 ghost use Rattle.join_words.specs.inside.Command.{line_given};
 ghost use Rattle.join_words.specs.inside.Modes.{AreNumbers, with_gen, without_gen};
 
-use crate::answer::{Asked, By, WordEnd};
+use crate::answer::{Asked, By, Job, WordEnd};
 use crate::line::{LineTexts, texts_given, texts_of};
 use crate::number::{number, number_unless};
 use std::alloc::Global;
@@ -13,7 +14,7 @@ use std::alloc::Global;
 const DEFAULT_BUDGET: u32 = 100_000;
 
 /// The largest budget of events.
-const MOST_EVENTS: u32 = 1_000_000;
+const MOST_EVENTS: u32 = 4_000_000;
 
 /// The number of threads where none is given.
 const DEFAULT_WORKERS: u32 = 4;
@@ -57,11 +58,61 @@ fn ring_asked(given: &LineTexts, budget: u32, workers: u32) -> Option<Asked>
     }
     let by = named_unless(given.by)?;
     Some(Asked {
+        job: Job::Run,
         by,
         ring: Some(sites),
         budget,
         workers,
         log: false,
+    })
+}
+
+/// The command of this name that takes no size and no option.
+fn bare_job(text: &str) -> Option<Job>
+    ensures { result ≡ bare_job text.now }
+{
+    match text {
+        "check" => Some(Job::Check),
+        "explain" => Some(Job::Explain),
+        _ => None,
+    }
+}
+
+/// What a line asks for whose mode is such a command.
+fn bare_asked(given: &LineTexts, job: Job) -> Option<Asked>
+    ensures asked { result ≡ bare (line_given given.now) job }
+    ensures within { IfSome result IsWithin }
+{
+    if given.budget.is_some() || given.workers.is_some() || given.by.is_some() || given.log {
+        return None;
+    }
+    Some(Asked {
+        job,
+        by: By::Alone,
+        ring: None,
+        budget: DEFAULT_BUDGET,
+        workers: DEFAULT_WORKERS,
+        log: false,
+    })
+}
+
+/// What a line asks for whose mode is a run's.
+fn run_asked(given: &LineTexts, mode: &str, budget: u32, workers: u32) -> Option<Asked>
+    requires { AreNumbers budget workers }
+    ensures asked { result ≡ run_as (line_given given.now) mode.now budget workers }
+    ensures within { IfSome result IsWithin }
+{
+    if given.by.is_some() {
+        return None;
+    }
+    let by = named(mode)?;
+    Some(Asked {
+        job: Job::Run,
+        by,
+        ring: None,
+        budget,
+        workers,
+        log: given.log,
     })
 }
 
@@ -72,17 +123,13 @@ fn program_asked(given: &LineTexts, mode: &str, budget: u32, workers: u32) -> Op
         (option_map (λ s. s.now) given.now.ring) mode.now budget workers }
     ensures within { IfSome result IsWithin }
 {
-    if given.ring.is_some() || given.by.is_some() {
+    if given.ring.is_some() {
         return None;
     }
-    let by = named(mode)?;
-    Some(Asked {
-        by,
-        ring: None,
-        budget,
-        workers,
-        log: given.log,
-    })
+    match bare_job(mode) {
+        Some(job) => bare_asked(given, job),
+        None => run_asked(given, mode, budget, workers),
+    }
 }
 
 /// What a line of these texts asks for.
@@ -105,11 +152,13 @@ fn asked_of(given: &LineTexts) -> Option<Asked>
 /// ```text
 /// alone|rounds|run [--budget B] [--workers W] [--log]
 /// gen N [--by alone|rounds|run] [--budget B] [--workers W]
+/// check
+/// explain
 /// ```
 ///
 /// The options stand anywhere, each at most once, and with their value in the next word or after
 /// `=` in the same one. After the word `--` every word is a plain word. A number is 1 to 7 decimal
-/// digits. B is 0 to 1,000,000, and 100,000 where it isn't given; W is 1 to 16, and 4 where it
+/// digits. B is 0 to 4,000,000, and 100,000 where it isn't given; W is 1 to 16, and 4 where it
 /// isn't given; N is 1 to 64. `--by` is `alone` where it isn't given.
 ///
 /// `Form` comes exactly where the words aren't of this form, and `Memory` only for want of memory.

@@ -15,7 +15,7 @@ pub record IsBegun (p : ProgramTerms) (net : NetParts) : Type 0 where
   pub code : net.code ≡ code_of p
   pub is_code : IsCode net.code
   pub of_program : IsCodeOf p net.code
-  pub opened : net.net ≡ opened_net net.code
+  pub opened : net.net ≡ opened_net p.version net.code
   pub events : net.events ≡ 0
   pub stands : Stands (rules_of_group p) net.net (opening p)
   pub runs : RunsCode p net.code net.net

@@ -9,21 +9,24 @@ use Rattle.join_base.specs.declared.fault.ReadEnd.{ReadEnd}
 use Rattle.join_base.specs.declared.fault.ReadEnd.TheVariants as read
 use Rattle.join_words.specs.Asks.{IsWithin}
 use Rattle.trace_text.specs.declared.text.Ending.{Ending}
-use Rattle.join_top.specs.declared.job.Job.{Job}
+use Rattle.join_top.specs.declared.job.Begun.{Begun}
 use Rattle.join_top.specs.declared.job.Stop.{Stop}
 use Rattle.join_top.specs.declared.job.Stop.TheVariants as stop
 use Rattle.join_top.specs.declared.run.Kept.{Kept}
-use Rattle.join_top.specs.Task.{Words, task, ring_asked, text_run}
-use Rattle.join_top.specs.Text.{IsProgramOfText, refusal_line}
-use Rattle.join_top.specs.RunJoin.{OnTold, GoesWith, IsWritten, IsMadeBy}
+use Rattle.join_top.specs.declared.top.Wanted.{Wanted}
+use Rattle.join_top.specs.declared.top.Wanted.TheVariants as wanted
+use Rattle.join_top.specs.Task.{Words, task, log_asked, ring_asked, text_run}
+use Rattle.text_program.specs.Text.{IsProgramOfText, refusal_line}
+use Rattle.text_program.specs.Streams.{OnTold, IsWritten}
+use Rattle.join_top.specs.RunJoin.{GoesWith, IsMadeBy}
 use Rattle.join_top.specs.inside.Ran.{WhereRead, ReadsAll, ReadsPart, IsEnded}
-use Rattle.join_top.specs.inside.Text.{NamesRefusal}
+use Rattle.text_program.specs.inside.Text.{NamesRefusal}
 
 -- ---- what is read
 
 -- the job of the words and of the text that is run
 pub record IsJob (S : Type 0) (words : Words) (left : S → Option (List ℕ)) (old new : S)
-    (job : Job) : Type 0 where
+    (job : Begun) : Type 0 where
   pub is_asked : task words ≡ Some job.asked
   pub ring : ring_asked words ≡ job.asked.ring
   pub within : IsWithin job.asked
@@ -51,6 +54,12 @@ IsStop words left faults old new (stop.Source end) =
 IsStop words left faults old new (stop.Text front) =
     (is_some (task words) ≡ true) × ReadsAll (ring_asked words) left old new
     × OnTold (text_run words (left old)) (λ text. NamesRefusal text front)
+
+-- what the words want of a log, as far as it could be read
+abbrev pub IsWanted : Words → Wanted → Type 0
+IsWanted words (wanted.Log ask) = Some ask ≡ log_asked words
+IsWanted words wanted.Other = None ≡ log_asked words
+IsWanted words wanted.NoMemory = Unit {0}
 
 -- ---- what is told where there is no job
 
@@ -81,7 +90,7 @@ abbrev pub IsStatusOfJob : ℕ → Type 0
 IsStatusOfJob status = (status ≡ 0) ⊎ ((status ≡ 4) ⊎ ((status ≡ 5) ⊎ (status ≡ 6)))
 
 -- the run of the job, and of its text what goes with the status
-pub record IsRunOfJob (job : Job) (status : ℕ) (old new : Option (List ℕ))
+pub record IsRunOfJob (job : Begun) (status : ℕ) (old new : Option (List ℕ))
     (kept : Kept) : Type 0 where
   pub text : List ℕ
   pub ending : Ending

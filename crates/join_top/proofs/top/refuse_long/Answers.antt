@@ -1,6 +1,6 @@
 -- The line is that of the refusal.
 use Rattle.std.proofs.Common.{ℕ, List, sym, subst}
-use Rattle.join_top.specs.RunJoin.{Gains}
+use Rattle.text_program.specs.Streams.{Gains}
 use Rattle.join_top.proofs.Long.{long_line}
 use Rattle.join_top.proofs.top.refuse_long.Goals as goal
 

@@ -1,57 +1,112 @@
--- Where there is no job, the statuses tell why; where there is one, its run is the one that is kept.
-use Rattle.std.proofs.Common.{refl}
-use Rattle.join_top.proofs.Leaving as ran
-use Rattle.join_top.proofs.Reading.{read_all}
+-- Where something is wanted of a log, its judgement says all; elsewhere the run does; and where memory ran out, nothing was done.
+use Rattle.std.proofs.Common.{◌≡◌, ◌≤◌, refl, inl, inr, true, false, None, lit≤}
+use Rattle.std.proofs.lemmas.Bool.{false≢true}
+use Rattle.join_base.specs.Counts.{Rose}
+use Rattle.log_judge.specs.Judged.{has_verdict, IsLogStatus, IsLogReadAt}
+use Rattle.text_program.specs.Streams.{Gains}
+use Rattle.join_top.specs.declared.top.Ended.{Ended}
+use Rattle.join_top.specs.declared.job.Stop.TheVariants as stop
+use Rattle.join_top.specs.Task.{task, log_asked, LogOrRun, OnLog}
+use Rattle.join_top.specs.RunJoin.{ComesExactly, Reads, Refuses, Keeps, has_run, RefusesLog, RefusesBytes, TellsVerdict, GainsLine, GainsLogLine}
+use Rattle.join_top.proofs.Logs.{on_run, on_log, on_both, usage, unread, out_of_memory, at_six, not_silent, not_ended}
 use Rattle.join_top.proofs.Stopping as stopped
 use Rattle.join_top.proofs.top.run_join.Goals as goal
 
-pub returns-in-Err-clause-known : goal.returns-in-Err-clause-known
-returns-in-Err-clause-known g c = stopped.known c.in-Err.stop _ c.tell_stop.ensures.status
+-- ---- a log
 
-pub returns-in-Err-clause-usage : goal.returns-in-Err-clause-usage
-returns-in-Err-clause-usage g c = stopped.usage c.args.words.now g.S.Source.left g.S.Source.faults c.args.source.now c.read_job.new.source c.in-Err.stop _ c.in-Err.ensures.stop c.tell_stop.ensures.status
+pub returns-in-Log-clause-known : goal.returns-in-Log-clause-known
+returns-in-Log-clause-known g c = on_log (log_asked c.args.words.now) c.in-Log.ask _ _ c.in-Log.ensures c.judge_log.ensures.known
 
-pub returns-in-Err-clause-read_fault : goal.returns-in-Err-clause-read_fault
-returns-in-Err-clause-read_fault g c = stopped.read_fault c.args.words.now g.S.Source.left g.S.Source.faults c.args.source.now c.read_job.new.source c.in-Err.stop _ c.in-Err.ensures.stop c.tell_stop.ensures.status
+pub returns-in-Log-clause-usage : goal.returns-in-Log-clause-usage
+returns-in-Log-clause-usage g c = usage c.args.words.now c.in-Log.ask _ c.in-Log.ensures c.judge_log.ensures.known
 
-pub returns-in-Err-clause-reads_all : goal.returns-in-Err-clause-reads_all
-returns-in-Err-clause-reads_all g c = stopped.reads c.args.words.now g.S.Source.left g.S.Source.faults c.args.source.now c.read_job.new.source c.in-Err.stop _ c.in-Err.ensures.stop c.tell_stop.ensures.status
+pub returns-in-Log-clause-reads_all : goal.returns-in-Log-clause-reads_all
+returns-in-Log-clause-reads_all g c = on_log (log_asked c.args.words.now) c.in-Log.ask _ _ c.in-Log.ensures c.judge_log.ensures.reads
 
-pub returns-in-Err-clause-refusal : goal.returns-in-Err-clause-refusal
-returns-in-Err-clause-refusal g c = λ e. stopped.is_refused c.args.words.now g.S.Source.left g.S.Source.faults c.args.source.now c.read_job.new.source _ c.in-Err.stop _ c.in-Err.ensures.stop c.tell_stop.ensures.status e (c.tell_stop.ensures.refusal e)
+pub returns-in-Log-clause-refusal : goal.returns-in-Log-clause-refusal
+returns-in-Log-clause-refusal g c = on_log (log_asked c.args.words.now) c.in-Log.ask _ _ c.in-Log.ensures c.judge_log.ensures.refusal
 
-pub returns-in-Err-clause-kept : goal.returns-in-Err-clause-kept
-returns-in-Err-clause-kept g c = stopped.keeps_none c.in-Err.stop _ c.tell_stop.ensures.status c.args.words.now (g.S.Source.left c.args.source.now) c.tell_stop.result refl c.tell_stop.ensures.kept
+pub returns-in-Log-clause-no_log : goal.returns-in-Log-clause-no_log
+returns-in-Log-clause-no_log g c = on_log (log_asked c.args.words.now) c.in-Log.ask _ _ c.in-Log.ensures c.judge_log.ensures.no_log
 
-pub returns-in-Err-clause-how : goal.returns-in-Err-clause-how
-returns-in-Err-clause-how g c = stopped.nothing_kept c.tell_stop.result.kept c.tell_stop.ensures.kept _
+pub returns-in-Log-clause-kept : goal.returns-in-Log-clause-kept
+returns-in-Log-clause-kept g c = on_log (log_asked c.args.words.now) c.in-Log.ask _ _ c.in-Log.ensures refl
 
-pub returns-in-Err-clause-whole_text : goal.returns-in-Err-clause-whole_text
-returns-in-Err-clause-whole_text g c = stopped.nothing_kept c.tell_stop.result.kept c.tell_stop.ensures.kept _
+pub returns-in-Log-clause-verdict : goal.returns-in-Log-clause-verdict
+returns-in-Log-clause-verdict g c = on_log (log_asked c.args.words.now) c.in-Log.ask _ _ c.in-Log.ensures c.judge_log.ensures.verdict
 
-pub returns-in-Err-clause-write_fault : goal.returns-in-Err-clause-write_fault
-returns-in-Err-clause-write_fault g c = λ e. absurd (stopped.no_write c.in-Err.stop _ c.tell_stop.ensures.status e)
+pub returns-in-Log-clause-out_untouched : goal.returns-in-Log-clause-out_untouched
+returns-in-Log-clause-out_untouched g c = on_log (log_asked c.args.words.now) c.in-Log.ask _ _ c.in-Log.ensures c.judge_log.ensures.out_untouched
 
-pub returns-in-Ok-clause-known : goal.returns-in-Ok-clause-known
-returns-in-Ok-clause-known g c = ran.known _ c.run_job-ended.ensures.status
+pub returns-in-Log-clause-err_line : goal.returns-in-Log-clause-err_line
+returns-in-Log-clause-err_line g c = on_log (log_asked c.args.words.now) c.in-Log.ask _ _ c.in-Log.ensures (record { line = c.judge_log.ensures.line; untouched = c.judge_log.ensures.silent })
 
-pub returns-in-Ok-clause-usage : goal.returns-in-Ok-clause-usage
-returns-in-Ok-clause-usage g c = ran.usage _ c.args.words.now c.in-Ok.job.asked c.in-Ok.ensures.job.is_asked c.run_job-ended.ensures.status
+-- ---- a run
 
-pub returns-in-Ok-clause-read_fault : goal.returns-in-Ok-clause-read_fault
-returns-in-Ok-clause-read_fault g c = λ e. absurd (ran.no_read_fault _ c.run_job-ended.ensures.status e)
+pub returns-in-Other-clause-known : goal.returns-in-Other-clause-known
+returns-in-Other-clause-known g c = on_run (log_asked c.args.words.now) _ _ c.in-Other.ensures c.run_program.ensures.known
 
-pub returns-in-Ok-clause-reads_all : goal.returns-in-Ok-clause-reads_all
-returns-in-Ok-clause-reads_all g c = read_all g.S.Source.left _ _ _ c.args.source.now c.read_job.new.source c.in-Ok.ensures.job.ring (ran.no_usage _ c.run_job-ended.ensures.status) c.in-Ok.ensures.job.all
+pub returns-in-Other-clause-reads_all : goal.returns-in-Other-clause-reads_all
+returns-in-Other-clause-reads_all g c = on_run (log_asked c.args.words.now) _ _ c.in-Other.ensures c.run_program.ensures.reads_all
 
-pub returns-in-Ok-clause-refusal : goal.returns-in-Ok-clause-refusal
-returns-in-Ok-clause-refusal g c = λ e. absurd (ran.no_refusal _ c.run_job-ended.ensures.status e)
+pub returns-in-Other-clause-refusal : goal.returns-in-Other-clause-refusal
+returns-in-Other-clause-refusal g c = on_run (log_asked c.args.words.now) _ _ c.in-Other.ensures c.run_program.ensures.refusal
 
-pub returns-in-Ok-clause-kept : goal.returns-in-Ok-clause-kept
-returns-in-Ok-clause-kept g c = ran.keeps c.args.words.now g.S.Source.left c.args.source.now c.read_job.new.source c.in-Ok.job c.in-Ok.ensures.job _ _ c.run_job-ended.result c.run_job-ended.ensures.run c.run_job-ended.ensures.exactly
+pub returns-in-Other-clause-no_log : goal.returns-in-Other-clause-no_log
+returns-in-Other-clause-no_log g c = on_run (log_asked c.args.words.now) _ _ c.in-Other.ensures tt
 
-pub returns-in-Ok-clause-how : goal.returns-in-Ok-clause-how
-returns-in-Ok-clause-how g c = ran.made_as_asked c.args.words.now g.S.Source.left c.args.source.now c.read_job.new.source c.in-Ok.job c.in-Ok.ensures.job _ _ c.run_job-ended.result c.run_job-ended.ensures.run
+pub returns-in-Other-clause-kept : goal.returns-in-Other-clause-kept
+returns-in-Other-clause-kept g c = on_run (log_asked c.args.words.now) _ _ c.in-Other.ensures c.run_program.ensures.kept
 
-pub returns-in-Ok-clause-whole_text : goal.returns-in-Ok-clause-whole_text
-returns-in-Ok-clause-whole_text g c = ran.whole_text c.args.words.now g.S.Source.left c.args.source.now c.read_job.new.source c.in-Ok.job c.in-Ok.ensures.job _ _ c.run_job-ended.result c.run_job-ended.ensures.run
+pub returns-in-Other-clause-verdict : goal.returns-in-Other-clause-verdict
+returns-in-Other-clause-verdict g c = on_run (log_asked c.args.words.now) _ _ c.in-Other.ensures tt
+
+pub returns-in-Other-clause-out_untouched : goal.returns-in-Other-clause-out_untouched
+returns-in-Other-clause-out_untouched g c = on_run (log_asked c.args.words.now) _ _ c.in-Other.ensures c.run_program.ensures.out_untouched
+
+pub returns-in-Other-clause-err_line : goal.returns-in-Other-clause-err_line
+returns-in-Other-clause-err_line g c = on_run (log_asked c.args.words.now) _ _ c.in-Other.ensures c.run_program.ensures.err_line
+
+-- ---- no memory for the words
+
+pub returns-in-NoMemory-clause-known : goal.returns-in-NoMemory-clause-known
+returns-in-NoMemory-clause-known g c = at_six c.end.result c.end.ensures.ended (λ (it : Ended). LogOrRun (log_asked c.args.words.now) (λ _. IsLogStatus it.status) (it.status ≤ 6)) (on_both (log_asked c.args.words.now) _ _ (λ _. out_of_memory) (lit≤ tt))
+
+pub returns-in-NoMemory-clause-usage : goal.returns-in-NoMemory-clause-usage
+returns-in-NoMemory-clause-usage g c =
+    let s = c.args.source.now in
+    at_six c.end.result c.end.ensures.ended (λ (it : Ended). ComesExactly it.status 2 (task c.args.words.now ≡ None)) (stopped.usage c.args.words.now g.S.Source.left g.S.Source.faults s s stop.Memory 6 refl refl)
+
+pub returns-in-NoMemory-clause-reads_all : goal.returns-in-NoMemory-clause-reads_all
+returns-in-NoMemory-clause-reads_all g c =
+    let s = c.args.source.now in
+    at_six c.end.result c.end.ensures.ended (λ (it : Ended). LogOrRun (log_asked c.args.words.now) (λ _. IsLogReadAt it.status (g.S.Source.left s) (g.S.Source.left s)) (Reads c.args.words.now it.status g.S.Source.left s s))
+    (on_both (log_asked c.args.words.now) _ _ (λ _. unread (g.S.Source.left s)) (stopped.reads c.args.words.now g.S.Source.left g.S.Source.faults s s stop.Memory 6 refl refl))
+
+pub returns-in-NoMemory-clause-refusal : goal.returns-in-NoMemory-clause-refusal
+returns-in-NoMemory-clause-refusal g c =
+    at_six c.end.result c.end.ensures.ended (λ (it : Ended). LogOrRun (log_asked c.args.words.now) (λ _. RefusesLog it.status (g.S.Source.left c.args.source.now) (Gains g.E.Sink.held g.E.Sink.faults c.args.err.now c.end.new.err)) (Refuses c.args.words.now (g.S.Source.left c.args.source.now) it g.E.Sink.held g.E.Sink.faults c.args.err.now c.end.new.err))
+    (on_both (log_asked c.args.words.now) _ _ (λ _ e. absurd cc) (λ e. absurd cc))
+
+pub returns-in-NoMemory-clause-no_log : goal.returns-in-NoMemory-clause-no_log
+returns-in-NoMemory-clause-no_log g c =
+    at_six c.end.result c.end.ensures.ended (λ (it : Ended). OnLog (log_asked c.args.words.now) (λ _. RefusesBytes it.status (g.S.Source.left c.args.source.now) (g.S.Source.left c.args.source.now) (Gains g.E.Sink.held g.E.Sink.faults c.args.err.now c.end.new.err)))
+    (on_both (log_asked c.args.words.now) _ _ (λ _ e. absurd cc) tt)
+
+pub returns-in-NoMemory-clause-kept : goal.returns-in-NoMemory-clause-kept
+returns-in-NoMemory-clause-kept g c =
+    at_six c.end.result c.end.ensures.ended (λ (it : Ended). LogOrRun (log_asked c.args.words.now) (λ _. it.kept ≡ None) (Keeps c.args.words.now (g.S.Source.left c.args.source.now) it))
+    (on_both (log_asked c.args.words.now) _ _ (λ _. refl) (stopped.keeps_none stop.Memory 6 refl c.args.words.now (g.S.Source.left c.args.source.now) (record { status = 6; kept = None }) refl refl))
+
+pub returns-in-NoMemory-clause-verdict : goal.returns-in-NoMemory-clause-verdict
+returns-in-NoMemory-clause-verdict g c =
+    at_six c.end.result c.end.ensures.ended (λ (it : Ended). OnLog (log_asked c.args.words.now) (λ ask. TellsVerdict ask it.status (g.S.Source.left c.args.source.now) (g.K.Sink.held c.args.out.now) (g.K.Sink.held c.args.out.now)))
+    (on_both (log_asked c.args.words.now) _ _ (λ _ h. absurd (false≢true h)) tt)
+
+pub returns-in-NoMemory-clause-out_untouched : goal.returns-in-NoMemory-clause-out_untouched
+returns-in-NoMemory-clause-out_untouched g c = on_both (log_asked c.args.words.now) _ _ (λ _ _. refl) (λ _. refl)
+
+pub returns-in-NoMemory-clause-err_line : goal.returns-in-NoMemory-clause-err_line
+returns-in-NoMemory-clause-err_line g c =
+    at_six c.end.result c.end.ensures.ended (λ (it : Ended). LogOrRun (log_asked c.args.words.now) (λ _. GainsLogLine it.status g.E.Sink.held g.E.Sink.faults c.args.err.now c.end.new.err) (GainsLine it.status g.E.Sink.held g.E.Sink.faults c.args.err.now c.end.new.err))
+    (on_both (log_asked c.args.words.now) _ _ (λ _. record { line = inr (inr c.end.ensures.line); untouched = λ two. absurd (not_silent 6 refl two) }) (record { line = inr c.end.ensures.line; untouched = λ two. absurd (not_ended 6 refl two) }))
