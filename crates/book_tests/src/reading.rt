@@ -20,10 +20,14 @@ const EACH_KIND: &[u8] = b"joinlog 1\nsource 0\n\nbudget 1000000\nevents 4\n\
     react 0.2 0.3 4294967295.18446744073709551615\n\
     move 4294967295.18446744073709551615\nhalt 10.100\ndetect 7.0\ntrace 8\nstopped\n";
 
+/// A log of the second kind.
+const LARGE: &[u8] = b"joinlog 2\nsource 0\n\nbudget 4000000\nevents 0\ntrace 0\n";
+
 /// Bytes that are no log, and where they are wrong first. The line of an event begins at 38, and
 /// what follows `halt 7.0` at 47.
 const WRONG: &[(&[u8], u64)] = &[
-    (b"joinlog 2\nsource 0", 0),
+    (b"joinlog 3\nsource 0", 0),
+    (b"joinlog 2\nsource", 0),
     (b"joinlog 1\nsource 00\n", 17),
     (b"joinlog 1\nsource 047\n", 17),
     (b"joinlog 1\nsource +1\n", 17),
@@ -33,6 +37,16 @@ const WRONG: &[(&[u8], u64)] = &[
     (
         b"joinlog 1\nsource 0\n\nbudget 1000001\nevents 0\ntrace 0\n",
         27,
+    ),
+    (
+        b"joinlog 2\nsource 0\n\nbudget 4000001\nevents 0\ntrace 0\n",
+        27,
+    ),
+    // A budget that a log of the first kind has.
+    (
+        b"joinlog 2\nsource 38\nobserve out/0; site s [ none : out() ]\nbudget 1000000\nevents 0\n\
+            trace 16\nout()\nquiescent\n",
+        66,
     ),
     (
         b"joinlog 1\nsource 0\n\nbudget 1\nevents 2\nhalt 7.0\nhalt 7.0\ntrace 0\n",
@@ -194,5 +208,6 @@ fn logs_there_and_back(rt: HostRuntime) {
     };
     expect_spelled(&rt, rt.alloc(), log_of_one_event());
     expect_spelled(&rt, rt.alloc(), EACH_KIND);
+    expect_spelled(&rt, rt.alloc(), LARGE);
     assert_eq!(rt; last_taken(rt.alloc(), EACH_KIND), Ok(Some(last)));
 }

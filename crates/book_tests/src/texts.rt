@@ -39,17 +39,27 @@ fn the_texts_of_a_book(rt: HostRuntime) -> Result<(), Fail> {
 }
 
 /// The log of a text without an event.
-fn log_without_an_event(alloc: Global) -> Result<Text, Memory> {
+fn log_without_an_event(alloc: Global, budget: u32) -> Result<Text, Memory> {
     let source = b"observe out/0; site s [ none : out() ]";
     let journal = Items::new(alloc);
-    log_of_parts(alloc, source, 10, &journal, b"out()\nquiescent\n")
+    log_of_parts(alloc, source, budget, &journal, b"out()\nquiescent\n")
 }
 
 #[test]
 fn a_run_without_an_event(rt: HostRuntime) -> Result<(), Fail> {
-    let log = log_without_an_event(rt.alloc())?;
+    let log = log_without_an_event(rt.alloc(), 10)?;
     let want: &[u8] =
         b"joinlog 1\nsource 38\nobserve out/0; site s [ none : out() ]\nbudget 10\nevents 0\n\
+            trace 16\nout()\nquiescent\n";
+    expect_bytes(&rt, log.as_slice(), want);
+    Ok(())
+}
+
+#[test]
+fn a_log_of_the_second_kind(rt: HostRuntime) -> Result<(), Fail> {
+    let log = log_without_an_event(rt.alloc(), 1_000_001)?;
+    let want: &[u8] =
+        b"joinlog 2\nsource 38\nobserve out/0; site s [ none : out() ]\nbudget 1000001\nevents 0\n\
             trace 16\nout()\nquiescent\n";
     expect_bytes(&rt, log.as_slice(), want);
     Ok(())

@@ -8,6 +8,10 @@ mod events;
 #[cfg(test)]
 mod expect;
 #[cfg(test)]
+mod falls;
+#[cfg(test)]
+mod numbers;
+#[cfg(test)]
 mod openings;
 #[cfg(test)]
 mod solutions;

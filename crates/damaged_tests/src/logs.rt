@@ -25,19 +25,26 @@ fn digits(fields: &mut Fields) -> Option<u64> {
     number
 }
 
-// The longest run of digits, as a number of at most this size.
-fn decimal(fields: &mut Fields, most: u64) -> u64 {
+// The longest run of digits, as a number of at least and at most these sizes.
+fn decimal_from(fields: &mut Fields, least: u64, most: u64) -> u64 {
     let place = fields.place();
     let leads_with_zero = fields.next_byte() == Some(b'0');
     let number = digits(fields);
     let many = fields.place().wrapping_sub(place);
     match number {
-        Some(number) if many > 0 && number <= most && !(leads_with_zero && many > 1) => number,
+        Some(number)
+            if many > 0 && number >= least && number <= most && !(leads_with_zero && many > 1) => {
+            number
+        }
         _ => {
             fields.refuse(place);
             0
         }
     }
+}
+
+fn decimal(fields: &mut Fields, most: u64) -> u64 {
+    decimal_from(fields, 0, most)
 }
 
 fn pair(fields: &mut Fields) {
@@ -106,11 +113,30 @@ fn counted(fields: &mut Fields, most: u64) {
     fields.skip(many);
 }
 
-fn log(fields: &mut Fields) {
+// How a log begins; and whether it is one with a large budget.
+fn beginning(fields: &mut Fields) -> bool {
+    let second = b"joinlog 2\nsource ";
+    if is_next(fields, second) {
+        fields.literal(second);
+        return true;
+    }
     fields.literal(b"joinlog 1\nsource ");
-    counted(fields, 1_048_576);
+    false
+}
+
+fn budget(fields: &mut Fields, is_large: bool) -> u64 {
     fields.literal(b"\nbudget ");
-    let budget = decimal(fields, 1_000_000);
+    if is_large {
+        decimal_from(fields, 1_000_001, 4_000_000)
+    } else {
+        decimal(fields, 1_000_000)
+    }
+}
+
+fn log(fields: &mut Fields) {
+    let is_large = beginning(fields);
+    counted(fields, 1_048_576);
+    let budget = budget(fields, is_large);
     fields.literal(b"\nevents ");
     let many = decimal(fields, budget);
     fields.literal(b"\n");

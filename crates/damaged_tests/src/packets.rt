@@ -33,19 +33,42 @@ fn home(fields: &mut Fields, wanted: Option<Pair>) {
     }
 }
 
-fn name(fields: &mut Fields, wanted: Option<Pair>) {
-    match fields.tag(0, 2) {
+// What a name is, as far as a message on it may have any number of arguments or not.
+#[derive(Clone, Copy)]
+enum Named {
+    Plain,
+    Operation(u64),
+}
+
+// One of the two operations.
+fn operation(fields: &mut Fields) -> u64 {
+    let place = fields.place();
+    let index = fields.number(4);
+    if index > 1 {
+        fields.refuse(place);
+    }
+    index
+}
+
+// A name with one of the tags up to this one.
+fn name(fields: &mut Fields, most: u8, wanted: Option<Pair>) -> Named {
+    match fields.tag(0, most) {
         0 => {
             fields.number(4);
         }
         1 => {
             pair(fields);
         }
-        _ => {
+        2 => {
             pair(fields);
             home(fields, wanted);
         }
+        3 => {
+            fields.number(8);
+        }
+        _ => return Named::Operation(operation(fields)),
     }
+    Named::Plain
 }
 
 fn names(fields: &mut Fields, many: u64) {
@@ -53,14 +76,20 @@ fn names(fields: &mut Fields, many: u64) {
         if fields.is_wrong() {
             return;
         }
-        name(fields, None);
+        name(fields, 3, None);
     }
 }
 
 // What follows the id of a message, on a channel of this home or of any.
 fn message(fields: &mut Fields, wanted: Option<Pair>) {
-    name(fields, wanted);
+    let on = name(fields, 4, wanted);
+    let place = fields.place();
     let many = fields.number(1);
+    match on {
+        Named::Operation(0) if many != 3 => fields.refuse(place),
+        Named::Operation(1) if many != 4 => fields.refuse(place),
+        _ => {}
+    }
     names(fields, many);
 }
 

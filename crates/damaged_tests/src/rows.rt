@@ -73,6 +73,15 @@ const LOGS: &[(&[u8], usize)] = &[
     (b"joinlog 1\nsource 0\n\nbUdget 0\nevents 0\ntrace 0\n", 19),
     // A leading zero.
     (b"joinlog 1\nsource 00\n\nbudget 0\nevents 0\ntrace 0\n", 17),
+    // Budgets of the other kind of log.
+    (
+        b"joinlog 1\nsource 0\n\nbudget 1000001\nevents 0\ntrace 0\n",
+        27,
+    ),
+    (
+        b"joinlog 2\nsource 0\n\nbudget 1000000\nevents 0\ntrace 0\n",
+        27,
+    ),
     // More events than the budget.
     (
         b"joinlog 1\nsource 0\n\nbudget 0\nevents 1\nhalt 0.1\ntrace 0\n",

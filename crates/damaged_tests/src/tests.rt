@@ -31,6 +31,14 @@ const FULL_PARCEL: &[u8] = &[
     0, 0, 0, 0, 0, 0, 0, 0, 0, 0, 0, 0, 1, 0, 0, 0, 0, 0, 0, 0, 2, 2,
 ];
 
+/// The location 0.1, where the message 0.4 waits: a sum of 7 and the location 0.0 for the first
+/// observed name.
+const OPERATION_PARCEL: &[u8] = &[
+    2, 0, 0, 0, 0, 0, 0, 0, 0, 0, 0, 0, 1, 0, 0, 0, 0, 0, 0, 0, 1, 0, 0, 0, 0, 0, 0, 0, 0, 0, 0, 0,
+    4, 4, 0, 0, 0, 0, 3, 3, 0, 0, 0, 0, 0, 0, 0, 7, 1, 0, 0, 0, 0, 0, 0, 0, 0, 0, 0, 0, 0, 0, 0, 0,
+    0, 0, 0, 0, 0, 0,
+];
+
 /// The log of a run of one event.
 const LOG: &[u8] =
     b"joinlog 1\nsource 47\nobserve out/1; site s [ x(u) => out(u) : x(s) ]\nbudget 10\nevents 1\n\
@@ -48,6 +56,10 @@ fn parcel() -> &'static [u8] {
 
 fn full_parcel() -> &'static [u8] {
     FULL_PARCEL
+}
+
+fn operation_parcel() -> &'static [u8] {
+    OPERATION_PARCEL
 }
 
 fn log() -> &'static [u8] {
@@ -143,6 +155,7 @@ fn each_byte_of_a_packet(rt: HostRuntime) {
     expect_damage(&rt, rt.alloc(), Kind::Packet, message());
     expect_damage(&rt, rt.alloc(), Kind::Packet, parcel());
     expect_damage(&rt, rt.alloc(), Kind::Packet, full_parcel());
+    expect_damage(&rt, rt.alloc(), Kind::Packet, operation_parcel());
 }
 
 #[test]

@@ -11,6 +11,10 @@ mod free;
 #[cfg(test)]
 mod hostile;
 #[cfg(test)]
+mod judging;
+#[cfg(test)]
+mod large;
+#[cfg(test)]
 mod lines;
 #[cfg(test)]
 mod outcome;

@@ -20,7 +20,7 @@ const BUDGETS: &[Case] = &[
     },
     // Workers are taken and not used.
     Case {
-        words: &["alone", "--workers", "16", "--budget", "1000000"],
+        words: &["alone", "--workers", "16", "--budget", "4000000"],
         text: &[(1, "observe out/1; site s [ x(u) => out(u) : x(s) ]")],
         out: "out(s)\nquiescent\n",
         events: Some(1),
@@ -137,7 +137,7 @@ const NO_LINES: &[&[&str]] = &[
     &["fly"],
     &[],
     &["gen"],
-    &["alone", "--budget", "1000001"],
+    &["alone", "--budget", "4000001"],
     &["alone", "--budget", "00000001"],
     &["alone", "--budget="],
     &["alone", "--budget", "-1"],

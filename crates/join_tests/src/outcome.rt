@@ -14,7 +14,7 @@ use std::thread::Threads;
 use worked_texts::Case;
 
 /// More bytes than any line or text of these tests has.
-const ROOM: u32 = 4096;
+const ROOM: u32 = 16_384;
 
 /// How a run was made, without its report: on free threads with the number of events that the
 /// workers made.

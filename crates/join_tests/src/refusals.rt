@@ -180,12 +180,75 @@ fn counts_and_kinds() -> &'static [Case] {
     COUNTS_AND_KINDS
 }
 
+const VERSIONS: &[Case] = &[
+    // Numbers past the largest one, and past 255 in a text of version 1.
+    Case {
+        text: &[(
+            1,
+            "version 2; observe out/1; site s [ x(u) => out(u) : x(18446744073709551616) ]",
+        )],
+        err: "lex 3 at 54\n",
+        ..REFUSED
+    },
+    Case {
+        text: &[(1, "version 300; site s [ none : 0 ]")],
+        err: "lex 3 at 8\n",
+        ..REFUSED
+    },
+    // A number as an argument in a text of version 1.
+    Case {
+        text: &[(1, "observe out/1; site s [ x(u) => out(u) : x(7) ]")],
+        err: "grammar 1 at 43\n",
+        ..REFUSED
+    },
+    // No version that there is, and a line that isn't whole.
+    Case {
+        text: &[(1, "version 3; site s [ none : 0 ]")],
+        err: "grammar 1 at 0\n",
+        ..REFUSED
+    },
+    Case {
+        text: &[(1, "version 2 observe out/1; site s [ none : 0 ]")],
+        err: "grammar 1 at 0\n",
+        ..REFUSED
+    },
+    // A count past 255.
+    Case {
+        text: &[(1, "version 2; observe out/256; site s [none:0]")],
+        err: "grammar 1 at 23\n",
+        ..REFUSED
+    },
+    // Level 401.
+    Case {
+        text: &[
+            (1, "version 2; site s [ none : "),
+            (400, "("),
+            (1, "0"),
+            (400, ")"),
+            (1, " ]"),
+        ],
+        err: "grammar 2 at 426\n",
+        ..REFUSED
+    },
+    // A sum for a channel without arguments.
+    Case {
+        text: &[(1, "version 2; site s [ x() => 0 : add(1, 2, x) ]")],
+        err: "arity 1 at 41\n",
+        ..REFUSED
+    },
+];
+
+fn versions() -> &'static [Case] {
+    VERSIONS
+}
+
 /// Texts that are refused, with the kind and the place of their refusal.
-pub fn refusals() -> [&'static [Case]; 4] {
+pub fn refusals() -> [&'static [Case]; 5] {
     [
         texts_of_no_program(),
         names_out_of_scope(),
         too_many_sites(),
         counts_and_kinds(),
+        versions(),
     ]
 }

@@ -1,4 +1,6 @@
 // Packets and their bytes. The expected values were worked out by hand from the format.
+ghost use Rattle.wire_packet.specs.Operations.{IsPlain};
+
 use chem_model::{AtomId, Items, Loc, Memory, Name, RuleId, Text};
 use std::alloc::Global;
 use std::process::Abort;
@@ -17,6 +19,34 @@ fn message() -> &'static [u8] {
 /// Where the fields of the message begin.
 fn message_fields() -> &'static [usize] {
     &[0, 1, 5, 13, 14, 18, 26, 30, 38, 39, 40, 44]
+}
+
+/// The same message with the number 7 in place of the location.
+fn number_message() -> &'static [u8] {
+    &[
+        1, 0, 0, 0, 0, 0, 0, 0, 0, 0, 0, 0, 5, 2, 0, 0, 0, 0, 0, 0, 0, 0, 0, 0, 0, 1, 0, 0, 0, 0,
+        0, 0, 0, 0, 0, 0, 0, 0, 1, 3, 0, 0, 0, 0, 0, 0, 0, 7,
+    ]
+}
+
+fn number_message_fields() -> &'static [usize] {
+    &[0, 1, 5, 13, 14, 18, 26, 30, 38, 39, 40]
+}
+
+/// The location 0.1, where the message 0.4 waits: a sum of 7 and the location 0.0 for the first
+/// observed name.
+fn operation_parcel() -> &'static [u8] {
+    &[
+        2, 0, 0, 0, 0, 0, 0, 0, 0, 0, 0, 0, 1, 0, 0, 0, 0, 0, 0, 0, 1, 0, 0, 0, 0, 0, 0, 0, 0, 0,
+        0, 0, 4, 4, 0, 0, 0, 0, 3, 3, 0, 0, 0, 0, 0, 0, 0, 7, 1, 0, 0, 0, 0, 0, 0, 0, 0, 0, 0, 0,
+        0, 0, 0, 0, 0, 0, 0, 0, 0, 0,
+    ]
+}
+
+fn operation_parcel_fields() -> &'static [usize] {
+    &[
+        0, 1, 5, 13, 17, 21, 25, 33, 34, 38, 39, 40, 48, 49, 53, 61, 62, 66,
+    ]
 }
 
 /// The location 0.1 with one group: level 1, the first channel 0.2 and the first rule 0.3.
@@ -122,10 +152,12 @@ fn is_again(alloc: Global, bytes: &[u8]) -> bool {
     }
 }
 
-/// The message of `message`.
-fn made_message(alloc: Global) -> Result<Packet, Memory> {
+/// The message of `message`, with this argument.
+fn made_message(alloc: Global, arg: Name) -> Result<Packet, Memory>
+    requires { IsPlain arg }
+{
     let mut args = Items::new(alloc);
-    args.push(Name::Place(Loc { site: 1, k: 0 }))?;
+    args.push(arg)?;
     let home = Loc { site: 0, k: 0 };
     Ok(Packet::Message(Msg {
         id: AtomId { site: 0, k: 5 },
@@ -168,11 +200,15 @@ fn is_spelled(alloc: Global, made: Result<Packet, Memory>, bytes: &[u8]) -> bool
 #[test]
 fn there_and_back(rt: HostRuntime) {
     let alloc = rt.alloc();
-    assert!(rt; is_spelled(alloc, made_message(alloc), message()));
+    let place = Name::Place(Loc { site: 1, k: 0 });
+    assert!(rt; is_spelled(alloc, made_message(alloc, place), message()));
+    assert!(rt; is_spelled(alloc, made_message(alloc, Name::Num(7)), number_message()));
     assert!(rt; is_spelled(alloc, made_parcel(alloc), small_parcel()));
     assert!(rt; is_again(alloc, message()));
     assert!(rt; is_again(alloc, small_parcel()));
     assert!(rt; is_again(alloc, full_parcel()));
+    assert!(rt; is_again(alloc, number_message()));
+    assert!(rt; is_again(alloc, operation_parcel()));
 }
 
 /// That the bytes, cut at each place, are wrong at the field within which they end.
@@ -192,6 +228,8 @@ fn cut_off(rt: HostRuntime) {
     ends_within(&rt, alloc, message(), message_fields());
     ends_within(&rt, alloc, small_parcel(), small_parcel_fields());
     ends_within(&rt, alloc, full_parcel(), full_parcel_fields());
+    ends_within(&rt, alloc, number_message(), number_message_fields());
+    ends_within(&rt, alloc, operation_parcel(), operation_parcel_fields());
 }
 
 /// A byte that is changed: its index, its new value, and the place of the field that is then wrong
@@ -203,11 +241,14 @@ fn message_changes() -> &'static [Change] {
         // kinds of packets, tags of names
         (0, 0, 0),
         (0, 3, 0),
-        (13, 3, 13),
-        (39, 3, 39),
-        // the channel as an observed name, and as a location: then a byte follows the message
+        (13, 5, 13),
+        (39, 4, 39),
+        // the channel as an observed name, as a location and as a number: then a byte follows the
+        // message; as an operation: then its count is wrong
         (13, 0, 19),
         (13, 1, 27),
+        (13, 3, 23),
+        (13, 4, 18),
         // no argument, and two
         (38, 0, 39),
         (38, 2, 52),
@@ -230,13 +271,13 @@ fn full_parcel_changes() -> &'static [Change] {
     &[
         (0, 3, 0),
         // tags of names: in an environment, of a waiting message, of its argument, of requests
-        (49, 3, 49),
-        (140, 3, 140),
+        (49, 4, 49),
+        (140, 5, 140),
         (166, 255, 166),
-        (270, 3, 270),
-        (283, 3, 283),
-        (334, 3, 334),
-        (339, 3, 339),
+        (270, 4, 270),
+        (283, 4, 283),
+        (334, 4, 334),
+        (339, 4, 339),
         // another home's site, another home's number
         (156, 2, 153),
         (164, 8, 157),
@@ -257,6 +298,20 @@ fn full_parcel_changes() -> &'static [Change] {
         (320, 4, 320),
         (333, 255, 333),
         (269, 3, PACKET),
+    ]
+}
+
+fn operation_parcel_changes() -> &'static [Change] {
+    &[
+        // no operation, counts of another operation and of none, an operation as an argument
+        (33, 5, 33),
+        (37, 2, 34),
+        (37, 1, 38),
+        (38, 2, 38),
+        (38, 4, 38),
+        (39, 4, 39),
+        // a number for the location: then the parcel ends before the bytes do
+        (48, 3, 66),
     ]
 }
 
@@ -285,6 +340,7 @@ fn wrong_fields(rt: HostRuntime) {
     with_changes(&rt, alloc, message(), message_changes());
     with_changes(&rt, alloc, small_parcel(), small_parcel_changes());
     with_changes(&rt, alloc, full_parcel(), full_parcel_changes());
+    with_changes(&rt, alloc, operation_parcel(), operation_parcel_changes());
     expect_behind(&rt, alloc, message(), 52);
     expect_behind(&rt, alloc, small_parcel(), 57);
     expect_behind(&rt, alloc, full_parcel(), 352);

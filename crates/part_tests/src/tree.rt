@@ -25,6 +25,10 @@ enum Step {
     Alive(Loc, bool),
     /// Whether a location can move to another.
     CanMove(Loc, Loc, bool),
+    /// Whether a location can fall with another.
+    CanFall(Loc, Loc, bool),
+    /// A location falls with another.
+    Fall(Loc, Loc),
     /// A location moves to another.
     Move(Loc, Loc),
     /// A location dies.
@@ -34,6 +38,20 @@ enum Step {
 /// Whether a location can move to another, or not, as it is wanted.
 fn can_move(tree: &LocTree, loc: &Loc, target: &Loc, want: bool) -> bool {
     tree.holds(loc) && tree.holds(target) && tree.can_move(loc, target) == want
+}
+
+/// Whether a location can fall with another, or not, as it is wanted.
+fn can_fall(tree: &LocTree, loc: &Loc, target: &Loc, want: bool) -> bool {
+    tree.holds(loc) && tree.holds(target) && tree.can_fall(loc, target) == want
+}
+
+/// A location falls with another, where it can.
+fn falls(tree: &mut LocTree, loc: &Loc, target: &Loc) -> bool {
+    let is_possible = tree.holds(loc) && tree.holds(target) && tree.can_fall(loc, target);
+    if is_possible {
+        tree.rehost(loc, target);
+    }
+    is_possible
 }
 
 /// Moves a location to another, where it can.
@@ -61,6 +79,8 @@ fn is_taken(tree: &mut LocTree, step: &Step) -> bool {
         Step::Root(loc, want) => tree.holds(loc) && tree.root(loc) == *want,
         Step::Alive(loc, want) => tree.holds(loc) && tree.alive(loc) == *want,
         Step::CanMove(loc, target, want) => can_move(tree, loc, target, *want),
+        Step::CanFall(loc, target, want) => can_fall(tree, loc, target, *want),
+        Step::Fall(loc, target) => falls(tree, loc, target),
         Step::Move(loc, target) => moves(tree, loc, target),
         Step::Kill(loc) => dies(tree, loc),
     }
@@ -104,13 +124,29 @@ const LIFE: &[Step] = &[
     Step::CanMove(BORN, HERE, false),
 ];
 
-/// The location is born, moves and dies.
-fn live(rt: &impl Abort, alloc: Global, tree: &mut LocTree)
+/// What follows the birth where the second root dies before the location moves.
+const FALL: &[Step] = &[
+    Step::CanFall(BORN, THERE, false),
+    Step::Kill(THERE),
+    Step::CanMove(BORN, THERE, false),
+    Step::CanFall(BORN, THERE, true),
+    Step::CanFall(BORN, HERE, false),
+    Step::CanFall(HERE, THERE, false),
+    Step::CanFall(BORN, BORN, false),
+    Step::Fall(BORN, THERE),
+    Step::Root(BORN, 1),
+    Step::Alive(BORN, false),
+    Step::Alive(HERE, true),
+    Step::CanFall(BORN, THERE, false),
+];
+
+/// The location is born, and then lives as these steps say.
+fn live(rt: &impl Abort, alloc: Global, tree: &mut LocTree, steps: &[Step])
     requires { 0 < tree.old.roots }
 {
     let born = is_born(alloc, tree);
     assert!(rt; born == Ok(true));
-    expect_steps(rt, tree, LIFE);
+    expect_steps(rt, tree, steps);
 }
 
 #[test]
@@ -118,7 +154,18 @@ fn a_location_moves_and_dies_with_its_root(rt: HostRuntime) {
     match LocTree::start(rt.alloc(), 2) {
         Ok(mut tree) => {
             crosses(&tree);
-            live(&rt, rt.alloc(), &mut tree);
+            live(&rt, rt.alloc(), &mut tree, LIFE);
+            drop(tree);
+        }
+        Err(_) => assert!(rt; false, "no memory"),
+    }
+}
+
+#[test]
+fn a_location_falls_with_a_dead_root(rt: HostRuntime) {
+    match LocTree::start(rt.alloc(), 2) {
+        Ok(mut tree) => {
+            live(&rt, rt.alloc(), &mut tree, FALL);
             drop(tree);
         }
         Err(_) => assert!(rt; false, "no memory"),

@@ -28,7 +28,7 @@ pub fn begin<L: Run>(
     blank: Blank,
 ) -> Result<(SharedNet<L>, Passes<L>), Memory>
     requires passes { (1 ≤ passes) × (passes ≤ 16) }
-    requires budget { budget ≤ 1000000 }
+    requires budget { budget ≤ 4000000 }
     requires name { blank.name ≡ L.name }
     requires parts { blank.parts ≡ L.parts }
     requires one_each { blank.parts ≡ passes }
@@ -70,7 +70,7 @@ fn run_steps<L: Run, G: Gate, R: Wait>(
     steps: &[(u32, Turn)],
     gate: &G,
 ) -> Result<(Other, Option<Ended>), Memory>
-    requires budget { budget ≤ 1000000 }
+    requires budget { budget ≤ 4000000 }
     requires name { blank.name ≡ L.name }
     requires parts { blank.parts ≡ L.parts }
     requires one { blank.parts ≡ 1 }
@@ -91,7 +91,7 @@ fn run_alone<G: Gate, R: Wait>(
     steps: &[(u32, Turn)],
     gate: &G,
 ) -> Result<(Other, Option<Ended>), Memory>
-    requires { budget ≤ 1000000 }
+    requires { budget ≤ 4000000 }
 {
     run_steps::<Brand, G, R>(rt, alloc, program, budget, Blank::new(1), steps, gate)
 }
@@ -102,7 +102,7 @@ fn run_case<R: Wait>(
     case: &Case,
 ) -> Result<(Other, Option<Ended>, Passed), Front> {
     let program = program_of(alloc, case.text.as_bytes())?;
-    if case.budget > 1_000_000 {
+    if case.budget > 4_000_000 {
         return Err(Front::Memory);
     }
     let gate = CountGate::new();

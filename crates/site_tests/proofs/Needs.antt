@@ -5,6 +5,8 @@ use Rattle.std.proofs.lemmas.Bool.{and_parts, and_from}
 use Rattle.chem_model.specs.declared.name.Loc.{Loc}
 use Rattle.chem_model.specs.declared.name.Name.{Name}
 use Rattle.chem_model.specs.declared.name.Name.TheVariants as name
+use Rattle.chem_model.specs.Each.{Each}
+use Rattle.wire_packet.specs.Operations.{IsPlain, HasCount}
 use Rattle.env_store.specs.declared.code.Guard.{Guard}
 use Rattle.env_store.specs.declared.code.Level.{Level}
 use Rattle.env_store.specs.CodeParts.{CodeParts}
@@ -34,6 +36,8 @@ name_reach : (t : Tree) (ls : List Loc) (n : Name) → name_stands t n ≡ true 
 name_reach t ls (name.Seen i) h = refl
 name_reach t ls (name.Place a) h = ap (λ (b : Bool). b || among ls a) h
 name_reach t ls (name.Chan s k home) h = ap (λ (b : Bool). b || among ls home) h
+name_reach t ls (name.Num i) h = refl
+name_reach t ls (name.Op i) h = refl
 
 names_reach : (t : Tree) (ls : List Loc) (ns : List Name) → names_stand t ns ≡ true → names_in (in_reach t ls) ns ≡ true
 names_reach t ls [] h = refl
@@ -41,10 +45,10 @@ names_reach t ls (n ∷ ns) h =
     let both = and_parts (name_stands t n) (names_stand t ns) h in
     and_from (name_in (in_reach t ls) n) (names_in (in_reach t ls) ns) (name_reach t ls n both.0) (names_reach t ls ns both.1)
 
-pub can_emit : (t : Tree) (s : Site) (on : Name) (args : List Name) → is_in_tree t s ≡ true → CanDraw t s → name_stands t on && names_stand t args ≡ true → length args ≤ 255 → CanEmit t on args s
-can_emit t s on args there draws stands few =
+pub can_emit : (t : Tree) (s : Site) (on : Name) (args : List Name) → is_in_tree t s ≡ true → CanDraw t s → name_stands t on && names_stand t args ≡ true → length args ≤ 255 → Each IsPlain args → HasCount on (length args) → CanEmit t on args s
+can_emit t s on args there draws stands few plain count =
     let both = and_parts (name_stands t on) (names_stand t args) stands in
-    record { all_there = there; can_draw = draws; on_named = name_reach t s.locs on both.0; args_named = names_reach t s.locs args both.1; few = few }
+    record { all_there = there; can_draw = draws; on_named = name_reach t s.locs on both.0; args_named = names_reach t s.locs args both.1; few = few; plain = plain; count = count }
 
 all_there : (a b : Bool) → a && b ≡ true → b ≡ true
 all_there true b h = h
@@ -55,6 +59,7 @@ can_pour c t s l there coded draws held = record {
   in_code = coded;
   can_draw = draws;
   env_named = names_reach t s.locs (name.Place l ∷ []) (is_there (spot t l) held);
+  env_plain = (tt, tt);
   all_named = all_in_less (in_tree t) (in_reach t s.locs) (λ a e. ap (λ (b : Bool). b || among s.locs a) e) s (all_there _ _ there);
 }
   where

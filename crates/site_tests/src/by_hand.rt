@@ -1,6 +1,9 @@
 // Calls whose arguments are made by hand, each with a test of what it needs before it.
 ghost use Rattle.std.specs.Prelude.{◌≡◌, ◌<◌, ◌≤◌, ◌∷◌, [], length, slice_get, option_copied};
-ghost use Rattle.std.specs.Prelude.{IsTrue, IfOk, IfSome};
+ghost use Rattle.std.specs.Prelude.{ℕ, IsTrue, IfOk, IfSome};
+ghost use Rattle.chem_model.specs.Each.{Each};
+ghost use Rattle.wire_packet.specs.Operations.{IsPlain, HasCount};
+ghost use Rattle.wire_packet.specs.GroupFacts.{IsAskKept};
 ghost use Rattle.chem_model.specs.declared.name.Name.TheVariants as name;
 ghost use Rattle.env_store.specs.CodeFacts.{IsCode, IsBodyAt};
 ghost use Rattle.net_laws.specs.ByCode.{counts_at, guards_at};
@@ -26,11 +29,34 @@ pub fn names_of(alloc: Global, place: Loc) -> Result<Names, Memory>
 
 /// Names that are this location, or none.
 pub fn args_of(alloc: Global, place: Option<Pair>) -> Result<Names, Memory>
-    ensures { IfOk result (λ names. length names ≤ 255) }
+    ensures few { IfOk result (λ names. length names ≤ 255) }
+    ensures plain { IfOk result (λ names. Each IsPlain names) }
 {
     match place {
         Some(place) => names_of(alloc, loc(place)),
         None => Ok(Items::new(alloc)),
+    }
+}
+
+/// Whether the name is no operation.
+pub fn is_plain(name: Name) -> bool
+    ensures plain { IsTrue result → IsPlain name }
+    ensures count { IsTrue result → (n : ℕ) → HasCount name n }
+{
+    match name {
+        Name::Op(_) => false,
+        Name::Seen(_) | Name::Place(_) | Name::Chan { .. } | Name::Num(_) => true,
+    }
+}
+
+// Whether neither the target nor the continuation of a request is an operation.
+fn asks_plain(ask: Ask) -> bool
+    ensures { IsTrue result → IsAskKept ask }
+{
+    match ask {
+        Ask::Go { target, cont } => is_plain(target) && is_plain(cont),
+        Ask::Fail { target, cont } => is_plain(target) && is_plain(cont),
+        Ask::Halt => true,
     }
 }
 
@@ -108,6 +134,7 @@ pub fn ask_at(
     loc: Loc,
     ask: Ask,
 ) -> Result<(), Memory> {
+    assert!(rt; asks_plain(ask));
     let request = Request { id, loc, ask };
     assert!(rt; site.has(&loc));
     assert!(rt; !site.has_atom(&id));
@@ -148,13 +175,16 @@ pub fn emit_at(
     loc: Loc,
     on: Name,
     args: Names,
-) -> Result<Effects, Memory> {
+) -> Result<Effects, Memory>
+    requires { Each IsPlain args }
+{
     assert!(rt; site.in_tree(tree));
     draws(rt, site, tree);
     assert!(rt; site.has(&loc));
     assert!(rt; tree.holds(&loc));
     assert!(rt; tree.alive(&loc));
     assert!(rt; args.len() <= 255);
+    assert!(rt; is_plain(on));
     let id = AtomId { site: 0, k: 0 };
     let told = Msg { id, on, args };
     assert!(rt; message_is_there(tree, &told));

@@ -102,7 +102,7 @@ pub fn move_at(
 ) -> Result<Effects, Memory> {
     assert!(rt; site.in_tree(tree));
     draws(rt, site, tree);
-    assert!(rt; move_ready(site, tree, &atom));
+    assert!(rt; move_ready(site, tree, 2, &atom));
     assert!(rt; leads_into(site, site, &atom));
     move_within(alloc, site, tree, counts, &atom)
 }
@@ -120,7 +120,7 @@ pub fn move_over(
     fit(rt, from, code, tree);
     fit(rt, into, code, tree);
     draws(rt, into, tree);
-    assert!(rt; move_ready(from, tree, &atom));
+    assert!(rt; move_ready(from, tree, 2, &atom));
     assert!(rt; leads_into(from, into, &atom));
     assert!(rt; from.request(&atom).is_some());
     assert!(rt; can_join(from, into, tree, &atom));

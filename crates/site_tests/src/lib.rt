@@ -11,9 +11,13 @@ mod delivering;
 #[cfg(test)]
 mod failing;
 #[cfg(test)]
+mod falls;
+#[cfg(test)]
 mod moves;
 #[cfg(test)]
 mod net;
+#[cfg(test)]
+mod numbers;
 #[cfg(test)]
 mod reactions;
 #[cfg(test)]

@@ -118,7 +118,7 @@ const TO_THE_PRESENT_HOST: &[Step] = &[
     Step::Tree(Place::Stands(M, 0, true)),
     Step::See(0, Look::Has(M, 1, &[(0, 9)])),
     Step::See(0, Look::Has((0, 3), 1, &[(0, 8)])),
-    Step::See(0, Look::MayGo((0, 8), false)),
+    Step::See(0, Look::MayGo(1, (0, 8), false)),
 ];
 
 fn to_the_present_host() -> &'static [Step] {

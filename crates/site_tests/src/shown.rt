@@ -1,5 +1,6 @@
 // What stands at a site, and what comes of a call, beside what is wanted.
 
+use crate::by_hand::is_plain;
 use crate::calls::{event_at, is_quiet};
 use crate::net::{Pair, atom, loc};
 use chem_model::{AtomId, Event, Items, Loc, Memory, Name, RuleId, Text};
@@ -21,6 +22,8 @@ pub enum Leaves {
     Nothing,
     /// One message with this location is observed, and nothing else comes of it.
     Observed(Pair),
+    /// One message with this number is observed, and nothing else comes of it.
+    Counted(u64),
     /// So many messages go to other sites, so many are observed, and so many locations are born.
     Sizes([usize; 3]),
     /// One message goes to the site with this number, and nothing else comes of it.
@@ -34,10 +37,10 @@ fn has_sizes(effects: &Effects, sizes: [usize; 3]) -> bool {
         && effects.births.len() == sizes[2]
 }
 
-// The first that is observed is on the first observed name, with this location alone.
-fn has_out(effects: &Effects, place: Loc) -> bool {
+// The first that is observed is on the first observed name, with this name alone.
+fn has_out(effects: &Effects, arg: Name) -> bool {
     match effects.outs.as_slice().first() {
-        Some(out) => { out.on == 0 && out.args.as_slice() == [Name::Place(place)].as_slice() }
+        Some(out) => { out.on == 0 && out.args.as_slice() == [arg].as_slice() }
         None => false,
     }
 }
@@ -54,7 +57,12 @@ fn has_target(effects: &Effects, target: u32) -> bool {
 pub fn has_left(effects: &Effects, want: Leaves) -> bool {
     match want {
         Leaves::Nothing => has_sizes(effects, [0, 0, 0]),
-        Leaves::Observed(place) => { has_sizes(effects, [0, 1, 0]) && has_out(effects, loc(place)) }
+        Leaves::Observed(place) => {
+            has_sizes(effects, [0, 1, 0]) && has_out(effects, Name::Place(loc(place)))
+        }
+        Leaves::Counted(number) => {
+            has_sizes(effects, [0, 1, 0]) && has_out(effects, Name::Num(number))
+        }
         Leaves::Sizes(sizes) => has_sizes(effects, sizes),
         Leaves::Sent(target) => has_sizes(effects, [1, 0, 0]) && has_target(effects, target),
     }
@@ -145,8 +153,8 @@ pub enum Look {
     /// So many groups stand at a location, and these messages in the order of queues and then these
     /// requests in the order of their ids.
     Has(Pair, usize, &'static [Pair]),
-    /// Whether the rule Go allows a request.
-    MayGo(Pair, bool),
+    /// Whether a request to go may be met in a text of this version.
+    MayGo(u32, Pair, bool),
     /// Whether a request to halt may be met.
     MayHalt(Pair, bool),
     /// Whether a request finds its location dead.
@@ -240,6 +248,9 @@ pub fn packed(alloc: Global, site: &Site, place: Loc) -> Result<Text, Memory> {
 
 // Whether a message without arguments may be delivered on a name.
 fn takes(alloc: Global, site: &Site, tree: &LocTree, on: Name) -> bool {
+    if !is_plain(on) {
+        return false;
+    }
     let msg = Msg {
         id: atom((7, 7)),
         on,
@@ -262,8 +273,8 @@ pub fn shows(
         Look::Quiet => Ok(is_quiet(rt, site, code, tree)),
         Look::Knows => Ok(!matches!(site.least_covered(code, tree), Search::Unknown)),
         Look::Has(place, groups, atoms) => has_at(alloc, site, loc(place), groups, atoms),
-        Look::MayGo(id, want) => {
-            Ok(site.in_tree(tree) && move_ready(site, tree, &atom(id)) == want)
+        Look::MayGo(version, id, want) => {
+            Ok(site.in_tree(tree) && move_ready(site, tree, version, &atom(id)) == want)
         }
         Look::MayHalt(id, want) => {
             Ok(site.in_tree(tree) && halt_ready(site, tree, &atom(id)) == want)

@@ -2,6 +2,9 @@
 // named by its place in the list of sites. A message that leaves a site is mail, which later steps
 // bring to sites.
 
+ghost use Rattle.std.specs.Prelude.{ℕ};
+ghost use Rattle.wire_packet.specs.Operations.{HasCount};
+
 use crate::by_hand::{
     args_of, ask_at, draw_at, drop_at, emit_root, host_at, lay_at, pour_at, put_at, take_at,
 };
@@ -343,7 +346,10 @@ fn post(
 }
 
 // A channel's name.
-fn channel((pair, home): Channel) -> Name {
+fn channel(on: Channel) -> Name
+    ensures { (n : ℕ) → HasCount result n }
+{
+    let (pair, home) = on;
     Name::Chan {
         site: pair.0,
         k: pair.1,

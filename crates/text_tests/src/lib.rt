@@ -9,6 +9,8 @@ mod lines;
 #[cfg(test)]
 mod programs;
 #[cfg(test)]
+mod second;
+#[cfg(test)]
 mod tokens;
 #[cfg(test)]
 mod trees;

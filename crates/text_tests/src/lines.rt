@@ -1,10 +1,11 @@
 // Lines as they are read. The expected values were worked out by hand from the rules of the line.
-use join_words::{Asked, By, WordEnd, read_words};
+use join_words::{Asked, By, Job, WordEnd, read_words};
 use std::alloc::{AllocError, Global};
 use std::process::Abort;
 
 /// What a line without options asks for.
 const PLAIN: Asked = Asked {
+    job: Job::Run,
     by: By::Alone,
     ring: None,
     budget: 100_000,
@@ -45,9 +46,9 @@ const LINES: &[(&[&str], Asked)] = &[
     (&["alone"], PLAIN),
     (&["--", "alone"], PLAIN),
     (
-        &["--budget", "1000000", "alone"],
+        &["--budget", "4000000", "alone"],
         Asked {
-            budget: 1_000_000,
+            budget: 4_000_000,
             ..PLAIN
         },
     ),
@@ -61,8 +62,22 @@ const LINES: &[(&[&str], Asked)] = &[
         },
     ),
     (&["gen", "5", "--by", "rounds"], FIVE),
+    (&["check"], CHECK),
+    (&["--", "explain"], EXPLAIN),
     (&["--by=rounds", "gen", "--", "0000005"], FIVE),
 ];
+
+/// What asks for the verdict on a log.
+const CHECK: Asked = Asked {
+    job: Job::Check,
+    ..PLAIN
+};
+
+/// What asks why what a log's run left is left.
+const EXPLAIN: Asked = Asked {
+    job: Job::Explain,
+    ..PLAIN
+};
 
 /// What asks for a ring of five in rounds.
 const FIVE: Asked = Asked {
@@ -91,6 +106,9 @@ const NO_LINES: &[&[&str]] = &[
     &["run", "--by", "run"],
     &["--help"],
     &["run", "--", "--log"],
+    &["check", "5"],
+    &["explain", "check"],
+    &["gen", "5", "--by", "check"],
 ];
 
 #[test]
@@ -105,13 +123,17 @@ const NO_OPTIONS: &[&[&str]] = &[
     &["alone", "--budget", "5", "--budget=5"],
     &["alone", "--log", "--log"],
     &["alone", "--log="],
-    &["alone", "--budget", "1000001"],
+    &["alone", "--budget", "4000001"],
     &["alone", "--budget", "00000001"],
     &["alone", "--budget="],
     &["alone", "--budget", "-1"],
     &["alone", "--budget"],
     &["run", "--workers=0"],
     &["gen", "5", "--by=gen"],
+    &["check", "--log"],
+    &["check", "--by", "alone"],
+    &["explain", "--budget", "100000"],
+    &["explain", "--workers=4"],
 ];
 
 #[test]
@@ -127,5 +149,6 @@ fn copies(rt: HostRuntime) {
     let alloc = rt.alloc();
     assert!(rt; PLAIN.copy(alloc) == Ok(PLAIN));
     assert!(rt; By::Run.copy(alloc) == Ok(By::Run));
+    assert!(rt; Job::Explain.copy(alloc) == Ok(Job::Explain));
     assert!(rt; WordEnd::Form.copy(alloc) == Ok(WordEnd::Form));
 }

@@ -159,6 +159,70 @@ fn the_sixty_fifth_site(rt: HostRuntime) {
     assert!(rt; sites_end_so(rt.alloc(), 65, End::Fault(Kind::Scope6, 1152)));
 }
 
+// So many sites of 19 bytes each, in a text of the second version.
+fn sites_of_second(alloc: Global, count: u16) -> Result<Vec<u8>, AllocError> {
+    let mut text = Vec::new(alloc);
+    text.extend_from_slice(b"version 2; ")?;
+    for number in 0..count {
+        text.extend_from_slice(b"site s")?;
+        text.push(b'0' + (number / 100 % 10) as u8)?;
+        text.push(b'0' + (number / 10 % 10) as u8)?;
+        text.push(b'0' + (number % 10) as u8)?;
+        text.extend_from_slice(b" [none:0] ")?;
+    }
+    Ok(text)
+}
+
+// Whether the text of so many sites of the second version ends so.
+fn sites_of_second_end_so(alloc: Global, count: u16, end: End) -> bool {
+    match sites_of_second(alloc, count) {
+        Ok(text) => ends_so(alloc, &text, &end),
+        Err(_) => false,
+    }
+}
+
+#[test]
+fn the_site_after_256(rt: HostRuntime) {
+    assert!(rt; sites_of_second_end_so(rt.alloc(), 256, End::Binders(256, 256)));
+    assert!(rt; sites_of_second_end_so(rt.alloc(), 257, End::Fault(Kind::Scope6, 4875)));
+}
+
+/// Operations and their names.
+const OPERATIONS: &[(&[u8], End)] = &[
+    // `add` sends a message with one argument
+    (
+        b"version 2; site s [ x() => 0 : add(1, 2, x) ]",
+        End::Fault(Kind::Arity1, 41),
+    ),
+    // `same` sends one without arguments, on one of two names
+    (
+        b"version 2; site s [ x(u) => 0 : same(1, 2, x, x) ]",
+        End::Fault(Kind::Arity1, 43),
+    ),
+    (
+        b"version 2; site s [ none : add(1, 2, s) ]",
+        End::Fault(Kind::Arity3, 37),
+    ),
+    (
+        b"version 2; site s [ x() => 0 : same(1, 2, x, s) ]",
+        End::Fault(Kind::Arity3, 45),
+    ),
+    (
+        b"version 2; site s [ none : add(1, q, s) ]",
+        End::Fault(Kind::Scope1, 34),
+    ),
+    // a channel and a location may stand where numbers are wanted
+    (
+        b"version 2; site s [ x() => 0 : same(x, s, x, x) ]",
+        End::Binders(2, 2),
+    ),
+];
+
+#[test]
+fn names_of_operations(rt: HostRuntime) {
+    expect_ends(&rt, rt.alloc(), OPERATIONS);
+}
+
 const HIDDEN: &[(&[u8], End)] = &[
     // the inner channel takes two arguments, and the innermost none
     (
@@ -214,6 +278,34 @@ fn is_message(p: &Proc, channel: Ref, argument: Ref) -> bool {
     match p.node() {
         ProcNode::Msg { on, args } => *on == channel && args.as_slice() == [argument].as_slice(),
         _ => false,
+    }
+}
+
+// Whether a program's one site adds these two for the first observed name.
+fn adds(p: &Program, left: Ref, right: Ref) -> bool {
+    match p.sites.as_slice() {
+        [site] => match site.body.node() {
+            ProcNode::Msg { on, args } => {
+                *on == Ref::Known(Name::Op(0))
+                    && args.as_slice() == [left, right, Ref::Known(Name::Seen(0))].as_slice()
+            }
+            _ => false,
+        },
+        _ => false,
+    }
+}
+
+#[test]
+fn a_sum_as_a_message(rt: HostRuntime) {
+    match program_of(
+        rt.alloc(),
+        b"version 2; observe out/1; site s [ none : add(007, s, out) ]",
+    ) {
+        Ok(p) => {
+            assert!(&rt; p.version == 2);
+            assert!(&rt; adds(&p, Ref::Known(Name::Num(7)), Ref::Binder(0)));
+        }
+        Err(_) => assert!(&rt; false),
     }
 }
 

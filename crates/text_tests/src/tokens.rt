@@ -9,7 +9,7 @@ use std::process::Abort;
 enum Want {
     Key(Key),
     Sign(Sign),
-    Number(u32),
+    Number(u64),
     Name(&'static [u8]),
 }
 
@@ -105,6 +105,46 @@ const KEYWORDS: &[Row] = &[
 fn every_keyword(rt: HostRuntime) {
     let text = b"observe site def in and go fail halt none";
     expect_tokens(&rt, rt.alloc(), text, KEYWORDS);
+}
+
+const SECOND_KEYWORDS: &[Row] = &[
+    (0, 7, Want::Name(b"version")),
+    (8, 11, Want::Number(2)),
+    (11, 12, Want::Sign(Sign::Semicolon)),
+    (13, 16, Want::Key(Key::Add)),
+    (17, 21, Want::Key(Key::Same)),
+    (22, 29, Want::Name(b"version")),
+    (30, 34, Want::Name(b"adds")),
+];
+
+const FIRST_NAMES: &[Row] = &[
+    (0, 3, Want::Name(b"add")),
+    (4, 8, Want::Name(b"same")),
+    (9, 16, Want::Name(b"version")),
+    (17, 18, Want::Number(2)),
+    (18, 19, Want::Sign(Sign::Semicolon)),
+];
+
+// `add` and `same` are keywords where the text says first that it is of the second version.
+#[test]
+fn keywords_of_the_second_version(rt: HostRuntime) {
+    let text = b"version 002; add same version adds";
+    expect_tokens(&rt, rt.alloc(), text, SECOND_KEYWORDS);
+    expect_tokens(&rt, rt.alloc(), b"add same version 2;", FIRST_NAMES);
+}
+
+const LARGEST: &[Row] = &[
+    (0, 7, Want::Name(b"version")),
+    (8, 9, Want::Number(2)),
+    (9, 10, Want::Sign(Sign::Semicolon)),
+    (11, 31, Want::Number(u64::MAX)),
+    (32, 57, Want::Number(256)),
+];
+
+#[test]
+fn large_numbers_of_the_second_version(rt: HostRuntime) {
+    let text = b"version 2; 18446744073709551615 0000000000000000000000256";
+    expect_tokens(&rt, rt.alloc(), text, LARGEST);
 }
 
 const SIGNS: &[Row] = &[

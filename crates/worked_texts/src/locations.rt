@@ -379,3 +379,59 @@ quiescent
 pub(crate) fn tour_to_wreck() -> &'static [Case] {
     TOUR_TO_WRECK
 }
+
+const HOPS: &[Case] = &[
+    // hops.join
+    Case {
+        words: &["alone"],
+        text: &[(
+            1,
+            r"version 2;
+# An agent counts its hops from site to site: a `go` sends nothing, so the count goes along as the argument of `hop`.
+# Look at the end: Paris sends it on to Atlantis, which has sunk before the agent set out. In version 2 that is a move
+# too: the agent is dead there, it never says that it has arrived, and home sees that it is lost.
+observe seen/2; observe lost/1;
+site home [
+  agent [
+    hop(n, town, road) =>
+      def here() => add(n, 1, counted)
+      and counted(m) => seen(town, m) | road(m, hop)
+      in go(town, here) and
+    sunk() => hop(0, oslo, from_oslo)
+    : fail(atlantis, sunk)
+  ] and
+  gone() => lost(agent)
+  : fail(agent, gone)
+]
+site oslo [
+  from_oslo(n, next) => next(n, paris, from_paris)
+  : 0
+]
+site paris [
+  from_paris(n, next) =>
+    def on() => next(n, oslo, from_oslo)
+    and last() => next(n, atlantis, from_atlantis)
+    in same(n, 4, last, on)
+  : 0
+]
+site atlantis [
+  from_atlantis(n, next) => next(n, home, from_oslo)
+  : halt()
+]
+",
+        )],
+        out: r"seen(oslo, 1)
+seen(paris, 2)
+seen(oslo, 3)
+seen(paris, 4)
+lost(agent)
+quiescent
+",
+        events: Some(29),
+        ..QUIET
+    },
+];
+
+pub(crate) fn hops() -> &'static [Case] {
+    HOPS
+}

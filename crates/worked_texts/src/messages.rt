@@ -520,3 +520,296 @@ quiescent
 pub(crate) fn philosophers_to_ring() -> &'static [Case] {
     PHILOSOPHERS_TO_RING
 }
+
+const BANK_TO_COUNTER_2: &[Case] = &[
+    // bank.join
+    Case {
+        words: &["alone"],
+        text: &[(
+            1,
+            r"version 2;
+# A bank with two accounts, which pays out no more than is there. There is no subtraction and no `less than`, so `minus`
+# counts from 0 up to the balance, and from the amount on it counts what is left.
+# Look at `balance`: each account has one such message, and whoever works at the account has taken it. So two payments
+# from one account are never worked on at once.
+observe paid/3; observe refused/2; observe has/2;
+site bank [
+  open(n, k) =>
+    def balance(b) | deposit(m, then) => add(b, m, balance) | then()
+    and balance(b) | withdraw(m, then, refuse) =>
+      def rest(c) => balance(c) | then()
+      and too_much() => balance(b) | refuse()
+      in minus(b, m, rest, too_much)
+    and balance(b) | look(j) => balance(b) | j(b)
+    in balance(n) | k(deposit, withdraw, look) and
+  minus(b, m, k, too_much) =>
+    def below(i) =>
+      def reached() => above(i, 0)
+      and not_yet() => same(i, b, too_much, up)
+      and up() => add(i, 1, below)
+      in same(i, m, reached, not_yet)
+    and above(i, c) =>
+      def all() => k(c)
+      and more() => add(i, 1, next) | add(c, 1, one_more)
+      and next(j) | one_more(d) => above(j, d)
+      in same(i, b, all, more)
+    in below(0)
+  : 0
+]
+site anna [
+  opened(in_anna, out_anna, see_anna) | opened_ben(in_ben, out_ben, see_ben) =>
+    def pay(m, then) =>
+      def taken() => in_ben(m, given)
+      and given() => paid(anna, ben, m) | then()
+      and not_taken() => refused(anna, m) | then()
+      in out_anna(m, taken, not_taken)
+    and once() => pay(3, twice)
+    and twice() => see_anna(show_anna)
+    and show_anna(n) => has(anna, n) | see_ben(show_ben)
+    and show_ben(n) => has(ben, n)
+    in pay(3, once)
+  : open(5, opened) | open(2, opened_ben)
+]
+site ben [
+  none
+  : 0
+]
+",
+        )],
+        out: r"paid(anna, ben, 3)
+refused(anna, 3)
+has(anna, 2)
+has(ben, 5)
+quiescent
+",
+        events: Some(48),
+        ..QUIET
+    },
+    // barrier_2.join
+    Case {
+        words: &["alone"],
+        text: &[(
+            1,
+            r"version 2;
+# The barrier of barrier.join in version 2: the runners are counted, so all may arrive on one channel, and there may be
+# any number of them. Look at `more`: it calls all who came before and one runner more, and is kept until all are there.
+observe ready/1; observe starts/1;
+site barrier [
+  waiting(n, all) | arrive(k) =>
+    def more() => all() | k()
+    and here(m) =>
+      def full() => more() | waiting(0, nobody)
+      and not_yet() => waiting(m, more)
+      in same(m, 3, full, not_yet)
+    in add(n, 1, here) and
+  nobody() => 0
+  : waiting(0, nobody)
+]
+site anna [
+  anna_runs() => starts(anna)
+  : ready(anna) | arrive(anna_runs)
+]
+site ben [
+  tie_shoes() => ready(ben) | arrive(ben_runs) and
+  ben_runs() => starts(ben)
+  : tie_shoes()
+]
+site cleo [
+  cleo_runs() => starts(cleo)
+  : ready(cleo) | arrive(cleo_runs)
+]
+",
+        )],
+        out: r"ready(anna)
+ready(cleo)
+ready(ben)
+starts(cleo)
+starts(ben)
+starts(anna)
+quiescent
+",
+        events: Some(17),
+        freely: Freely::Before(&[
+            ("ready(anna)", "ready(cleo)"),
+            ("ready(cleo)", "ready(ben)"),
+            ("ready(ben)", "starts(anna)"),
+            ("ready(ben)", "starts(ben)"),
+            ("ready(ben)", "starts(cleo)"),
+        ]),
+        ..QUIET
+    },
+    // counter_2.join
+    Case {
+        words: &["alone"],
+        text: &[(
+            1,
+            r"version 2;
+# The counter of counter.join in version 2: the same commands, and the same lines are printed, but a number is a number.
+# Look at `print`: there a number was asked what it is, and so was counted down; here a second one is counted up to it.
+observe one/0; observe end/0;
+site counter [
+  count(n) | up(k) => add(n, 1, count) | k() and
+  count(n) | read(k) => count(n) | k(n)
+  : count(0)
+]
+site user [
+  twice() => up(thrice) and
+  thrice() => up(enough) and
+  enough() => read(print) and
+  print(n) =>
+    def from(i) =>
+      def more() => one() | add(i, 1, from)
+      in same(i, n, stop, more)
+    in from(0) and
+  stop() => end()
+  : up(twice)
+]
+",
+        )],
+        out: r"one()
+one()
+one()
+end()
+quiescent
+",
+        events: Some(16),
+        ..QUIET
+    },
+];
+
+pub(crate) fn bank_to_counter_2() -> &'static [Case] {
+    BANK_TO_COUNTER_2
+}
+
+const ELECTION_TO_TICKETS: &[Case] = &[
+    // election.join
+    Case {
+        words: &["alone"],
+        text: &[(
+            1,
+            r"version 2;
+# An election: three sites in a ring, each with a number, and the greatest one is to lead. Each sends its number round.
+# A site hands a number on where it is greater than its own, and drops it where it is less; whose own number comes back
+# leads. Look at `greater`: with `add` and `same` alone, the lesser of two numbers is the one that counting meets first.
+observe leader/2;
+site scales [
+  greater(a, b, yes, no) =>
+    def from(i) =>
+      def not_a() => same(i, b, yes, neither)
+      and neither() => add(i, 1, from)
+      in same(i, a, no, not_a)
+    in from(0)
+  : 0
+]
+site anna [
+  to_anna(n) =>
+    def other() => greater(n, 3, on, drop)
+    and on() => to_ben(n)
+    and mine() => leader(anna, n)
+    in same(n, 3, mine, other)
+  : to_ben(3)
+]
+site ben [
+  to_ben(n) =>
+    def other() => greater(n, 7, on, drop)
+    and on() => to_cleo(n)
+    and mine() => leader(ben, n)
+    in same(n, 7, mine, other)
+  : to_cleo(7)
+]
+site cleo [
+  to_cleo(n) =>
+    def other() => greater(n, 5, on, drop)
+    and on() => to_anna(n)
+    and mine() => leader(cleo, n)
+    in same(n, 5, mine, other) and
+  drop() => 0
+  : to_anna(5)
+]
+",
+        )],
+        out: r"leader(ben, 7)
+quiescent
+",
+        events: Some(87),
+        ..QUIET
+    },
+    // fibonacci.join
+    Case {
+        words: &["alone"],
+        text: &[(
+            1,
+            r"version 2;
+# Fibonacci's numbers by messages: each is the sum of the two before it. A step needs two sums, and a join pattern waits
+# for both. `fib` goes n steps on from two numbers that are given.
+# Look at the end: the 93rd number is found from the 90th and the 91st, and is the last one below 2^64. The sum that
+# would be the 94th is no number, so its `add` waits for good, and nobody is told anything.
+observe fibonacci/2;
+site numbers [
+  fib(n, a, b, k) =>
+    def row(i, before, it) =>
+      def done() => k(it)
+      and on() => add(i, 1, place) | add(before, it, sum)
+      and place(j) | sum(s) => row(j, it, s)
+      in same(i, n, done, on)
+    in row(0, a, b)
+  : 0
+]
+site anna [
+  tenth(v) => fibonacci(10, v) | fib(2, 2880067194370816120, 4660046610375530309, last) and
+  last(v) => fibonacci(93, v) | fib(3, 2880067194370816120, 4660046610375530309, too_large) and
+  too_large(v) => fibonacci(94, v)
+  : fib(9, 0, 1, tenth)
+]
+",
+        )],
+        out: r"fibonacci(10, 55)
+fibonacci(93, 12200160415121876738)
+quiescent
+",
+        events: Some(50),
+        ..QUIET
+    },
+    // tickets.join
+    Case {
+        words: &["alone"],
+        text: &[(
+            1,
+            r"version 2;
+# A counter service. Its number is the argument of one message `next`: `draw` takes it, and `add` puts the next one
+# back. Both are one step, since a sum needs none of its own. So no two tickets have one number, whoever comes first.
+# Look at the output: Cleo takes a step more to come, and gets the last ticket.
+observe ticket/2;
+site office [
+  next(n) | draw(k) => add(n, 1, next) | k(n)
+  : next(1)
+]
+site anna [
+  anna_has(n) => ticket(anna, n)
+  : draw(anna_has)
+]
+site ben [
+  ben_has(n) => ticket(ben, n)
+  : draw(ben_has)
+]
+site cleo [
+  come() => draw(cleo_has) and
+  cleo_has(n) => ticket(cleo, n)
+  : come()
+]
+",
+        )],
+        out: r"ticket(anna, 1)
+ticket(ben, 2)
+ticket(cleo, 3)
+quiescent
+",
+        events: Some(7),
+        freely: Freely::AnyOrder,
+        ..QUIET
+    },
+];
+
+pub(crate) fn election_to_tickets() -> &'static [Case] {
+    ELECTION_TO_TICKETS
+}

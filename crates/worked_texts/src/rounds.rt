@@ -377,3 +377,55 @@ quiescent
 pub(crate) fn long_rounds() -> &'static [Case] {
     LONG_ROUNDS
 }
+
+// Free threads may move the location before the site is dead, so these are no texts for them.
+const FALLS: &[Case] = &[
+    // The site halts first, and a location that goes there dies there.
+    Case {
+        words: &["alone", "--budget", "10"],
+        text: &[(
+            1,
+            "version 2; observe out/0; site b [ none : halt() ] site a [ m[ k() => out() : \
+            go(b, k) ] and d() => out() : fail(m, d) ]",
+        )],
+        out: "out()\nquiescent\n",
+        events: Some(4),
+        ..QUIET
+    },
+    Case {
+        words: &["rounds", "--budget", "10"],
+        text: &[(
+            1,
+            "version 2; observe out/0; site b [ none : halt() ] site a [ m[ k() => out() : \
+            go(b, k) ] and d() => out() : fail(m, d) ]",
+        )],
+        out: "out()\nquiescent\n",
+        events: Some(4),
+        ..QUIET
+    },
+    // In version 1 the request stays.
+    Case {
+        words: &["alone", "--budget", "10"],
+        text: &[(
+            1,
+            "observe out/0; site b [ none : halt() ] site a [ m[ k() => out() : go(b, k) ] \
+            and d() => out() : fail(m, d) ]",
+        )],
+        events: Some(1),
+        ..QUIET
+    },
+    Case {
+        words: &["rounds", "--budget", "10"],
+        text: &[(
+            1,
+            "observe out/0; site b [ none : halt() ] site a [ m[ k() => out() : go(b, k) ] \
+            and d() => out() : fail(m, d) ]",
+        )],
+        events: Some(1),
+        ..QUIET
+    },
+];
+
+pub(crate) fn falls_in_order() -> &'static [Case] {
+    FALLS
+}

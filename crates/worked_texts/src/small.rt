@@ -41,6 +41,14 @@ const OPENINGS: &[Case] = &[
             events 0\ntrace 16\nout()\nquiescent\n",
         ..QUIET
     },
+    // The log of a run with a large budget.
+    Case {
+        words: &["alone", "--budget", "1000001", "--log"],
+        text: &[(1, "observe out/0; site s [ none : out() ]")],
+        out: "joinlog 2\nsource 38\nobserve out/0; site s [ none : out() ]\nbudget 1000001\n\
+            events 0\ntrace 16\nout()\nquiescent\n",
+        ..QUIET
+    },
     // Endless.
     Case {
         words: &["alone", "--budget", "3"],
@@ -336,4 +344,136 @@ const LIMITS: &[Case] = &[
 
 pub(crate) fn limits() -> &'static [Case] {
     LIMITS
+}
+
+const NUMBERS: &[Case] = &[
+    // The largest number is received and printed.
+    Case {
+        text: &[(
+            1,
+            "version 2; observe out/1; site s [ x(u) => out(u) : x(18446744073709551615) ]",
+        )],
+        out: "out(18446744073709551615)\nquiescent\n",
+        events: Some(1),
+        ..QUIET
+    },
+    // A message on a number stays.
+    Case {
+        text: &[(1, "version 2; site s [ x(f) => f() : x(5) ]")],
+        events: Some(1),
+        ..QUIET
+    },
+    // A sum goes to a channel, and is no event.
+    Case {
+        text: &[(
+            1,
+            "version 2; observe out/1; site s [ k(u) => out(u) : add(2, 3, k) ]",
+        )],
+        out: "out(5)\nquiescent\n",
+        events: Some(1),
+        ..QUIET
+    },
+    // A sum that is too large stays, and so does one of a name.
+    Case {
+        text: &[(
+            1,
+            "version 2; observe out/1; site s [ none : add(18446744073709551615, 1, out) | \
+            add(s, 1, out) ]",
+        )],
+        ..QUIET
+    },
+    // A comparison chooses, and is no event.
+    Case {
+        text: &[(
+            1,
+            "version 2; observe yes/0; observe no/0; site s [ none : same(4, 4, yes, no) | \
+            same(4, 5, yes, no) ]",
+        )],
+        out: "yes()\nno()\nquiescent\n",
+        ..QUIET
+    },
+    // A number counts up for ever.
+    Case {
+        words: &["alone", "--budget", "3"],
+        text: &[(
+            1,
+            "version 2; observe out/1; site s [ n(u) => out(u) | add(u, 1, n) : n(0) ]",
+        )],
+        status: 5,
+        out: "out(0)\nout(1)\nout(2)\nstopped\n",
+        events: Some(3),
+        ..QUIET
+    },
+];
+
+pub(crate) fn numbers() -> &'static [Case] {
+    NUMBERS
+}
+
+const LEVELS: &[Case] = &[
+    // As many levels as a text of version 2 may have: groups in parentheses, and definitions.
+    Case {
+        text: &[
+            (1, "version 2; site s [ none : "),
+            (399, "("),
+            (1, "0"),
+            (399, ")"),
+            (1, " ]"),
+        ],
+        ..QUIET
+    },
+    Case {
+        text: &[
+            (1, "version 2; site s [ none : "),
+            (399, "def none in "),
+            (1, "0 ]"),
+        ],
+        ..QUIET
+    },
+];
+
+pub(crate) fn levels() -> &'static [Case] {
+    LEVELS
+}
+
+const FALLS: &[Case] = &[
+    // A location that goes to a dead site dies there with a message that waits in it, and this is
+    // detected. What is sent to it later stays.
+    Case {
+        text: &[(
+            1,
+            "version 2; observe out/1; site b [ none : halt() ] site a [ m[ x(u) | y(v) => out(u) \
+            and k() => out(m) and q() => go(b, k) : fail(b, q) ] and d() => x(a) | out(b) : y(a) | \
+            fail(m, d) ]",
+        )],
+        out: "out(b)\nquiescent\n",
+        events: Some(6),
+        ..QUIET
+    },
+    // In version 1 the request stays.
+    Case {
+        text: &[(
+            1,
+            "observe out/1; site b [ none : halt() ] site a [ m[ x(u) | y(v) => out(u) and k() => \
+            out(m) and q() => go(b, k) : fail(b, q) ] and d() => x(a) | out(b) : y(a) | fail(m, \
+            d) ]",
+        )],
+        events: Some(3),
+        ..QUIET
+    },
+    // A sum goes to a channel at another site, and one that waits moves along with its location.
+    Case {
+        text: &[(
+            1,
+            "version 2; observe out/1; site a [ m[ k() => 0 : add(3, 4, x) | add(m, 1, x) | go(b, k) ] : \
+            0 ] site b [ x(u) => out(u) : 0 ]",
+        )],
+        out: "out(7)\nquiescent\n",
+        events: Some(3),
+        ..QUIET
+    },
+];
+
+pub(crate) fn falls() -> &'static [Case] {
+    FALLS
 }

@@ -1,26 +1,30 @@
 // The tables together. There are several, since the proof of a table takes as long as its square.
 
 use crate::case::Case;
-use crate::locations::{applet_to_harvest, pool_to_sailor, tour_to_wreck};
+use crate::locations::{applet_to_harvest, hops, pool_to_sailor, tour_to_wreck};
 use crate::messages::{
-    barrier_to_broadcast, buffer_to_choice, counter_to_lock, philosophers_to_ring,
+    bank_to_counter_2, barrier_to_broadcast, buffer_to_choice, counter_to_lock,
+    election_to_tickets, philosophers_to_ring,
 };
-use crate::rounds::{long_rounds, shares, under_way};
-use crate::small::{failures, limits, names, openings, scopes_and_moves};
+use crate::rounds::{falls_in_order, long_rounds, shares, under_way};
+use crate::small::{failures, falls, levels, limits, names, numbers, openings, scopes_and_moves};
 
 /// Texts that are run, each with the words `alone --budget 10` unless it has others.
-pub fn runs() -> [&'static [Case]; 5] {
+pub fn runs() -> [&'static [Case]; 8] {
     [
         openings(),
         failures(),
         scopes_and_moves(),
         names(),
         limits(),
+        numbers(),
+        falls(),
+        levels(),
     ]
 }
 
 /// Each program of `examples/`, run with the default budget.
-pub fn examples() -> [&'static [Case]; 7] {
+pub fn examples() -> [&'static [Case]; 10] {
     [
         barrier_to_broadcast(),
         buffer_to_choice(),
@@ -29,17 +33,23 @@ pub fn examples() -> [&'static [Case]; 7] {
         applet_to_harvest(),
         pool_to_sailor(),
         tour_to_wreck(),
+        bank_to_counter_2(),
+        election_to_tickets(),
+        hops(),
     ]
 }
 
 /// The texts that are run, and then the examples.
-pub fn runs_and_examples() -> [&'static [Case]; 12] {
+pub fn runs_and_examples() -> [&'static [Case]; 18] {
     [
         openings(),
         failures(),
         scopes_and_moves(),
         names(),
         limits(),
+        numbers(),
+        falls(),
+        levels(),
         barrier_to_broadcast(),
         buffer_to_choice(),
         counter_to_lock(),
@@ -47,10 +57,14 @@ pub fn runs_and_examples() -> [&'static [Case]; 12] {
         applet_to_harvest(),
         pool_to_sailor(),
         tour_to_wreck(),
+        bank_to_counter_2(),
+        election_to_tickets(),
+        hops(),
     ]
 }
 
-/// Runs in rounds, and beside them those on one thread that differ.
-pub fn runs_in_rounds() -> [&'static [Case]; 3] {
-    [shares(), under_way(), long_rounds()]
+/// Runs in rounds, and beside them those on one thread that differ, or that free threads may make
+/// otherwise.
+pub fn runs_in_rounds() -> [&'static [Case]; 4] {
+    [shares(), under_way(), long_rounds(), falls_in_order()]
 }

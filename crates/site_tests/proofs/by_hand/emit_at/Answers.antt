@@ -1,5 +1,5 @@
 use Rattle.std.proofs.Common.{◌≡◌, ◌≤◌, true, length, rules}
-use Rattle.std.specs.Prelude.{◌&&◌}
+use Rattle.std.specs.Prelude.{◌&&◌, IsTrue}
 use Rattle.site_solution.specs.InTree.{name_stands, is_in_tree}
 use Rattle.site_solution.specs.inside.InTree.{names_stand}
 use Rattle.site_tests.proofs.Needs.{can_emit}
@@ -10,4 +10,5 @@ emit-requires-clause-can g c =
     let there : is_in_tree c.args.tree.now c.args.site.now ≡ true = search rules in
     let stands : name_stands c.args.tree.now c.args.on && names_stand c.args.tree.now c.args.args ≡ true = search rules in
     let few : length c.args.args ≤ 255 = search rules in
-    can_emit c.args.tree.now c.args.site.now c.args.on c.args.args there c.draws.ensures stands few
+    let plain : IsTrue c.is_plain.result = search rules in
+    can_emit c.args.tree.now c.args.site.now c.args.on c.args.args there c.draws.ensures stands few c.requires (c.is_plain.ensures.count plain (length c.args.args))

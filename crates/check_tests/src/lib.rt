@@ -1,0 +1,16 @@
+//! Tests of the commands on logs: what is said of the logs of worked texts, of logs that were
+//! changed, and of bytes that are no log.
+#![tactic(auto)]
+
+#[cfg(test)]
+mod called;
+#[cfg(test)]
+mod causes;
+#[cfg(test)]
+mod changed;
+#[cfg(test)]
+mod no_logs;
+#[cfg(test)]
+mod plain;
+#[cfg(test)]
+mod worked;
