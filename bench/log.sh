@@ -2,7 +2,7 @@
 # Measures the reading of logs: prints how long it takes to read a log of 125,000, 250,000, 500,000 and 1,000,000 events,
 # each a reaction that takes five atoms, with a trace of three bytes for each event, 128 bytes in all; and how much
 # memory the whole program held at most. Then how long it takes to refuse twenty-odd bytes that claim a source of 1,048,576.
-# A log has at most 1,000,000 events.
+# A log has at most 4,000,000 events.
 # A measure and no test.
 set -eu
 . "$(dirname "$0")/scratch.sh"
