@@ -93,6 +93,37 @@ fn is_quiet(alloc: Global, text: &str) -> Result<bool, Front> {
     Ok(book.quiet())
 }
 
+/// The number of a message or request, and that of the location at which it is left. None where
+/// there is no such one.
+fn left_at(book: &Book, site: u32, k: u64) -> Option<(u32, u64, u64)> {
+    match book.cause(&AtomId { site, k }) {
+        Some(left) => Some((left.atom.site, left.atom.k, left.loc.k)),
+        None => None,
+    }
+}
+
+/// Where each message and request of a book is left, by rising number.
+fn places_left(alloc: Global, book: &Book) -> Result<Vec<Option<(u32, u64, u64)>>, Memory> {
+    let ids = book.atoms(alloc)?;
+    let mut found = Vec::new(alloc);
+    for id in ids.as_slice() {
+        found.push(left_at(book, id.site, id.k))?;
+    }
+    Ok(found)
+}
+
+/// Where each message and request of the opening of a text is left, by rising number.
+fn left_of_text(alloc: Global, text: &str) -> Result<Vec<Option<(u32, u64, u64)>>, Front> {
+    let book = book_of(alloc, text)?;
+    Ok(places_left(alloc, &book)?)
+}
+
+/// Where the opening of a text leaves the message or request with this number of the first site.
+fn left_in_text(alloc: Global, text: &str, k: u64) -> Result<Option<(u32, u64, u64)>, Front> {
+    let book = book_of(alloc, text)?;
+    Ok(left_at(&book, 0, k))
+}
+
 /// The names are 0.1 to 0.4, the rules 0.5 and 0.7, and the requests 0.6 and 0.8. The second target
 /// isn't a site.
 const TWO_MOVES: &str = "site a [ m[ k() => 0 : go(a, k) ] and n[ j() => 0 : go(m, j) ] : 0 ]";
@@ -138,6 +169,16 @@ fn an_opening_in_order(rt: HostRuntime) -> Result<(), Fail> {
     let binders = shown(rt.alloc(), FOUR_LOCATIONS).or(Err("the text is refused"))?;
     let expected = [Some(1), Some(0), Some(3), Some(2)];
     assert_eq!(rt; binders.as_slice(), expected.as_slice());
+    Ok(())
+}
+
+/// The first request stands at 0.1, and the second at 0.3. The number of a rule is that of none.
+#[test]
+fn what_an_opening_leaves(rt: HostRuntime) -> Result<(), Fail> {
+    let left = left_of_text(rt.alloc(), TWO_MOVES).or(Err("the text is refused"))?;
+    let expected = [Some((0, 6, 1)), Some((0, 8, 3))];
+    assert_eq!(rt; left.as_slice(), expected.as_slice());
+    assert_eq!(rt; left_in_text(rt.alloc(), TWO_MOVES, 7), Ok(None));
     Ok(())
 }
 
