@@ -77,8 +77,7 @@ fn judge<S: Source, K: Sink, E: Sink>(
 {
     match log_of(alloc, source) {
         Ok(log) => {
-            let told = told_of(alloc, ask, &log);
-            drop(log);
+            let told = told_of(alloc, ask, log);
             tell_log(alloc, told, out, err)
         }
         Err(stop) => tell_stop(alloc, err, stop),

@@ -9,7 +9,7 @@ ghost use Rattle.log_judge.specs.inside.Ends.{IsStop, IsNoLogIn};
 use chem_model::Text;
 use join_base::{ReadEnd, Source, read_all};
 use std::alloc::Global;
-use trace_text::{Log, LogEnd, read_log};
+use trace_text::{Log, LogEnd, into_log};
 
 /// The most bytes of a log.
 const MOST_BYTES: u32 = 134_217_728;
@@ -35,15 +35,13 @@ pub fn log_of<S: Source>(alloc: Global, source: &mut S) -> Result<Log, LogStop>
     }
 }
 
-/// The log that bytes spell. They are let go before it is answered.
+/// The log that bytes spell. They are let go as they are read.
 fn log_in(alloc: Global, bytes: Text) -> Result<Log, LogStop>
     ensures log { IfOk result (λ log. Spells (parts log) bytes) }
     ensures short { IfOk result (λ log. length log.events < 2 ^ 32 - 1) }
     ensures stop { IfErr result (IsNoLogIn bytes) }
 {
-    let log = read_log(alloc, bytes.as_slice());
-    drop(bytes);
-    match log {
+    match into_log(alloc, bytes) {
         Ok(log) => Ok(log),
         Err(end) => Err(LogStop::Log(end)),
     }

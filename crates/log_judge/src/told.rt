@@ -7,7 +7,7 @@ ghost use Rattle.log_judge.specs.Judged.{no_text, IsYes, IsTold, IsJudgedAs};
 use crate::ask::Ask;
 use chem_model::{Items, Memory, Text};
 use join_base::Front;
-use run_check::{Verdict, explain, explain_bytes, verdict};
+use run_check::{Verdict, explain, explain_bytes, into_verdict};
 use std::alloc::Global;
 use text_program::program_of;
 use trace_history::Book;
@@ -24,14 +24,14 @@ pub struct Told {
     pub status: u8,
 }
 
-/// What is told of a log; or why its source has no program.
-pub fn told_of(alloc: Global, ask: Ask, log: &Log) -> Result<Told, Front>
-    requires { length log.now.events < 2 ^ 32 - 1 }
-    ensures told { IfOk result (λ told. IsJudgedAs ask (parts log.now) told.text told.status) }
-    ensures refusal { IfErr result (NamesRefusal log.now.source) }
+/// What is told of a log, which is let go; or why its source has no program.
+pub fn told_of(alloc: Global, ask: Ask, log: Log) -> Result<Told, Front>
+    requires { length log.events < 2 ^ 32 - 1 }
+    ensures told { IfOk result (λ told. IsJudgedAs ask (parts log) told.text told.status) }
+    ensures refusal { IfErr result (NamesRefusal log.source) }
 {
     let program = program_of(alloc, log.source.as_slice())?;
-    let verdict = verdict(alloc, &program, log)?;
+    let verdict = into_verdict(alloc, &program, log)?;
     Ok(tell(alloc, ask, &verdict)?)
 }
 

@@ -8,7 +8,7 @@ mod left;
 mod telling;
 
 pub use answer::Verdict;
-pub use judge::verdict;
+pub use judge::{into_verdict, verdict};
 pub use laws::one_verdict;
 pub use left::explain;
 pub use telling::explain_bytes;

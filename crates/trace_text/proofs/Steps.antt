@@ -33,12 +33,13 @@ module _ {A : Type 0} where
       let k : count - i ≡ suc (count - (i + 1)) = omega arith in
       rw k (h (λ y. lines n (before ++ y ∷ []) (count - (i + 1)) next))
 
-  pub is_done : (n : ℕ) (before : List Event) (count i : ℕ) (bytes : List ℕ) (next : List Event → Format A) → count ≤ i
-      → read (lines n before (count - i) next) bytes ≡ read (next before) bytes
+  -- no line is left
+  pub is_done : (n : ℕ) (before : List Event) (left : ℕ) (bytes : List ℕ) (next : List Event → Format A) → left ≤ 0
+      → read (lines n before left next) bytes ≡ read (next before) bytes
   unfolding lines
-  is_done n before count i bytes next le =
-      let k : count - i ≡ 0 = omega arith in
-      rw k refl
+  is_done n before left bytes next le =
+      let none : left ≡ 0 = omega arith in
+      rw none refl
 
   -- a space, and one atom more
   pub goes_on : (n : ℕ) (before : List AtomId) (bytes later after : List ℕ) (x : AtomId) (next : List AtomId → Format A) → behind (codes " ") bytes ≡ Some later

@@ -10,6 +10,7 @@ ghost use Rattle.trace_text.specs.LogFields.{beginnings, least_budget, most_budg
 ghost use Rattle.trace_text.specs.ReadLog.{parts, NamesWrong, IsOrMemory};
 ghost use Rattle.trace_text.specs.inside.ReadLog.{index, kind_index};
 ghost use Rattle.trace_text.specs.inside.Reading.{Gives, Reads, front, read, ended};
+ghost use Rattle.trace_text.specs.inside.ReadLog.{ReadsLines, ReadsHead, ReadsTrace};
 
 use crate::fault::{Fault, LogEnd};
 use crate::fields::{behind, counted_at, literal_at, number_at};
@@ -139,7 +140,21 @@ fn taken_of(alloc: Global, bytes: &[u8]) -> Result<(Atoms, &[u8]), Fault>
         rest = later;
     }
     let rest = literal_at(rest, b"\n")?;
+    let atoms = fitted(alloc, atoms)?;
     Ok((atoms, rest))
+}
+
+/// More atoms than most reactions take.
+const FEW: usize = 64;
+
+/// The same atoms, without room for more where they are few: most of a long log is such lists.
+fn fitted(alloc: Global, atoms: Atoms) -> Result<Atoms, Memory>
+    ensures { IfOk result (λ fitted. fitted ≡ atoms) }
+{
+    if atoms.len() > FEW {
+        return Ok(atoms);
+    }
+    atoms.copy(alloc)
 }
 
 /// The line of an event.
@@ -172,17 +187,52 @@ fn event_of(alloc: Global, bytes: &[u8]) -> Result<(Event, &[u8]), Fault>
     }
 }
 
-/// So many lines of events.
-fn lines_of(alloc: Global, count: u64, bytes: &[u8]) -> Result<(Journal, &[u8]), Fault>
-    ensures { (n : ℕ) → length bytes.now ≤ n →
-        Reads {Z = LogParts} (λ x. x.0) (λ x. x.1.now) (lines n [] count) bytes.now result }
+/// So many lines of events more, behind those that were read before.
+fn more_lines<'a>(
+    alloc: Global,
+    events: &mut Journal,
+    count: u64,
+    bytes: &'a [u8],
+) -> Result<&'a [u8], Fault>
+    ensures reads { ReadsLines (λ rest. rest.now) events.old events.new count bytes.now result }
+    ensures shorter { IfOk result (λ rest. length rest.now ≤ length bytes.now) }
 {
-    let mut events = Items::new(alloc);
     let mut rest = bytes;
     for _ in 0..count {
         let (event, later) = event_of(alloc, rest)?;
         events.push(event)?;
         rest = later;
+    }
+    Ok(rest)
+}
+
+/// The same of a text that is let go: what is behind these lines is answered.
+fn take_lines(alloc: Global, events: &mut Journal, count: u64, text: Text) -> Result<Text, Fault>
+    ensures reads { ReadsLines (λ rest. rest) events.old events.new count text result }
+    ensures shorter { IfOk result (λ rest. length rest ≤ length text) }
+{
+    let rest = more_lines(alloc, events, count, text.as_slice())?;
+    let rest = Items::from_slice(alloc, rest)?;
+    Ok(rest)
+}
+
+/// In how many parts the lines of a log are read.
+const PARTS: u64 = 8;
+
+/// So many lines of events, and what is behind them. Each part of the text is let go when its events
+/// are read, so that text and events don't both stand there whole.
+fn lines_of(alloc: Global, count: u64, text: Text) -> Result<(Journal, Text), Fault>
+    ensures { (n : ℕ) → length text ≤ n →
+        Reads {Z = LogParts} (λ x. x.0) (λ x. x.1) (lines n [] count) text result }
+{
+    let part = count / PARTS + 1;
+    let mut events = Items::new(alloc);
+    let mut rest = text;
+    let mut left = count;
+    while left > 0 {
+        let some = left.min(part);
+        rest = take_lines(alloc, &mut events, some, rest)?;
+        left -= some;
     }
     Ok((events, rest))
 }
@@ -208,9 +258,13 @@ fn ended(rest: &[u8]) -> Result<(), Fault>
     }
 }
 
-#[tactic(auto, unfolding(crate::specs::LogFields::log_fields))]
-fn log_of(alloc: Global, bytes: &[u8]) -> Result<Log, Fault>
-    ensures { Gives parts result (read (log_fields (length bytes.now)) bytes.now) }
+/// What stands before the lines of events, which are behind it: the source, the budget, and how many
+/// events there are.
+fn head_of(bytes: &[u8]) -> Result<(&[u8], u64, u64, &[u8]), Fault>
+    ensures reads { ReadsHead (λ x. x.0.now) (λ x. x.1) (λ x. x.2) (λ x. x.3.now)
+        bytes.now result }
+    ensures most { IfOk result (λ x. x.1 ≤ 4000000) }
+    ensures shorter { IfOk result (λ x. length x.3.now ≤ length bytes.now) }
 {
     let (kind, rest) = kind_of(bytes)?;
     let (source, rest) = counted_text(rest, 1_048_576)?;
@@ -219,11 +273,28 @@ fn log_of(alloc: Global, bytes: &[u8]) -> Result<Log, Fault>
     let rest = literal_at(rest, b"\nevents ")?;
     let (count, rest) = number_at(rest, 0, budget)?;
     let rest = literal_at(rest, b"\n")?;
-    let (events, rest) = lines_of(alloc, count, rest)?;
-    let rest = literal_at(rest, b"trace ")?;
+    Ok((source, budget, count, rest))
+}
+
+/// The trace, behind which no byte is left.
+fn trace_of(bytes: &[u8]) -> Result<&[u8], Fault>
+    ensures { ReadsTrace (λ trace. trace.now) bytes.now result }
+{
+    let rest = literal_at(bytes, b"trace ")?;
     let (trace, rest) = counted_text(rest, u64::MAX)?;
     ended(rest)?;
+    Ok(trace)
+}
+
+fn log_of(alloc: Global, text: Text) -> Result<Log, Fault>
+    ensures { Gives parts result (read (log_fields (length text)) text) }
+{
+    let (source, budget, count, rest) = head_of(text.as_slice())?;
     let source = Items::from_slice(alloc, source)?;
+    let rest = Items::from_slice(alloc, rest)?;
+    drop(text);
+    let (events, rest) = lines_of(alloc, count, rest)?;
+    let trace = trace_of(rest.as_slice())?;
     let trace = Items::from_slice(alloc, trace)?;
     let budget = budget as u32;
     Ok(Log {
@@ -247,10 +318,25 @@ pub fn read_log(alloc: Global, bytes: &[u8]) -> Result<Log, LogEnd>
     ensures refuses { (place : ℕ) → WrongAt bytes.now place →
         IsOrMemory (Err (end.Bad place)) result }
 {
+    match Items::from_slice(alloc, bytes) {
+        Ok(bytes) => into_log(alloc, bytes),
+        Err(_) => Err(LogEnd::Memory),
+    }
+}
+
+/// The same of bytes that are let go as they are read, so that bytes and events don't both stand
+/// there whole.
+pub fn into_log(alloc: Global, bytes: Text) -> Result<Log, LogEnd>
+    ensures found { IfOk result (λ log. Spells (parts log) bytes) }
+    ensures bad { IfErr result (λ end. NamesWrong end bytes) }
+    ensures reads { (log : Log) → Spells (parts log) bytes → IsOrMemory (Ok log) result }
+    ensures refuses { (place : ℕ) → WrongAt bytes place → IsOrMemory (Err (end.Bad place)) result }
+{
+    let count = bytes.len();
     match log_of(alloc, bytes) {
         Ok(log) => Ok(log),
         Err(Fault::Wrong { left }) => Err(LogEnd::Bad {
-            place: (bytes.len() - left) as u64,
+            place: (count - left) as u64,
         }),
         Err(Fault::Memory) => Err(LogEnd::Memory),
     }

@@ -43,4 +43,4 @@ returns-in_err-rest-2-clause-reads c = λ n le.
 pub returns-clause-reads : goal.returns-clause-reads
 returns-clause-reads c = λ n le next.
     let no_space : behind (codes " ") c.loop-after.rest.now ≡ None = sym c.in_default.ensures.is in
-    c.loop-after.invariant.0 n next le ∙ (stops (suc n - length c.loop-after.atoms) c.loop-after.atoms c.loop-after.rest.now next no_space ∙ rw c.in_ok-rest-2.ensures.is refl)
+    rw c.in_ok-atoms.ensures (c.loop-after.invariant.0 n next le ∙ (stops (suc n - length c.loop-after.atoms) c.loop-after.atoms c.loop-after.rest.now next no_space ∙ rw c.in_ok-rest-2.ensures.is refl))
