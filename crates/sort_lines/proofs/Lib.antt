@@ -1,0 +1,11 @@
+pub mod Drops
+pub mod PieceLaws
+pub mod Reading
+pub mod One
+pub mod Told
+pub mod More
+pub mod Decided
+pub mod PlaceLaws
+pub mod Wrong
+pub mod FirstWrong
+pub mod Declared
