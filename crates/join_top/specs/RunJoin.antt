@@ -28,6 +28,8 @@ use Rattle.join_words.specs.declared.answer.By.{By}
 use Rattle.join_words.specs.declared.answer.By.TheVariants.{Alone, Rounds, Run}
 use Rattle.log_judge.specs.declared.ask.Ask.{Ask}
 use Rattle.log_judge.specs.Judged.{has_verdict, IsRefusedLog, IsNoLog, WritesVerdict}
+use Rattle.sort_judge.specs.Command.{was_judged, IsRefusedSource}
+use Rattle.sort_judge.specs.Command as judge
 use Rattle.join_top.specs.declared.run.Kept.{Kept}
 use Rattle.join_top.specs.declared.top.Ended.{Ended}
 use Rattle.join_top.specs.Task.{Words, task, ring_asked, text_run, ReadOrRing}
@@ -206,3 +208,27 @@ pub record IsLogLineAt (E : Type 0) (status : ℕ) (held : E → Option (List �
 abbrev pub GainsLogLine : {E : Type 0} → (status : ℕ)
     → (held : E → Option (List ℕ)) → (faults : E → ℕ) → (old new : E) → Type 0
 GainsLogLine {E} status held faults old new = IsLogLineAt E status held faults old new
+
+-- ---- what is said of a source by its sorts
+
+-- at 1 the source is refused, and the refusal's line is gained
+abbrev pub RefusesSource : (status : ℕ) → (told : Option (List ℕ)) → (gains : List ℕ → Type 0)
+    → Type 0
+RefusesSource status told gains = status ≡ 1 → IsRefusedSource told gains
+
+-- At 0 and 7 the text that tells the verdict on the source was written whole, and at 4 a prefix of
+-- it. At 0 the sort lines declare sorts by which there is no fault, and so no atom of any replay of
+-- its program is wrong; at 7 the first fault is told, of the sort lines or else of the words.
+abbrev pub TellsSorts : (status : ℕ) → (told was now : Option (List ℕ)) → Type 0
+TellsSorts status told was now =
+    was_judged status ≡ true → judge.WritesVerdict told status was now
+
+-- the sink of errors gained the line of the status; at 0 and at 7 it is as it was
+pub record IsSortLineAt (E : Type 0) (status : ℕ) (held : E → Option (List ℕ)) (faults : E → ℕ)
+    (old new : E) : Type 0 where
+  pub line : (status ≡ 1) ⊎ Gains held faults old new (line_of status)
+  pub untouched : (status ≡ 0) ⊎ (status ≡ 7) → new ≡ old
+
+abbrev pub GainsSortLine : {E : Type 0} → (status : ℕ)
+    → (held : E → Option (List ℕ)) → (faults : E → ℕ) → (old new : E) → Type 0
+GainsSortLine {E} status held faults old new = IsSortLineAt E status held faults old new

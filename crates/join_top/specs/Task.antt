@@ -1,5 +1,6 @@
 -- What the words ask for, and the text that is run.
 use Rattle.std.specs.Prelude.{ℕ, List, String, string_bytes, map, Option, Some, None}
+use Rattle.std.specs.Prelude.{Bool, true, false}
 use Rattle.std.specs.declared.alloc.Global.{Global}
 use Rattle.join_words.specs.declared.answer.Asked.{Asked}
 use Rattle.join_words.specs.declared.answer.Job.{Job}
@@ -17,11 +18,12 @@ Words = List (String Global)
 abbrev pub task : Words → Option Asked
 task words = asked (map string_bytes words)
 
--- what a job wants of a log; a run wants nothing of one
+-- what a job wants of a log; a run and the judge of sorts want nothing of one
 abbrev pub ask_of : Job → Option Ask
 ask_of job.Run = None
 ask_of job.Check = Some ask.Verdict
 ask_of job.Explain = Some ask.Causes
+ask_of job.Sorts = None
 
 abbrev pub ask_if : Option Asked → Option Ask
 ask_if None = None
@@ -38,6 +40,35 @@ LogOrRun (Some ask) log run = log ask
 
 abbrev pub OnLog : Option Ask → (Ask → Type 0) → Type 0
 OnLog wanted log = LogOrRun wanted log (Unit {0})
+
+-- whether a job is that of the judge of sorts
+abbrev pub is_of_sorts : Job → Bool
+is_of_sorts job.Run = false
+is_of_sorts job.Check = false
+is_of_sorts job.Explain = false
+is_of_sorts job.Sorts = true
+
+abbrev pub sorts_if : Option Asked → Bool
+sorts_if None = false
+sorts_if (Some a) = is_of_sorts a.job
+
+-- whether the words want a source to be judged by the sorts that it declares
+abbrev pub sorts_asked : Words → Bool
+sorts_asked words = sorts_if (task words)
+
+-- one fact where they do, and another elsewhere
+abbrev pub SortsOrRun : Bool → Type 0 → Type 0 → Type 0
+SortsOrRun true sorts run = sorts
+SortsOrRun false sorts run = run
+
+abbrev pub OnSorts : Bool → Type 0 → Type 0
+OnSorts wanted sorts = SortsOrRun wanted sorts (Unit {0})
+
+-- one fact where something is wanted of a log, one where a source is judged by its sorts, and
+-- another elsewhere
+abbrev pub ByTask : Words → (Ask → Type 0) → Type 0 → Type 0 → Type 0
+ByTask words log sorts run =
+    LogOrRun (log_asked words) log (SortsOrRun (sorts_asked words) sorts run)
 
 -- the size of the ring that is asked for
 abbrev pub ring_of : Option Asked → Option ℕ

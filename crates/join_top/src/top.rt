@@ -1,28 +1,31 @@
 //! The top call.
-ghost use Rattle.std.specs.Prelude.{◌≡◌, ◌⊎◌, ◌≤◌, IfSome, IfOk, is_some, length, true, false, []};
+ghost use Rattle.std.specs.Prelude.{◌≡◌, ◌⊎◌, ◌≤◌, IfSome, is_some, length, false, []};
 ghost use Rattle.join_base.specs.Counts.{Rose};
 ghost use Rattle.join_base.specs.declared.fault.Kind.TheVariants as kind;
 ghost use Rattle.join_words.specs.Asks.{IsWithin};
-ghost use Rattle.join_top.specs.Task.{task, ask_of, log_asked, LogOrRun, OnLog};
+ghost use Rattle.join_top.specs.Task.{task, log_asked, sorts_asked, ByTask, OnLog, OnSorts};
 ghost use Rattle.log_judge.specs.Judged.{has_verdict, IsLogStatus, IsLogReadAt};
+ghost use Rattle.sort_judge.specs.Command.{was_judged, IsSortStatus, IsSourceReadAt};
+ghost use Rattle.join_top.specs.RunJoin.{RefusesSource, TellsSorts, GainsSortLine};
 ghost use Rattle.join_top.specs.RunJoin.{RefusesLog, RefusesBytes, TellsVerdict, GainsLogLine};
 ghost use Rattle.text_program.specs.Text.{refusal_line as line_of_refusal};
 ghost use Rattle.join_top.specs.RunJoin.{ComesExactly, Reads, Refuses, Keeps, IsMadeAsAsked};
 ghost use Rattle.join_top.specs.RunJoin.{WritesWhole};
 ghost use Rattle.text_program.specs.Streams.{Gains, line_of, IsWritten};
 ghost use Rattle.join_top.specs.RunJoin.{GainsLine, has_run, GoesWith};
-ghost use Rattle.join_top.specs.inside.Job.{StatusOf, GainsRefusal, IsStatusOfJob, IsRunOfJob, IsWanted};
+ghost use Rattle.join_top.specs.inside.Job.{StatusOf, GainsRefusal, IsStatusOfJob, IsRunOfJob};
+ghost use Rattle.join_top.specs.inside.Job.{IsWanted, IsWantedOf};
 ghost use Rattle.join_top.specs.inside.Ran.{WhereRead};
 
 use crate::job::{Begun, Stop, read_job};
 use crate::run::{Kept, Ran, run};
 use crate::task::task;
-use chem_model::Memory;
 use join_base::{Front, Kind, ReadEnd, Sink, Source, write_piece};
 use join_words::Job;
 use log_judge::{Ask, judge_log};
 use shared_net::Gate;
 use site_runner::{FreeTeam, Team};
+use sort_judge::judge_sorts;
 use std::alloc::Global;
 use text_program::{refusal_line, status_line, write_line};
 use trace_text::Ending;
@@ -48,9 +51,11 @@ pub struct Ended {
     pub kept: Option<Kept>,
 }
 
-/// What the words want: something of a log, or something else or nothing; or memory ran out.
+/// What the words want: something of a log, a source judged by its sorts, or something else or
+/// nothing; or memory ran out.
 enum Wanted {
     Log(Ask),
+    Sorts,
     Other,
     NoMemory,
 }
@@ -65,14 +70,14 @@ enum Wanted {
 ///
 /// | status | comes |
 /// |---|---|
-/// | 0 | the run ended quiet, and its whole text was written; or the log is that of a run |
+/// | 0 | a quiet run's whole text was written; the log is a run's; the source keeps its sorts |
 /// | 1 | the text, or the log's source, is refused: the line on `err` names its fault and place |
 /// | 2 | the words are not of the line's form |
 /// | 3 | a read failed |
 /// | 4 | a write on `out` failed |
 /// | 5 | the budget is used up and something can still happen; the whole text was written |
 /// | 6 | memory ran out |
-/// | 7 | the log is that of no run, and the verdict was written |
+/// | 7 | the log is no run's, or the source has a fault of sorts; and that was written |
 /// | 8 | the bytes are no log, or too many |
 pub fn run_join<S: Source, K: Sink, E: Sink, G: Gate, T: Team + FreeTeam<G>>(
     alloc: Global,
@@ -86,41 +91,51 @@ pub fn run_join<S: Source, K: Sink, E: Sink, G: Gate, T: Team + FreeTeam<G>>(
     requires ready { T.ready }
     requires free_ready { T.free_ready }
 
-    ensures known { LogOrRun (log_asked words.now) (λ _. IsLogStatus result.status)
+    ensures known { ByTask words.now (λ _. IsLogStatus result.status) (IsSortStatus result.status)
         (result.status ≤ 6) }
 
     ensures usage { ComesExactly result.status 2 (task words.now ≡ None) }
 
     ensures read_fault { result.status ≡ 3 → Rose (S.faults source.old) (S.faults source.new) }
-    ensures reads_all { LogOrRun (log_asked words.now)
+    ensures reads_all { ByTask words.now
         (λ _. IsLogReadAt result.status (S.left source.old) (S.left source.new))
+        (IsSourceReadAt result.status (S.left source.old) (S.left source.new))
         (Reads words.now result.status S.left source.old source.new) }
 
-    ensures refusal { LogOrRun (log_asked words.now)
+    ensures refusal { ByTask words.now
         (λ _. RefusesLog result.status (S.left source.old) (Gains E.held E.faults err.old err.new))
+        (RefusesSource result.status (S.left source.old) (Gains E.held E.faults err.old err.new))
         (Refuses words.now (S.left source.old) result E.held E.faults err.old err.new) }
     ensures no_log { OnLog (log_asked words.now) (λ _. RefusesBytes result.status
         (S.left source.old) (S.left source.new) (Gains E.held E.faults err.old err.new)) }
 
-    ensures kept { LogOrRun (log_asked words.now) (λ _. result.kept ≡ None)
+    ensures kept { ByTask words.now (λ _. result.kept ≡ None) (result.kept ≡ None)
         (Keeps words.now (S.left source.old) result) }
     ensures how { IfSome result.kept (IsMadeAsAsked words.now) }
 
     ensures whole_text { WritesWhole words.now (S.left source.old) result K.held out.old out.new }
     ensures verdict { OnLog (log_asked words.now) (λ ask. TellsVerdict ask result.status
         (S.left source.old) (K.held out.old) (K.held out.new)) }
+    ensures sorts { OnSorts (sorts_asked words.now) (TellsSorts result.status
+        (S.left source.old) (K.held out.old) (K.held out.new)) }
     ensures write_fault { result.status ≡ 4 → Rose (K.faults out.old) (K.faults out.new) }
-    ensures out_untouched { LogOrRun (log_asked words.now)
+    ensures out_untouched { ByTask words.now
         (λ _. has_verdict result.status ≡ false → out.new ≡ out.old)
+        (was_judged result.status ≡ false → out.new ≡ out.old)
         (has_run result.status ≡ false → out.new ≡ out.old) }
 
-    ensures err_line { LogOrRun (log_asked words.now)
+    ensures err_line { ByTask words.now
         (λ _. GainsLogLine result.status E.held E.faults err.old err.new)
+        (GainsSortLine result.status E.held E.faults err.old err.new)
         (GainsLine result.status E.held E.faults err.old err.new) }
 {
     match read_wanted(alloc, words) {
         Wanted::Log(ask) => Ended {
             status: judge_log(alloc, ask, source, out, err),
+            kept: None,
+        },
+        Wanted::Sorts => Ended {
+            status: judge_sorts(alloc, source, out, err),
             kept: None,
         },
         Wanted::Other => run_program(alloc, words, source, out, err, gate, team),
@@ -132,35 +147,26 @@ pub fn run_join<S: Source, K: Sink, E: Sink, G: Gate, T: Team + FreeTeam<G>>(
 fn read_wanted(alloc: Global, words: &[String]) -> Wanted
     ensures { IsWanted words.now result }
 {
-    match log_wanted(alloc, words) {
-        Ok(Some(ask)) => Wanted::Log(ask),
+    match task(alloc, words) {
+        Ok(Some(asked)) => wanted_of(asked.job),
         Ok(None) => Wanted::Other,
         Err(_) => Wanted::NoMemory,
     }
 }
 
-/// What the words want of a log. None where they want something else, or nothing.
-fn log_wanted(alloc: Global, words: &[String]) -> Result<Option<Ask>, Memory>
-    ensures { IfOk result (λ ask. ask ≡ log_asked words.now) }
-{
-    match task(alloc, words)? {
-        Some(asked) => Ok(ask_of(asked.job)),
-        None => Ok(None),
-    }
-}
-
-/// What a job wants of a log.
-fn ask_of(job: Job) -> Option<Ask>
-    ensures { result ≡ ask_of job }
+/// What a job wants.
+fn wanted_of(job: Job) -> Wanted
+    ensures { IsWantedOf job result }
 {
     match job {
-        Job::Run => None,
-        Job::Check => Some(Ask::Verdict),
-        Job::Explain => Some(Ask::Causes),
+        Job::Run => Wanted::Other,
+        Job::Check => Wanted::Log(Ask::Verdict),
+        Job::Explain => Wanted::Log(Ask::Causes),
+        Job::Sorts => Wanted::Sorts,
     }
 }
 
-/// The same where no log is wanted. It reads the words once more.
+/// The same where a run is wanted, or nothing. It reads the words once more.
 fn run_program<S: Source, K: Sink, E: Sink, G: Gate, T: Team + FreeTeam<G>>(
     alloc: Global,
     words: &[String],

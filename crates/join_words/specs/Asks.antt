@@ -76,7 +76,8 @@ run_as l mode budget workers = if is_some l.by then None
 -- the commands that take no size and no option
 abbrev pub bare_job : Text → Option Job
 bare_job text = if bytes_eq text (codes "check") then Some job.Check
-    else (if bytes_eq text (codes "explain") then Some job.Explain else None)
+    else (if bytes_eq text (codes "explain") then Some job.Explain
+    else (if bytes_eq text (codes "sorts") then Some job.Sorts else None))
 
 abbrev pub is_bare : Line → Bool
 is_bare l = not (is_some l.budget || (is_some l.workers || (is_some l.by || l.log)))

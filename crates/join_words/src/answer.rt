@@ -5,12 +5,14 @@ use chem_model::Memory;
 use std::alloc::{AllocError, AllocFailed, Global};
 use thiserror::Error;
 
-/// What is done: a program is run, or a log is judged, or what it leaves is explained.
+/// What is done: a program is run, or a log is judged, or what it leaves is explained, or a source
+/// is judged by the sorts that it declares.
 #[derive(Clone, Copy, Debug, PartialEq, Eq)]
 pub enum Job {
     Run,
     Check,
     Explain,
+    Sorts,
 }
 
 impl Job {

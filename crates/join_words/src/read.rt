@@ -74,6 +74,7 @@ fn bare_job(text: &str) -> Option<Job>
     match text {
         "check" => Some(Job::Check),
         "explain" => Some(Job::Explain),
+        "sorts" => Some(Job::Sorts),
         _ => None,
     }
 }
@@ -154,6 +155,7 @@ fn asked_of(given: &LineTexts) -> Option<Asked>
 /// gen N [--by alone|rounds|run] [--budget B] [--workers W]
 /// check
 /// explain
+/// sorts
 /// ```
 ///
 /// The options stand anywhere, each at most once, and with their value in the next word or after

@@ -1,5 +1,5 @@
 -- What is read before a run, and why there is none.
-use Rattle.std.specs.Prelude.{◌≡◌, ◌⊎◌, ℕ, ◌≤◌, List, length, true}
+use Rattle.std.specs.Prelude.{◌≡◌, ◌⊎◌, ℕ, ◌≤◌, List, length, true, false}
 use Rattle.std.specs.Prelude.{Option, Some, None, is_some}
 use Rattle.join_base.specs.Bytes.{TakesCount}
 use Rattle.join_base.specs.Counts.{Rose}
@@ -15,7 +15,9 @@ use Rattle.join_top.specs.declared.job.Stop.TheVariants as stop
 use Rattle.join_top.specs.declared.run.Kept.{Kept}
 use Rattle.join_top.specs.declared.top.Wanted.{Wanted}
 use Rattle.join_top.specs.declared.top.Wanted.TheVariants as wanted
-use Rattle.join_top.specs.Task.{Words, task, log_asked, ring_asked, text_run}
+use Rattle.join_words.specs.declared.answer.Job.{Job}
+use Rattle.join_top.specs.Task.{Words, task, ask_of, log_asked, is_of_sorts, sorts_asked}
+use Rattle.join_top.specs.Task.{ring_asked, text_run}
 use Rattle.text_program.specs.Text.{IsProgramOfText, refusal_line}
 use Rattle.text_program.specs.Streams.{OnTold, IsWritten}
 use Rattle.join_top.specs.RunJoin.{GoesWith, IsMadeBy}
@@ -55,11 +57,19 @@ IsStop words left faults old new (stop.Text front) =
     (is_some (task words) ≡ true) × ReadsAll (ring_asked words) left old new
     × OnTold (text_run words (left old)) (λ text. NamesRefusal text front)
 
--- what the words want of a log, as far as it could be read
+-- what the words want of a log or a source, as far as it could be read
 abbrev pub IsWanted : Words → Wanted → Type 0
 IsWanted words (wanted.Log ask) = Some ask ≡ log_asked words
-IsWanted words wanted.Other = None ≡ log_asked words
+IsWanted words wanted.Sorts = (None ≡ log_asked words) × (true ≡ sorts_asked words)
+IsWanted words wanted.Other = (None ≡ log_asked words) × (false ≡ sorts_asked words)
 IsWanted words wanted.NoMemory = Unit {0}
+
+-- what a job wants
+abbrev pub IsWantedOf : Job → Wanted → Type 0
+IsWantedOf job (wanted.Log ask) = Some ask ≡ ask_of job
+IsWantedOf job wanted.Sorts = (None ≡ ask_of job) × (true ≡ is_of_sorts job)
+IsWantedOf job wanted.Other = (None ≡ ask_of job) × (false ≡ is_of_sorts job)
+IsWantedOf job wanted.NoMemory = ⊥
 
 -- ---- what is told where there is no job
 
