@@ -170,6 +170,19 @@ fn share(left: u32, sites: u32) -> u32
     if each < 64 { each } else { 64 }
 }
 
+// Where a round made fewer events, to start threads for the next one would take longer than its
+// turns.
+const FEW: usize = 128;
+
+// How many workers a round is lent to, where the one before made so many events.
+fn lent_to(made: usize, workers: u32) -> u32
+    requires { 1 ≤ workers }
+    ensures some { 1 ≤ result }
+    ensures most { result ≤ workers }
+{
+    if made < FEW { 1 } else { workers }
+}
+
 // The end of a round, once its sites have worked: what they did is committed, site after site; then
 // come the reactions that open locations, and then the requests.
 fn end_round(
@@ -193,13 +206,15 @@ fn end_round(
     Ok(())
 }
 
-// A round: the sites work, lent to the workers, and then it ends.
+// A round, after one that made so many events: the sites work, lent to the workers, and then it
+// ends.
 fn one_round<R: Threads + Sync>(
     rt: &R,
     alloc: Global,
     net: Net,
     book: &mut Book,
     workers: u32,
+    made: usize,
     budget: u32,
 ) -> Result<Net, Memory>
     requires workers { (1 ≤ workers) × (workers ≤ 16) }
@@ -213,7 +228,8 @@ fn one_round<R: Threads + Sync>(
 {
     let left = budget - book.journal().len() as u32;
     let quota = share(left, net.sites());
-    let (mut after, events) = net.round(rt, alloc, workers, quota)?;
+    let lent = lent_to(made, workers);
+    let (mut after, events) = net.round(rt, alloc, lent, quota)?;
     let ended = end_round(alloc, &mut after, book, events.as_slice(), budget);
     drop(events);
     match ended {
@@ -253,6 +269,7 @@ fn make_rounds<R: Threads + Sync>(
     ensures left { OnErr result (length book.old.journal < budget) }
 {
     let mut net = net;
+    let mut made = FEW;
     'rounds: loop {
         let before = book.journal().len();
         if budget as usize - before < net.sites() as usize {
@@ -260,24 +277,27 @@ fn make_rounds<R: Threads + Sync>(
             drop(net);
             return went;
         }
-        net = one_round(rt, alloc, net, book, workers, budget)?;
+        net = one_round(rt, alloc, net, book, workers, made, budget)?;
         few_under_way(&net);
-        if is_over(&net, before, book.journal().len()) {
+        let after = book.journal().len();
+        if is_over(&net, before, after) {
             drop(net);
             return Ok(());
         }
+        made = after.saturating_sub(before);
     }
 }
 
 /// Makes rounds until the journal has `budget` events, or a round makes no event and leaves nothing
 /// under way; where fewer events are left than there are sites, the rest one choice after another.
 ///
-/// In a round each site is lent to one of the workers, of which there are 1 to 16: it takes in what
-/// was under way to it, and reacts as often as its share of the budget allows, 64 times at most.
-/// Then each site in order makes its reaction that opens a location, and the requests are met in
-/// the order of their ids. Each event is committed to the book. How many workers there are makes
-/// no difference to the journal. It takes memory only where the budget leaves an event; book and
-/// network are dropped where there is none.
+/// In a round each site is lent to one of the workers, of which there are 1 to 16, or all to one
+/// where the round before made few events: it takes in what was under way to it, and reacts as
+/// often as its share of the budget allows, 64 times at most. Then each site in order makes its
+/// reaction that opens a location, and the requests are met in the order of their ids. Each event
+/// is committed to the book. How many workers there are makes no difference to the journal. It
+/// takes memory only where the budget leaves an event; book and network are dropped where there is
+/// none.
 pub fn rounds<R: Threads + Sync>(
     rt: &R,
     alloc: Global,

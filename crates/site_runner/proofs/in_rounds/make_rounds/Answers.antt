@@ -20,7 +20,7 @@ returns-then-budget-before-clause-left g c =
 pub returns-then-is_over-clause-rounds : goal.returns-then-is_over-clause-rounds
 returns-then-is_over-clause-rounds g c =
     let before : c.len-before.result ≡ length c.rounds.book.journal = c.len-before.ensures.count ∙ ap length c.journal.ensures in
-    let after : c.len.result ≡ length c.one_round.new.book.journal = c.len.ensures.count ∙ ap length c.journal-in-rounds.ensures in
+    let after : c.len-after.result ≡ length c.one_round.new.book.journal = c.len-after.ensures.count ∙ ap length c.journal-in-rounds.ensures in
     let many : length c.rounds.net.net.sites ≤ c.args.budget - length c.rounds.book.journal = subst (λ (k : ℕ). k ≤ c.args.budget - length c.rounds.book.journal) c.sites.ensures (subst (λ (k : ℕ). c.sites.result ≤ c.args.budget - k) before c.if-budget-before.false) in
     let idle = c.is_over.ensures.yes c.if-is_over.true in
     (c.in_ok-net.net, idle_ends c.args.budget c.args.net c.rounds.net c.in_ok-net.net c.args.book.now c.rounds.book c.one_round.new.book c.rounds.invariant.way many c.in_ok-net.ensures.round (sym after ∙ idle.0 ∙ before) idle.1)
@@ -28,14 +28,14 @@ returns-then-is_over-clause-rounds g c =
 pub rounds-smaller : goal.rounds-smaller
 rounds-smaller g c =
     let before : c.len-before.result ≡ length c.rounds.book.journal = c.len-before.ensures.count ∙ ap length c.journal.ensures in
-    let after : c.len.result ≡ length c.one_round.new.book.journal = c.len.ensures.count ∙ ap length c.journal-in-rounds.ensures in
+    let after : c.len-after.result ≡ length c.one_round.new.book.journal = c.len-after.ensures.count ∙ ap length c.journal-in-rounds.ensures in
     let more = λ (e : length c.one_round.new.book.journal ≡ length c.rounds.book.journal) (z : c.in_ok-net.net.net.packets ≡ []). c.is_over.ensures.no c.if-is_over.false (after ∙ e ∙ sym before) z in
     round_falls c.args.budget c.rounds.net c.in_ok-net.net c.rounds.book c.one_round.new.book c.rounds.invariant.way.one c.few_under_way.ensures c.in_ok-net.ensures.within c.in_ok-net.ensures.round more
 
 pub rounds-preserved : goal.rounds-preserved
 rounds-preserved g c =
     let before : c.len-before.result ≡ length c.rounds.book.journal = c.len-before.ensures.count ∙ ap length c.journal.ensures in
-    let after : c.len.result ≡ length c.one_round.new.book.journal = c.len.ensures.count ∙ ap length c.journal-in-rounds.ensures in
+    let after : c.len-after.result ≡ length c.one_round.new.book.journal = c.len-after.ensures.count ∙ ap length c.journal-in-rounds.ensures in
     let many : length c.rounds.net.net.sites ≤ c.args.budget - length c.rounds.book.journal = subst (λ (k : ℕ). k ≤ c.args.budget - length c.rounds.book.journal) c.sites.ensures (subst (λ (k : ℕ). c.sites.result ≤ c.args.budget - k) before c.if-budget-before.false) in
     let more = λ (e : length c.one_round.new.book.journal ≡ length c.rounds.book.journal) (z : c.in_ok-net.net.net.packets ≡ []). c.is_over.ensures.no c.if-is_over.false (after ∙ e ∙ sym before) z in
     record {
