@@ -9,7 +9,7 @@ use Rattle.chem_model.specs.declared.name.Ref.TheVariants.{Binder, Known}
 use Rattle.chem_model.specs.declared.name.Pat.{Pat}
 use Rattle.chem_model.specs.declared.program.SeenDecl.{SeenDecl}
 use Rattle.chem_model.specs.Process.{Process, Msg, Par, Def, Go, Fail, Halt, Processes, none, one_more, Definition, Rule, Place, Definitions, no_definition, and_also}
-use Rattle.chem_model.specs.Binders.{binder_of, channels_of, params_of, block, defined, is_among, once}
+use Rattle.chem_model.specs.Binders.{binder_of, channels_of, params_of, block, is_among, once}
 use Rattle.chem_model.specs.Scope.{Position, names_message, is_argument, in_request, IsOperation, IsBinder, AreNamed, IsNamed, IsInScope, IsTerm, AreTerms, IsDefinition, AreDefinitions}
 use Rattle.chem_model.specs.Operations.{add, same, op_count}
 use Rattle.chem_model.specs.ProgramFacts.{IsDeclared, places}

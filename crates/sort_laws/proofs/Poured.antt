@@ -23,25 +23,18 @@ use Rattle.chem_model.specs.Numbered.{standing}
 use Rattle.chem_model.specs.Pour.{Drawn, name_channel, name_ref, name_pats, name_channels, name_place, name_places, naming, births_of, names_made, is_count, known, out_made, atom_made, said_made, operated_made, message_made, loc_or, lay_rules, rules_made, then_made, pour, pour_all, lay_places, lay, add_made, pour_at, lay_at}
 use Rattle.chem_laws.proofs.Lists.{Each-append, Each-left, Each-right, Each-weaker}
 use Rattle.sort_laws.specs.declared.sorts.SortArg.TheVariants as arg
-use Rattle.sort_laws.specs.Sorted.{Sorting, HasSort, RefHas, IsChannel, KeepsAdd, KeepsSame, KeepsAs, KeepsOperation, KeepsMessage, KeepsPattern, Keeps, KeepsAll, KeepsDefinitions}
-use Rattle.sort_laws.proofs.Terms.{in_left, in_right, Within, all_in, RuleKeeps, rule_more, keeps_more, definitions_more, Fits, AllFit, fits_more, arguments_keep, ref_filled, channel_filled, message_filled, pats_filled, process_filled}
+use Rattle.sort_laws.specs.Sorted.{Sorting, HasSort, RefHas, IsChannel, KeepsAdd, KeepsSame, KeepsAs, KeepsOperation, KeepsMessage, KeepsPattern, Keeps, KeepsAll, KeepsDefinitions, KeepsRule, MayBeGiven, IsWellSorted}
+use Rattle.sort_laws.proofs.Terms.{in_left, in_right, Within, all_in, rule_more, keeps_more, definitions_more, Fits, AllFit, fits_more, arguments_keep, ref_filled, channel_filled, message_filled, pats_filled, process_filled}
 
 -- ---- naming: a location is given to a binder of the sort of locations, and a channel to one of a
 -- defined sort
 
-abbrev pub IsFine : Sorting → ℕ → Name → Type 0
-IsFine t b (name.Seen i) = ⊥
-IsFine t b (name.Place a) = t.binder b ≡ Some arg.Place
-IsFine t b (name.Chan s k h) = (j : ℕ) × (t.binder b ≡ Some (arg.Named j))
-IsFine t b (name.Num n) = ⊥
-IsFine t b (name.Op i) = ⊥
-
 abbrev pub AreFine : Sorting → Naming → Type 0
-AreFine t = Each (λ (e : Named). IsFine t e.binder e.name)
+AreFine t = Each (λ (e : Named). MayBeGiven t e.binder e.name)
 
 module _ (t : Sorting) (s : ℕ) (N : Naming) where
   channel_fine : (o : Option Name) (l : Loc) (b j : ℕ) (a : Drawn) → t.binder b ≡ Some (arg.Named j) → AreFine t a.names → AreFine t (name_channel o s l b a).names
-  channel_fine None l b j a k h = Each-append (λ (e : Named). IsFine t e.binder e.name) a.names (record { binder = b; name = name.Chan s a.next l } ∷ []) h ((j, k), tt)
+  channel_fine None l b j a k h = Each-append (λ (e : Named). MayBeGiven t e.binder e.name) a.names (record { binder = b; name = name.Chan s a.next l } ∷ []) h ((j, k), tt)
   channel_fine (Some n) l b j a k h = h
 
   ref_fine : (l : Loc) (r : Ref) (j : ℕ) (a : Drawn) → RefHas t N r (arg.Named j) → AreFine t a.names → AreFine t (name_ref s l r a).names
@@ -58,7 +51,7 @@ module _ (t : Sorting) (s : ℕ) (N : Naming) where
   channels_fine l (and_also (Place x es p) ds) a k h = channels_fine l ds a k.1 h
 
   place_fine : (r : Ref) (a : Drawn) → RefHas t N r arg.Place → AreFine t a.names → AreFine t (name_place s r a).names
-  place_fine (Binder b) a k h = Each-append (λ (e : Named). IsFine t e.binder e.name) a.names (record { binder = b; name = name.Place (record { site = s; k = a.next }) } ∷ []) h (k, tt)
+  place_fine (Binder b) a k h = Each-append (λ (e : Named). MayBeGiven t e.binder e.name) a.names (record { binder = b; name = name.Place (record { site = s; k = a.next }) } ∷ []) h (k, tt)
   place_fine (Known n) a k h = h
 
   places_fine : (ds : Definitions) (a : Drawn) → KeepsDefinitions t N ds → AreFine t a.names → AreFine t (name_places s ds a).names
@@ -72,10 +65,10 @@ module _ (t : Sorting) (s : ℕ) (N : Naming) where
   naming_fine l ds k h = places_fine ds (name_channels s l ds (record { next = k; names = [] })) h (channels_fine l ds (record { next = k; names = [] }) h tt)
 
 module _ (t : Sorting) (N : Naming) where
-  fine_fits : (e : Named) → IsFine t e.binder e.name → IsIn e N → Fits t N e
+  fine_fits : (e : Named) → MayBeGiven t e.binder e.name → IsIn e N → Fits t N e
   fine_fits e f i s h = go e.name refl f
     where
-      go : (n : Name) → e.name ≡ n → IsFine t e.binder n → HasSort t N n s
+      go : (n : Name) → e.name ≡ n → MayBeGiven t e.binder n → HasSort t N n s
       go (name.Seen j) c g = absurd g
       go (name.Place a) c g = let is : s ≡ arg.Place = cc in is
       go (name.Chan j k l) c g = record { entry = e; given = i; name = c; sort = h }
@@ -93,7 +86,7 @@ module _ (t : Sorting) (N : Naming) where
   AtomsKeep = Each (λ (a : NumberedAtom). Keeps t N a.term)
 
   abbrev pub RulesKeep : List NumberedRule → Type 0
-  RulesKeep = Each (RuleKeeps t N)
+  RulesKeep = Each (KeepsRule t N)
 
   abbrev pub MadeKeeps : Made → Type 0
   MadeKeeps a = AtomsKeep a.atoms × RulesKeep a.rules × AreFine t a.named
@@ -104,8 +97,8 @@ module _ (t : Sorting) (N : Naming) where
   then_keeps : (a b : Made) → MadeKeeps a → MadeKeeps b → MadeKeeps (then_made a b)
   then_keeps a b h g = (
     Each-append (λ (x : NumberedAtom). Keeps t N x.term) a.atoms b.atoms h.0 g.0,
-    Each-append (RuleKeeps t N) a.rules b.rules h.1 g.1,
-    Each-append (λ (e : Named). IsFine t e.binder e.name) a.named b.named h.2 g.2,
+    Each-append (KeepsRule t N) a.rules b.rules h.1 g.1,
+    Each-append (λ (e : Named). MayBeGiven t e.binder e.name) a.named b.named h.2 g.2,
   )
 
   given_left : (a b : Made) → IsGiven (then_made a b) → IsGiven a
@@ -276,26 +269,21 @@ module _ (t : Sorting) (N : Naming) where
 
 -- ---- a solution to which is added
 
--- each message, each request and each rule of the solution keeps the sorts, and the names that were
--- given do
-abbrev pub SolutionKeeps : Sorting → Numbered → Type 0
-SolutionKeeps t n = AtomsKeep t n.named n.atoms × RulesKeep t n.named n.rules × AreFine t n.named
-
 module _ (t : Sorting) (n : Numbered) where
-  added_keeps : (s : ℕ) (a : Made) → SolutionKeeps t n → MadeKeeps t (n.named ++ a.named) a → SolutionKeeps t (add_made n s a)
+  added_keeps : (s : ℕ) (a : Made) → IsWellSorted t n → MadeKeeps t (n.named ++ a.named) a → IsWellSorted t (add_made n s a)
   added_keeps s a h g =
       let more : (e : Named) → IsIn e n.named → IsIn e (n.named ++ a.named) = λ e i. in_left e n.named a.named i in (
         Each-append (λ (x : NumberedAtom). Keeps t (n.named ++ a.named) x.term) n.atoms a.atoms
             (Each-weaker (λ (x : NumberedAtom). Keeps t n.named x.term) (λ (x : NumberedAtom). Keeps t (n.named ++ a.named) x.term) (λ x. keeps_more t n.named (n.named ++ a.named) more x.term) n.atoms h.0) g.0,
-        Each-append (RuleKeeps t (n.named ++ a.named)) n.rules a.rules
-            (Each-weaker (RuleKeeps t n.named) (RuleKeeps t (n.named ++ a.named)) (rule_more t n.named (n.named ++ a.named) more) n.rules h.1) g.1,
-        Each-append (λ (e : Named). IsFine t e.binder e.name) n.named a.named h.2 g.2,
+        Each-append (KeepsRule t (n.named ++ a.named)) n.rules a.rules
+            (Each-weaker (KeepsRule t n.named) (KeepsRule t (n.named ++ a.named)) (rule_more t n.named (n.named ++ a.named) more) n.rules h.1) g.1,
+        Each-append (λ (e : Named). MayBeGiven t e.binder e.name) n.named a.named h.2 g.2,
       )
 
   given_of : (ms : Naming) → Within ms (n.named ++ ms)
   given_of ms = all_in (λ (e : Named). IsIn e (n.named ++ ms)) ms (λ e i. in_right e n.named ms i)
 
-  pub poured_keeps : (m : Naming) (l : Loc) (p : Process) → SolutionKeeps t n → AllFit t n.named m → Keeps t n.named p → SolutionKeeps t (pour_at n m l p)
+  pub poured_keeps : (m : Naming) (l : Loc) (p : Process) → IsWellSorted t n → AllFit t n.named m → Keeps t n.named p → IsWellSorted t (pour_at n m l p)
   poured_keeps m l p h f g =
       let r = root (standing n.places) l in
       let a = pour n.seen r.site r m l (slice_index n.counts r.site) p in
@@ -303,7 +291,7 @@ module _ (t : Sorting) (n : Numbered) where
       let more : (e : Named) → IsIn e n.named → IsIn e N = λ e i. in_left e n.named a.named i in
       added_keeps r.site a h (pour_keeps t N n.seen r.site r p m l (slice_index n.counts r.site) (fits_more t n.named N more m f) (keeps_more t n.named N more p g) (given_of a.named))
 
-  pub level_keeps : (m : Naming) (l : Loc) (ds : Definitions) → SolutionKeeps t n → AllFit t n.named m → KeepsDefinitions t n.named ds → SolutionKeeps t (lay_at n m l ds)
+  pub level_keeps : (m : Naming) (l : Loc) (ds : Definitions) → IsWellSorted t n → AllFit t n.named m → KeepsDefinitions t n.named ds → IsWellSorted t (lay_at n m l ds)
   level_keeps m l ds h f g =
       let r = root (standing n.places) l in
       let a = lay n.seen r.site r m l (slice_index n.counts r.site) ds in

@@ -26,13 +26,12 @@ use Rattle.chem_laws.proofs.Tied.{opening_is_a_start, event_is_a_reduction, decl
 use Rattle.chem_laws.proofs.Replay.{nothing_replayed}
 use Rattle.sort_laws.specs.declared.sorts.SortArg.{SortArg}
 use Rattle.sort_laws.specs.declared.sorts.SortArg.TheVariants as arg
-use Rattle.sort_laws.specs.Sorted.{Sorting, IsGivenAs, HasSort, RefHas, Takes, Receives, IsChannel, KeepsAdd, KeepsSame, KeepsAs, KeepsMessage, KeepsPattern, Keeps, IsDefined, IsSorted}
+use Rattle.sort_laws.specs.Sorted.{Sorting, IsGivenAs, HasSort, RefHas, Takes, Receives, IsChannel, KeepsAdd, KeepsSame, KeepsAs, KeepsMessage, KeepsPattern, Keeps, IsDefined, IsSorted, KeepsRule, MayBeGiven, IsWellSorted}
 use Rattle.sort_laws.specs.Owned.{IsChannelName, IsOn, Owns, IsOwned}
 use Rattle.sort_laws.specs.Wrong.{HasOtherCount, HasPattern, HasTwoNumbers, IsWrongMessage, IsNoLocation, IsWrong}
 use Rattle.sort_laws.specs.Laws.{NoneWrong, NoAtomIsWrong, ChannelsAreOwned}
-use Rattle.sort_laws.proofs.Terms.{RuleKeeps, each_in, all_in}
+use Rattle.sort_laws.proofs.Terms.{each_in, all_in}
 use Rattle.sort_laws.proofs.Unique.{one_channel}
-use Rattle.sort_laws.proofs.Poured.{IsFine, SolutionKeeps}
 use Rattle.sort_laws.proofs.Step.{event_keeps}
 use Rattle.sort_laws.proofs.Opening.{opening_keeps}
 use Rattle.sort_laws.proofs.OwnedStep.{event_owned}
@@ -41,11 +40,11 @@ use Rattle.sort_laws.proofs.OwnedOpening.{opening_owned}
 -- ---- every solution of a replay keeps the sorts
 
 module _ (t : Sorting) where
-  replayed : (n : Numbered) (journal : List Event) (last : Numbered) → IsSound n → SolutionKeeps t n → IsOwned n → replay_from (Some n) journal ≡ Some last → IsSound last × SolutionKeeps t last × IsOwned last
-  replayed n [] last sound keeps owned e = let is : n ≡ last = cc in (subst IsSound is sound, subst (SolutionKeeps t) is keeps, subst IsOwned is owned)
+  replayed : (n : Numbered) (journal : List Event) (last : Numbered) → IsSound n → IsWellSorted t n → IsOwned n → replay_from (Some n) journal ≡ Some last → IsSound last × IsWellSorted t last × IsOwned last
+  replayed n [] last sound keeps owned e = let is : n ≡ last = cc in (subst IsSound is sound, subst (IsWellSorted t) is keeps, subst IsOwned is owned)
   replayed n (x ∷ journal) last sound keeps owned e = go (apply n x) refl (λ m c. replayed m journal last (event_is_a_reduction n m x sound c).sound (event_keeps t n sound keeps m x c) (event_owned n sound owned m x c)) e
     where
-      go : (o : Option Numbered) → apply n x ≡ o → ((m : Numbered) → apply n x ≡ Some m → replay_from (Some m) journal ≡ Some last → IsSound last × SolutionKeeps t last × IsOwned last) → replay_from o journal ≡ Some last → IsSound last × SolutionKeeps t last × IsOwned last
+      go : (o : Option Numbered) → apply n x ≡ o → ((m : Numbered) → apply n x ≡ Some m → replay_from (Some m) journal ≡ Some last → IsSound last × IsWellSorted t last × IsOwned last) → replay_from o journal ≡ Some last → IsSound last × IsWellSorted t last × IsOwned last
       go None c ih e' = absurd (nothing_replayed journal last e')
       go (Some m) c ih e' = ih m c e'
 
@@ -69,7 +68,7 @@ found_count [] i h = absurd (omega arith)
 found_count (d ∷ ds) zero h = (d, refl, refl)
 found_count (d ∷ ds) (suc i) h = found_count ds i (omega arith)
 
-module _ (t : Sorting) (p : ProgramTerms) (sorted : IsSorted t p) (n : Numbered) (sound : IsSound n) (seen : n.seen ≡ counts_of p.seen) (keeps : SolutionKeeps t n) (owned : IsOwned n) where
+module _ (t : Sorting) (p : ProgramTerms) (sorted : IsSorted t p) (n : Numbered) (sound : IsSound n) (seen : n.seen ≡ counts_of p.seen) (keeps : IsWellSorted t n) (owned : IsOwned n) where
   -- a message on an observed name has the declared count, so it stands nowhere
   no_observed : (i count : ℕ) → i < length n.seen → (ss : List SortArg) → IsChannel t n.named (Known (name.Seen i)) ss → count ≡ length ss → is_count (slice_get n.seen i) count ≡ false → ⊥
   no_observed i count h ss channel c wrong =
@@ -82,7 +81,7 @@ module _ (t : Sorting) (p : ProgramTerms) (sorted : IsSorted t p) (n : Numbered)
   -- each pattern of the channel has the count of its sort
   pattern_count : (c : Name) (ss : List SortArg) → IsChannel t n.named (Known c) ss → (rule : NumberedRule) → IsIn rule n.rules → (q : Pat) → IsIn q rule.pats → q.on ≡ Known c → length q.params ≡ length ss
   pattern_count c ss channel rule stands q of_rule on =
-      let kept = each_in (RuleKeeps t n.named) rule n.rules keeps.1 stands in
+      let kept = each_in (KeepsRule t n.named) rule n.rules keeps.1 stands in
       let pat = each_in (KeepsPattern t n.named) q rule.pats kept.0 of_rule in
       let its : IsChannel t n.named (Known c) pat.sorts = subst (λ (r : Ref). IsChannel t n.named r pat.sorts) on pat.channel in
       let same : pat.sorts ≡ ss = one_channel t n sound (Known c) pat.sorts ss its channel in
@@ -104,8 +103,8 @@ module _ (t : Sorting) (p : ProgramTerms) (sorted : IsSorted t p) (n : Numbered)
   channel_defined : (s : SortArg) (c : Name) (j k : ℕ) (h : Loc) → c ≡ name.Chan j k h → HasSort t n.named c s → IsDefined s
   channel_defined s c j k h e g =
       let given : IsGivenAs t n.named (name.Chan j k h) s = subst (λ (x : Name). HasSort t n.named x s) e g in
-      let fine = each_in (λ (x : Named). IsFine t x.binder x.name) given.entry n.named keeps.2 given.given in
-      let named : IsFine t given.entry.binder (name.Chan j k h) = subst (IsFine t given.entry.binder) given.name fine in
+      let fine = each_in (λ (x : Named). MayBeGiven t x.binder x.name) given.entry n.named keeps.2 given.given in
+      let named : MayBeGiven t given.entry.binder (name.Chan j k h) = subst (MayBeGiven t given.entry.binder) given.name fine in
       let same : Some s ≡ Some (arg.Named named.0) = sym given.sort ∙ named.1 in
       let is : s ≡ arg.Named named.0 = cc in
       subst IsDefined (sym is) tt

@@ -25,12 +25,12 @@ use Rattle.chem_model.specs.Sound.{IsSound, IsNameOf, IsSettled, IsAtom}
 use Rattle.chem_laws.proofs.Lists.{Each-weaker, Each-append}
 use Rattle.chem_laws.proofs.Taking.{atom_found, rule_found, Each-without, Each-without_all, Received, AllReceived, none_received, one_received, all_received}
 use Rattle.sort_laws.specs.declared.sorts.SortArg.{SortArg}
-use Rattle.sort_laws.specs.Sorted.{Sorting, RefHas, Takes, Receives, IsChannel, KeepsArguments, KeepsPattern, Keeps}
-use Rattle.sort_laws.proofs.Terms.{RuleKeeps, Fits, AllFit, arguments_keep, channel_takes}
+use Rattle.sort_laws.specs.Sorted.{Sorting, RefHas, Takes, Receives, IsChannel, KeepsArguments, KeepsPattern, Keeps, KeepsRule, IsWellSorted}
+use Rattle.sort_laws.proofs.Terms.{Fits, AllFit, arguments_keep, channel_takes}
 use Rattle.sort_laws.proofs.Unique.{one_channel}
-use Rattle.sort_laws.proofs.Poured.{SolutionKeeps, poured_keeps}
+use Rattle.sort_laws.proofs.Poured.{poured_keeps}
 
-module _ (t : Sorting) (n : Numbered) (sound : IsSound n) (keeps : SolutionKeeps t n) where
+module _ (t : Sorting) (n : Numbered) (sound : IsSound n) (keeps : IsWellSorted t n) where
   -- ---- what is received has the sorts of the parameters
 
   given_fit : (bs : List ℕ) (xs : List Name) (ss : List SortArg) → Receives t bs ss → Takes t n.named (all_known xs) ss → AllFit t n.named (given bs xs)
@@ -55,26 +55,26 @@ module _ (t : Sorting) (n : Numbered) (sound : IsSound n) (keeps : SolutionKeeps
 
   -- ---- React
 
-  reacted : (i : RuleId) (r : NumberedRule) (took : List AtomId) (m : Naming) → rule_at n.rules i ≡ Some r → received_all n.atoms r.loc r.pats took ≡ Some m → SolutionKeeps t (pour_at (record n { atoms = without_all took n.atoms }) m r.loc r.body)
+  reacted : (i : RuleId) (r : NumberedRule) (took : List AtomId) (m : Naming) → rule_at n.rules i ≡ Some r → received_all n.atoms r.loc r.pats took ≡ Some m → IsWellSorted t (pour_at (record n { atoms = without_all took n.atoms }) m r.loc r.body)
   reacted i r took m at_rule receives =
       let settled = Each-weaker (IsAtom n) (λ (a : NumberedAtom). IsSettled n.seen Q a.loc a.term) (λ a h. h.1) n.atoms sound.atoms in
       let got = all_received Q n.seen n.atoms r.loc r.pats took m settled receives in
-      let rule = rule_found (RuleKeeps t n.named) n.rules i r at_rule keeps.1 in
+      let rule = rule_found (KeepsRule t n.named) n.rules i r at_rule keeps.1 in
       let fits = all_fit r.pats took m rule.0 got in
       poured_keeps t (record n { atoms = without_all took n.atoms }) m r.loc r.body (Each-without_all (λ (a : NumberedAtom). Keeps t n.named a.term) took n.atoms keeps.0, keeps.1, keeps.2) fits rule.1
 
-  react_step : (i : RuleId) (took : List AtomId) (m : Numbered) → apply n (event.React i took) ≡ Some m → SolutionKeeps t m
+  react_step : (i : RuleId) (took : List AtomId) (m : Numbered) → apply n (event.React i took) ≡ Some m → IsWellSorted t m
   react_step i took m e = at_rule (rule_at n.rules i) refl e
     where
-      receives : (r : NumberedRule) → rule_at n.rules i ≡ Some r → (u : Option Naming) → received_all n.atoms r.loc r.pats took ≡ u → react_received n r took u ≡ Some m → SolutionKeeps t m
+      receives : (r : NumberedRule) → rule_at n.rules i ≡ Some r → (u : Option Naming) → received_all n.atoms r.loc r.pats took ≡ u → react_received n r took u ≡ Some m → IsWellSorted t m
       receives r c None d e' = cc
-      receives r c (Some u) d e' = let same : pour_at (record n { atoms = without_all took n.atoms }) u r.loc r.body ≡ m = cc in subst (SolutionKeeps t) same (reacted i r took u c d)
+      receives r c (Some u) d e' = let same : pour_at (record n { atoms = without_all took n.atoms }) u r.loc r.body ≡ m = cc in subst (IsWellSorted t) same (reacted i r took u c d)
 
-      lives : (r : NumberedRule) → rule_at n.rules i ≡ Some r → (b : Bool) → cond b (react_received n r took (received_all n.atoms r.loc r.pats took)) None ≡ Some m → SolutionKeeps t m
+      lives : (r : NumberedRule) → rule_at n.rules i ≡ Some r → (b : Bool) → cond b (react_received n r took (received_all n.atoms r.loc r.pats took)) None ≡ Some m → IsWellSorted t m
       lives r c true e' = receives r c (received_all n.atoms r.loc r.pats took) refl e'
       lives r c false e' = cc
 
-      at_rule : (o : Option NumberedRule) → rule_at n.rules i ≡ o → react_rule n took o ≡ Some m → SolutionKeeps t m
+      at_rule : (o : Option NumberedRule) → rule_at n.rules i ≡ o → react_rule n took o ≡ Some m → IsWellSorted t m
       at_rule None c e' = cc
       at_rule (Some r) c e' = lives r c (live (standing n.places) r.loc) e'
 
@@ -89,21 +89,21 @@ module _ (t : Sorting) (n : Numbered) (sound : IsSound n) (keeps : SolutionKeeps
   without_keeps : (i : AtomId) → Each (λ (a : NumberedAtom). Keeps t n.named a.term) (without i n.atoms)
   without_keeps i = Each-without (λ (a : NumberedAtom). Keeps t n.named a.term) i n.atoms keeps.0
 
-  move_step : (i : AtomId) (m : Numbered) → apply n (event.Move i) ≡ Some m → SolutionKeeps t m
+  move_step : (i : AtomId) (m : Numbered) → apply n (event.Move i) ≡ Some m → IsWellSorted t m
   move_step i m e = at_atom (atom_at n.atoms i) refl e
     where
-      falls_in : (a : NumberedAtom) (b : Loc) (u : Bool) → cond u (Some (moved n i a.loc b)) None ≡ Some m → SolutionKeeps t m
-      falls_in a b true e' = let same : moved n i a.loc b ≡ m = cc in subst (SolutionKeeps t) same (without_keeps i, keeps.1, keeps.2)
+      falls_in : (a : NumberedAtom) (b : Loc) (u : Bool) → cond u (Some (moved n i a.loc b)) None ≡ Some m → IsWellSorted t m
+      falls_in a b true e' = let same : moved n i a.loc b ≡ m = cc in subst (IsWellSorted t) same (without_keeps i, keeps.1, keeps.2)
       falls_in a b false e' = cc
 
-      goes : (a : NumberedAtom) (b : Loc) (k : Ref) → IsChannel t n.named k [] → (u : Bool) → cond u (Some (pour_at (moved n i a.loc b) [] a.loc (continuation k))) (cond (falls n a.loc b) (Some (moved n i a.loc b)) None) ≡ Some m → SolutionKeeps t m
+      goes : (a : NumberedAtom) (b : Loc) (k : Ref) → IsChannel t n.named k [] → (u : Bool) → cond u (Some (pour_at (moved n i a.loc b) [] a.loc (continuation k))) (cond (falls n a.loc b) (Some (moved n i a.loc b)) None) ≡ Some m → IsWellSorted t m
       goes a b k h true e' =
           let new : Numbered = moved n i a.loc b in
           let same : pour_at new [] a.loc (continuation k) ≡ m = cc in
-          subst (SolutionKeeps t) same (poured_keeps t new [] a.loc (continuation k) (without_keeps i, keeps.1, keeps.2) tt (goes_on k h))
+          subst (IsWellSorted t) same (poured_keeps t new [] a.loc (continuation k) (without_keeps i, keeps.1, keeps.2) tt (goes_on k h))
       goes a b k h false e' = falls_in a b (falls n a.loc b) e'
 
-      at_target : (a : NumberedAtom) (b k : Ref) → IsChannel t n.named k [] → at_location b (move_to n i a.loc k) ≡ Some m → SolutionKeeps t m
+      at_target : (a : NumberedAtom) (b k : Ref) → IsChannel t n.named k [] → at_location b (move_to n i a.loc k) ≡ Some m → IsWellSorted t m
       at_target a (Binder b) k h e' = cc
       at_target a (Known (name.Seen b)) k h e' = cc
       at_target a (Known (name.Place b)) k h e' = goes a b k h (can_go n a.loc b) e'
@@ -111,7 +111,7 @@ module _ (t : Sorting) (n : Numbered) (sound : IsSound n) (keeps : SolutionKeeps
       at_target a (Known (name.Num j)) k h e' = cc
       at_target a (Known (name.Op j)) k h e' = cc
 
-      at_term : (a : NumberedAtom) (p : Process) → atom_at n.atoms i ≡ Some a → a.term ≡ p → move_atom n i a.loc p ≡ Some m → SolutionKeeps t m
+      at_term : (a : NumberedAtom) (p : Process) → atom_at n.atoms i ≡ Some a → a.term ≡ p → move_atom n i a.loc p ≡ Some m → IsWellSorted t m
       at_term a (Go b k) c d e' = at_target a b k (left_keeps i a (Go b k) c d).1 e'
       at_term a (Msg x vs) c d e' = cc
       at_term a (Par ps) c d e' = cc
@@ -119,18 +119,18 @@ module _ (t : Sorting) (n : Numbered) (sound : IsSound n) (keeps : SolutionKeeps
       at_term a (Fail b k) c d e' = cc
       at_term a Halt c d e' = cc
 
-      at_atom : (o : Option NumberedAtom) → atom_at n.atoms i ≡ o → with_atom o (move_atom n i) ≡ Some m → SolutionKeeps t m
+      at_atom : (o : Option NumberedAtom) → atom_at n.atoms i ≡ o → with_atom o (move_atom n i) ≡ Some m → IsWellSorted t m
       at_atom None c e' = cc
       at_atom (Some a) c e' = at_term a a.term c refl e'
 
-  halt_step : (i : AtomId) (m : Numbered) → apply n (event.Halt i) ≡ Some m → SolutionKeeps t m
+  halt_step : (i : AtomId) (m : Numbered) → apply n (event.Halt i) ≡ Some m → IsWellSorted t m
   halt_step i m e = at_atom (atom_at n.atoms i) e
     where
-      halts : (a : NumberedAtom) (u : Bool) → cond u (Some (record n { places = with_marks a.loc n.places; atoms = without i n.atoms })) None ≡ Some m → SolutionKeeps t m
-      halts a true e' = let same : record n { places = with_marks a.loc n.places; atoms = without i n.atoms } ≡ m = cc in subst (SolutionKeeps t) same (without_keeps i, keeps.1, keeps.2)
+      halts : (a : NumberedAtom) (u : Bool) → cond u (Some (record n { places = with_marks a.loc n.places; atoms = without i n.atoms })) None ≡ Some m → IsWellSorted t m
+      halts a true e' = let same : record n { places = with_marks a.loc n.places; atoms = without i n.atoms } ≡ m = cc in subst (IsWellSorted t) same (without_keeps i, keeps.1, keeps.2)
       halts a false e' = cc
 
-      at_term : (a : NumberedAtom) (p : Process) → halt_atom n i a.loc p ≡ Some m → SolutionKeeps t m
+      at_term : (a : NumberedAtom) (p : Process) → halt_atom n i a.loc p ≡ Some m → IsWellSorted t m
       at_term a Halt e' = halts a (live (standing n.places) a.loc) e'
       at_term a (Msg x vs) e' = cc
       at_term a (Par ps) e' = cc
@@ -138,21 +138,21 @@ module _ (t : Sorting) (n : Numbered) (sound : IsSound n) (keeps : SolutionKeeps
       at_term a (Go b k) e' = cc
       at_term a (Fail b k) e' = cc
 
-      at_atom : (o : Option NumberedAtom) → with_atom o (halt_atom n i) ≡ Some m → SolutionKeeps t m
+      at_atom : (o : Option NumberedAtom) → with_atom o (halt_atom n i) ≡ Some m → IsWellSorted t m
       at_atom None e' = cc
       at_atom (Some a) e' = at_term a a.term e'
 
-  detect_step : (i : AtomId) (m : Numbered) → apply n (event.Detect i) ≡ Some m → SolutionKeeps t m
+  detect_step : (i : AtomId) (m : Numbered) → apply n (event.Detect i) ≡ Some m → IsWellSorted t m
   detect_step i m e = at_atom (atom_at n.atoms i) refl e
     where
-      detects : (a : NumberedAtom) (k : Ref) → IsChannel t n.named k [] → (u : Bool) → cond u (Some (pour_at (record n { atoms = without i n.atoms }) [] a.loc (continuation k))) None ≡ Some m → SolutionKeeps t m
+      detects : (a : NumberedAtom) (k : Ref) → IsChannel t n.named k [] → (u : Bool) → cond u (Some (pour_at (record n { atoms = without i n.atoms }) [] a.loc (continuation k))) None ≡ Some m → IsWellSorted t m
       detects a k h true e' =
           let new : Numbered = record n { atoms = without i n.atoms } in
           let same : pour_at new [] a.loc (continuation k) ≡ m = cc in
-          subst (SolutionKeeps t) same (poured_keeps t new [] a.loc (continuation k) (without_keeps i, keeps.1, keeps.2) tt (goes_on k h))
+          subst (IsWellSorted t) same (poured_keeps t new [] a.loc (continuation k) (without_keeps i, keeps.1, keeps.2) tt (goes_on k h))
       detects a k h false e' = cc
 
-      at_target : (a : NumberedAtom) (b k : Ref) → IsChannel t n.named k [] → at_location b (detect_of n i a.loc k) ≡ Some m → SolutionKeeps t m
+      at_target : (a : NumberedAtom) (b k : Ref) → IsChannel t n.named k [] → at_location b (detect_of n i a.loc k) ≡ Some m → IsWellSorted t m
       at_target a (Binder b) k h e' = cc
       at_target a (Known (name.Seen b)) k h e' = cc
       at_target a (Known (name.Place b)) k h e' = detects a k h (can_detect n a.loc b) e'
@@ -160,7 +160,7 @@ module _ (t : Sorting) (n : Numbered) (sound : IsSound n) (keeps : SolutionKeeps
       at_target a (Known (name.Num j)) k h e' = cc
       at_target a (Known (name.Op j)) k h e' = cc
 
-      at_term : (a : NumberedAtom) (p : Process) → atom_at n.atoms i ≡ Some a → a.term ≡ p → detect_atom n i a.loc p ≡ Some m → SolutionKeeps t m
+      at_term : (a : NumberedAtom) (p : Process) → atom_at n.atoms i ≡ Some a → a.term ≡ p → detect_atom n i a.loc p ≡ Some m → IsWellSorted t m
       at_term a (Fail b k) c d e' = at_target a b k (left_keeps i a (Fail b k) c d).1 e'
       at_term a (Msg x vs) c d e' = cc
       at_term a (Par ps) c d e' = cc
@@ -168,11 +168,11 @@ module _ (t : Sorting) (n : Numbered) (sound : IsSound n) (keeps : SolutionKeeps
       at_term a (Go b k) c d e' = cc
       at_term a Halt c d e' = cc
 
-      at_atom : (o : Option NumberedAtom) → atom_at n.atoms i ≡ o → with_atom o (detect_atom n i) ≡ Some m → SolutionKeeps t m
+      at_atom : (o : Option NumberedAtom) → atom_at n.atoms i ≡ o → with_atom o (detect_atom n i) ≡ Some m → IsWellSorted t m
       at_atom None c e' = cc
       at_atom (Some a) c e' = at_term a a.term c refl e'
 
-  pub event_keeps : (m : Numbered) (e : Event) → apply n e ≡ Some m → SolutionKeeps t m
+  pub event_keeps : (m : Numbered) (e : Event) → apply n e ≡ Some m → IsWellSorted t m
   event_keeps m (event.React i took) a = react_step i took m a
   event_keeps m (event.Move i) a = move_step i m a
   event_keeps m (event.Halt i) a = halt_step i m a

@@ -13,7 +13,7 @@ use Rattle.chem_model.specs.Each.{Each, IsIn}
 use Rattle.chem_model.specs.Fill.{Naming, name_at, or_binder, fill_ref, fill_refs, fill_pats, fill, fill_all, fill_definition, fill_definitions}
 use Rattle.chem_model.specs.Operations.{add, same}
 use Rattle.sort_laws.specs.declared.sorts.SortArg.{SortArg}
-use Rattle.sort_laws.specs.Sorted.{Sorting, HasSort, RefHas, Takes, IsChannel, KeepsArguments, KeepsAdd, KeepsSame, KeepsAs, KeepsMessage, KeepsPattern, Keeps, KeepsAll, KeepsDefinition, KeepsDefinitions}
+use Rattle.sort_laws.specs.Sorted.{Sorting, HasSort, RefHas, Takes, IsChannel, KeepsArguments, KeepsAdd, KeepsSame, KeepsAs, KeepsMessage, KeepsPattern, Keeps, KeepsAll, KeepsDefinition, KeepsDefinitions, KeepsRule}
 
 -- ---- members of lists
 
@@ -43,9 +43,6 @@ pub all_within : (xs : Naming) → Within xs xs
 all_within xs = all_in (λ (e : Named). IsIn e xs) xs (λ e i. i)
 
 -- ---- more names
-
-abbrev pub RuleKeeps : Sorting → Naming → NumberedRule → Type 0
-RuleKeeps t named r = Each (KeepsPattern t named) r.pats × Keeps t named r.body
 
 module _ (t : Sorting) (N M : Naming) (more : (e : Named) → IsIn e N → IsIn e M) where
   pub has_more : (n : Name) (s : SortArg) → HasSort t N n s → HasSort t M n s
@@ -124,7 +121,7 @@ module _ (t : Sorting) (N M : Naming) (more : (e : Named) → IsIn e N → IsIn 
     definitions_more no_definition h = tt
     definitions_more (and_also d ds) h = (definition_more d h.0, definitions_more ds h.1)
 
-  pub rule_more : (r : NumberedRule) → RuleKeeps t N r → RuleKeeps t M r
+  pub rule_more : (r : NumberedRule) → KeepsRule t N r → KeepsRule t M r
   rule_more r h = (pats_more r.pats h.0, keeps_more r.body h.1)
 
 -- ---- a message on a channel

@@ -1,4 +1,4 @@
--- The sorts of names, and the terms that keep them.
+-- The sorts of names, and the terms, programs and solutions that keep them.
 use Rattle.std.specs.Prelude.{◌≡◌, ℕ, ◌==◌, List, [], ◌∷◌, Option, Some, Bool, true, false}
 use Rattle.std.specs.Prelude.{length, slice_get}
 use Rattle.chem_model.specs.declared.name.Name.{Name}
@@ -13,6 +13,9 @@ use Rattle.chem_model.specs.Process.{and_also}
 use Rattle.chem_model.specs.ProgramFacts.{ProgramTerms, places}
 use Rattle.chem_model.specs.Each.{Each, IsIn}
 use Rattle.chem_model.specs.declared.numbered.Named.{Named}
+use Rattle.chem_model.specs.declared.numbered.NumberedRule.{NumberedRule}
+use Rattle.chem_model.specs.declared.numbered.NumberedAtom.{NumberedAtom}
+use Rattle.chem_model.specs.declared.numbered.Numbered.{Numbered}
 use Rattle.chem_model.specs.Fill.{Naming}
 use Rattle.chem_model.specs.Operations.{add, same}
 use Rattle.sort_laws.specs.declared.sorts.SortArg.{SortArg}
@@ -143,3 +146,25 @@ pub record IsSorted (t : Sorting) (p : ProgramTerms) : Type 0 where
   pub counts : (i j : ℕ) (d : SeenDecl) → slice_get p.seen i ≡ Some d
       → t.seen i ≡ Some (arg.Named j) → d.count ≡ length (t.args j)
   pub terms : KeepsDefinitions t [] (places p.sites)
+
+-- ---- solutions
+
+-- the patterns and the body of a rule keep the sorts
+abbrev pub KeepsRule : Sorting → Naming → NumberedRule → Type 0
+KeepsRule t named r = Each (KeepsPattern t named) r.pats × Keeps t named r.body
+
+-- A location may be given to a binder of the sort of locations, a channel to one of a defined sort.
+abbrev pub MayBeGiven : Sorting → ℕ → Name → Type 0
+MayBeGiven t b (name.Seen i) = ⊥
+MayBeGiven t b (name.Place a) = t.binder b ≡ Some arg.Place
+MayBeGiven t b (name.Chan s k h) = (j : ℕ) × (t.binder b ≡ Some (arg.Named j))
+MayBeGiven t b (name.Num n) = ⊥
+MayBeGiven t b (name.Op i) = ⊥
+
+-- A solution that is well sorted: each message, each request and each rule keeps the sorts, and
+-- each name was given to a binder of its sort.
+abbrev pub IsWellSorted : Sorting → Numbered → Type 0
+IsWellSorted t n =
+    Each (λ (a : NumberedAtom). Keeps t n.named a.term) n.atoms
+    × Each (KeepsRule t n.named) n.rules
+    × Each (λ (e : Named). MayBeGiven t e.binder e.name) n.named

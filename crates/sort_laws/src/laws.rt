@@ -1,5 +1,18 @@
 // The laws of declared sorts, each on a function that does nothing.
-ghost use Rattle.sort_laws.specs.Laws.{NoAtomIsWrong, WhatPassesIsSorted, ChannelsAreOwned};
+ghost use Rattle.sort_laws.specs.Laws.{OpeningIsWellSorted, EventKeepsSorts, NoAtomIsWrong};
+ghost use Rattle.sort_laws.specs.Laws.{WhatPassesIsSorted, ChannelsAreOwned};
+
+/// Where a program keeps the sorts of its names, its opening is well sorted: each message, each
+/// request and each rule keeps them, and each name was given to a binder of its sort. It does
+/// nothing.
+pub fn opening_is_well_sorted()
+    ensures { OpeningIsWellSorted }
+{}
+
+/// Each event keeps a solution well sorted. It does nothing.
+pub fn event_keeps_sorts()
+    ensures { EventKeepsSorts }
+{}
 
 /// Where a program keeps the sorts of its names, no solution of a replay of it holds a wrong atom.
 /// It does nothing.
