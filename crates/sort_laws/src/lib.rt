@@ -9,4 +9,6 @@ pub use laws::{
     channels_are_owned, event_keeps_sorts, no_atom_is_wrong, opening_is_well_sorted,
     what_passes_is_sorted,
 };
-pub use sorts::{Entry, SortArg, SortArgs, SortDecl, SortDecls, SortUse, SortUses, Sorts};
+pub use sorts::{
+    Entry, SortArg, SortArgs, SortDecl, SortDecls, SortUse, SortUses, Sorts, copy_decls, copy_uses,
+};

@@ -31,6 +31,15 @@ pub enum SortEnd {
     Memory,
 }
 
+impl SortEnd {
+    /// An end that is equal to this one. It takes no memory.
+    pub fn copy(&self, _alloc: Global) -> Result<SortEnd, Memory>
+        ensures { result ≡ Ok self.now }
+    {
+        Ok(*self)
+    }
+}
+
 impl From<Memory> for SortEnd {
     ghost use Rattle.sort_lines.specs.declared.read.SortEnd.TheVariants as sort_end;
 
