@@ -111,14 +111,14 @@ for count in 1000 10000 30000; do
 done
 
 # of an event of an endless reaction by one free worker: all instructions, and those under the book's lock, where the
-# event is committed and the site changed
+# event is committed
 if command -v valgrind >/dev/null; then
     counted=$(mktemp)
     valgrind --tool=callgrind --callgrind-out-file="$counted" "$program" run --workers 1 --budget 20000 \
         <<<'site s [ c(x) => c(x) : c(s) ]' >/dev/null 2>&1 || true
     callgrind_annotate --inclusive=yes --threshold=100 "$counted" | tr -d ',' | awk '
         /PROGRAM TOTALS/ { all = $1 }
-        /locked::Locked::propose/ || /reducer::reacting::react / { held += $1 }
+        /locked::Locked::propose/ { held += $1 }
         END { printf "an event by a free worker: %d instructions, %d of them under the lock of the book\n", all / 20000, held / 20000 }'
     rm -f "$counted"
 fi

@@ -1,10 +1,12 @@
 -- What a choice tells of a site.
 use Rattle.std.proofs.Common.{◌≡◌, ℕ, true, false, Option, Some, None, refl, sym, ap, ◌∙◌, subst, Bool, cond}
-use Rattle.std.specs.Prelude.{is_some, ◌||◌, ◌&&◌, ◌==◌}
+use Rattle.std.specs.Prelude.{is_some, ◌||◌, ◌&&◌, ◌==◌, Result, Ok, Err, IfOk}
+use Rattle.chem_model.specs.declared.memory.Memory.{Memory}
 use Rattle.chem_model.specs.declared.name.Loc.{Loc}
 use Rattle.chem_model.specs.declared.name.Name.{Name}
 use Rattle.chem_model.specs.declared.name.Name.TheVariants as name
 use Rattle.chem_model.specs.declared.event.AtomId.{AtomId}
+use Rattle.chem_model.specs.declared.event.Event.{Event}
 use Rattle.chem_model.specs.declared.event.Event.TheVariants as event
 use Rattle.wire_packet.specs.declared.packet.Ask.{Ask}
 use Rattle.wire_packet.specs.declared.packet.Ask.TheVariants as request
@@ -16,11 +18,14 @@ use Rattle.net_laws.specs.Holding.{request_with}
 use Rattle.reducer.specs.declared.pick.Pick.{Pick}
 use Rattle.reducer.specs.Picks.{Picked, Picks, IsCovered, IsToldAs, MayFire}
 use Rattle.reducer.specs.Ready.{IsReady}
+use Rattle.reducer.specs.Fronts.{event_of}
 use Rattle.reducer.proofs.Levels.{level_at, told_as}
 use Rattle.failure.specs.Halts as halts
 use Rattle.failure.specs.Deaths as deaths
 use Rattle.migration.specs.Moves as moves
+use Rattle.shared_net.specs.declared.choosing.Chosen.TheVariants as choice
 use Rattle.shared_net.specs.Choosing.{CanAct, may_meet}
+use Rattle.shared_net.specs.Making.{IsEventOf}
 
 module _ (c : CodeParts) (t : Tree) (s : Site) (p : Pick) (act : CanAct c t s) (ready : IsReady c t s p) where
   pub is_covered : IsCovered c s p
@@ -31,6 +36,11 @@ module _ (c : CodeParts) (t : Tree) (s : Site) (p : Pick) (act : CanAct c t s) (
 
   pub is_told : (x : Picked) → Picks c s p x → IsToldAs x
   is_told x picks = told_as c s p x picks (level_at c t s p.group x.group act.coded picks.group)
+
+  -- what is said of each pick's event is said of the choice's
+  pub event_is : (r : Result Event Memory) → IfOk r (λ (e : Event). (x : Picked) → Picks c s p x → e ≡ event_of p x) → IfOk r (IsEventOf c s (choice.Pick p))
+  event_is (Ok e) h = let picks = ready.fires.covers.picks in (ready.pick, (picks, h ready.pick picks))
+  event_is (Err m) h = tt
 
 -- ---- requests that may be met, by their kind
 

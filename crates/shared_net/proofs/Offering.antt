@@ -1,5 +1,7 @@
 -- Proposals of events that may not fit.
-use Rattle.std.proofs.Common.{◌≡◌, ℕ, length, refl, ap, ◌∙◌, subst, arith, ◌⊎◌, inl, inr}
+use Rattle.std.proofs.Common.{◌≡◌, ℕ, length, refl, sym, ap, ◌∙◌, subst, arith, ◌⊎◌, inl, inr}
+use Rattle.std.specs.Prelude.{Result, Ok, Err, IfOk}
+use Rattle.chem_model.specs.declared.memory.Memory.{Memory}
 use Rattle.chem_model.specs.declared.event.Event.{Event}
 use Rattle.trace_history.specs.Kept.{BookKept}
 use Rattle.shared_net.specs.declared.turn.Turn.{Turn}
@@ -42,9 +44,6 @@ module _ (old : BookKept) (held : PassKept) (e : Event) where
   turned NotEnabled after not is = is
   turned Full after not is = is
 
-  pub proposal_turned : (turn : Turn) (new : BookKept) (after : PassKept) → Proposes old held e turn new after → Turned held turn after
-  proposal_turned turn new after p = turned turn after (λ is. (subst (λ (t : Turn). Proposes old held e t new after) is p).answer) p.pass
-
   pub offer_turned : (Fits : Type 0) (turn : Turn) (new : BookKept) (after : PassKept) → Offers Fits old held e turn new after → Turned held turn after
   offer_turned Fits turn new after p = turned turn after (λ is. (subst (λ (t : Turn). Offers Fits old held e t new after) is p).answer) p.pass
 
@@ -67,3 +66,17 @@ module _ (old : BookKept) (held : PassKept) (e : Event) where
 pub may_gain : (Is : Event → Type 0) (old : BookKept) (held : PassKept) (new : BookKept) (after : PassKept) → MayHaveCommitted Is old held new after → MayGain held after
 may_gain Is old held new after (inl h) = inl h.pass
 may_gain Is old held new after (inr h) = inr (record { place = length old.journal; event = h.event; pass = h.pass })
+
+-- ---- the pass, once the book has answered
+
+pub turned_gains : (held : PassKept) (turn : Turn) (after : PassKept) → Turned held turn after → MayGain held after
+turned_gains held (Did place) after h = inr (record { place = place; event = h.0; pass = h.1 })
+turned_gains held Passed after h = absurd h
+turned_gains held Nothing after h = inl h
+turned_gains held NotEnabled after h = inl h
+turned_gains held Full after h = inl h
+
+-- the turn is what the book answered
+pub turned_as : (held : PassKept) (turn : Turn) (after : PassKept) → Turned held turn after → (r : Result Turn Memory) → IfOk r (λ (answer : Turn). answer ≡ turn) → IfOk r (λ (answer : Turn). Turned held answer after)
+turned_as held turn after h (Ok answer) same = subst (λ (t : Turn). Turned held t after) (sym same) h
+turned_as held turn after h (Err m) same = tt

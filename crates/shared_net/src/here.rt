@@ -16,7 +16,7 @@ use crate::making::{Made, no_effects};
 use crate::pass::Pass;
 use crate::run::Run;
 use crate::turn::Turn;
-use chem_model::Memory;
+use chem_model::{Event, Memory};
 use env_store::Code;
 use loc_tree::LocTree;
 use reducer::{Pick, code_is_kept, event_of, guard_at, react};
@@ -86,6 +86,21 @@ pub(crate) fn after_pick(
     }
 }
 
+// The event of the pick that the site chose.
+pub(crate) fn event_of_pick(
+    alloc: Global,
+    site: &Site,
+    tree: &LocTree,
+    code: &Code,
+    pick: &Pick,
+) -> Result<Event, Memory>
+    requires { ChoosesPick code.now tree.now site.now pick.now }
+    ensures { IfOk result (IsEventOf code.now site.now (choice.Pick pick.now)) }
+{
+    let _ = tree;
+    event_of(alloc, site, code, pick)
+}
+
 /// Makes the reaction of the pick that the site chose, which opens no location, where the book has
 /// it possible. Where it isn't, the messages that it takes are dropped.
 ///
@@ -117,7 +132,7 @@ pub fn make_here<L: Run>(
 {
     site_is_kept(site);
     code_is_kept(code);
-    let event = event_of(alloc, site, code, pick)?;
+    let event = event_of_pick(alloc, site, tree, code, pick)?;
     let turn = locked.propose(alloc, pass, &event)?;
     let effects = after_pick(alloc, site, tree, code, pick, turn)?;
     Ok(Made { turn, effects })

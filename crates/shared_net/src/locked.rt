@@ -4,6 +4,7 @@ ghost use Rattle.std.specs.Coded.{Coded-set};
 ghost use Rattle.chem_model.specs.ProgramCode.{program_code};
 ghost use Rattle.trace_history.specs.Book.{Commits};
 ghost use Rattle.shared_net.specs.Passes.{new_passes};
+ghost use Rattle.shared_net.specs.Offers.{Turned};
 ghost use Rattle.shared_net.specs.Proposes.{HasRoom, IsFull, IsBehind, Proposes};
 ghost use Rattle.shared_net.specs.inside.Receives.{Receives};
 
@@ -146,7 +147,9 @@ impl<L: Run> Locked<L> {
     ) -> Result<Turn, Memory>
         ensures proposed { IfOk result (λ turn.
             Proposes self.old.book pass.old event.now turn self.new.book pass.new) }
+        ensures pass { IfOk result (λ turn. Turned pass.old turn pass.new) }
         ensures err { OnErr result ((self.new.book ≡ self.old.book) × (pass.new ≡ pass.old)) }
+        ensures err_pass { OnErr result (pass.new ≡ pass.old) }
     {
         if self.is_full(pass) {
             return Ok(Turn::Full);

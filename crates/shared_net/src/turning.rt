@@ -13,13 +13,14 @@ ghost use Rattle.shared_net.specs.inside.TurnParts.{Steps, StepsFirst};
 use crate::choosing::{Chosen, leads_to, opens_none};
 use crate::door::{Desk, enter};
 use crate::gate::{Gate, Phase};
+use crate::here::{after_pick, event_of_pick};
 use crate::inside::{arrive, choose};
 use crate::making::Made;
 use crate::net::{Parts, SharedNet};
 use crate::pass::Pass;
 use crate::run::Run;
 use crate::turn::Turn;
-use chem_model::{AtomId, Memory};
+use chem_model::{AtomId, Event, Memory};
 use env_store::Code;
 use loc_tree::LocTree;
 use reducer::Pick;
@@ -44,6 +45,19 @@ enum Step {
     Ended(Turn),
     // The write lock is needed. Whether messages went into mailboxes.
     Wide(bool),
+}
+
+// Proposes an event to the book, whose lock is held for that alone.
+fn propose<L: Run, K: Desk<L>, G: Gate, R: Wait>(
+    hands: &Hands<'_, K, G, R>,
+    pass: &mut Pass<L>,
+    event: &Event,
+) -> Result<Turn, Memory>
+    ensures pass { IfOk result (λ turn. Turned pass.old turn pass.new) }
+    ensures err { OnErr result (pass.new ≡ pass.old) }
+{
+    let mut desk = enter(hands.rt, hands.door);
+    desk.offer(hands.alloc, pass, event)
 }
 
 // What a turn answers that made an event or not, where messages of its first step went into
@@ -109,7 +123,27 @@ impl Parts {
 
     // ---- under the tree's read lock
 
-    // Makes the reaction of a pick that opens no location.
+    // What the site does with the pick that it chose, once the book has answered; what it sends is
+    // posted.
+    fn carry_out<K, G: Gate, R: Wait>(
+        &self,
+        hands: &Hands<'_, K, G, R>,
+        site: &mut Site,
+        tree: &LocTree,
+        code: &Code,
+        pick: &Pick,
+        turn: Turn,
+    ) -> Result<Turn, Memory>
+        requires { ChoosesPick code.now tree.now site.old pick.now }
+        ensures { IfOk result (λ answer. answer ≡ turn) }
+    {
+        let effects = after_pick(hands.alloc, site, tree, code, pick, turn)?;
+        self.send(hands.rt, Made { turn, effects })
+    }
+
+    // Makes the reaction of a pick that opens no location. Its event is made ready before the book
+    // is locked, and the site changes after that. Its own lock and the tree's are held meanwhile,
+    // so no other turn sees the site in between.
     fn react<L: Run, K: Desk<L>, G: Gate, R: Wait>(
         &self,
         hands: &Hands<'_, K, G, R>,
@@ -124,10 +158,9 @@ impl Parts {
         ensures turn { IfOk result (λ turn. Turned pass.old turn pass.new) }
         ensures gain { OnErr result (MayGain pass.old pass.new) }
     {
-        let mut desk = enter(hands.rt, hands.door);
-        let made = desk.here(hands.alloc, site, tree, code, pass, pick)?;
-        drop(desk);
-        self.send(hands.rt, made)
+        let event = event_of_pick(hands.alloc, site, tree, code, pick)?;
+        let turn = propose(hands, pass, &event)?;
+        self.carry_out(hands, site, tree, code, pick, turn)
     }
 
     // What the site does next, where that leaves the tree as it is.

@@ -2,15 +2,9 @@ use Rattle.shared_net.specs.declared.choosing.Chosen.TheVariants as choice
 use Rattle.shared_net.specs.Making.{IsEventOf}
 use Rattle.shared_net.proofs.Results.{on_err}
 use Rattle.shared_net.proofs.Births.{bears_none}
-use Rattle.shared_net.proofs.Choices.{is_covered, is_told, may_fire}
-use Rattle.shared_net.proofs.Offering.{proposal_turned, proposal_may, may_gain}
+use Rattle.shared_net.proofs.Choices.{may_fire}
+use Rattle.shared_net.proofs.Offering.{proposal_may, turned_gains}
 use Rattle.shared_net.proofs.here.make_here.Goals as goal
-
-pub event_of-requires-clause-covered : goal.event_of-requires-clause-covered
-event_of-requires-clause-covered g c = is_covered c.args.code.now c.args.tree.now c.args.site.now c.args.pick.now c.requires.chosen.0 c.requires.chosen.1
-
-pub event_of-requires-clause-told : goal.event_of-requires-clause-told
-event_of-requires-clause-told g c = is_told c.args.code.now c.args.tree.now c.args.site.now c.args.pick.now c.requires.chosen.0 c.requires.chosen.1
 
 pub after_pick-requires-clause-act : goal.after_pick-requires-clause-act
 after_pick-requires-clause-act g c = c.requires.chosen.0
@@ -20,33 +14,20 @@ after_pick-requires-clause-fires g c = may_fire c.args.code.now c.args.tree.now 
 
 pub returns-clause-made : goal.returns-clause-made
 returns-clause-made g c =
-    let ready = c.requires.chosen.1 in
-    let picks = ready.fires.covers.picks in
     record {
       event = c.in_ok-event.event;
-      event_is = (ready.pick, (picks, c.in_ok-event.ensures ready.pick picks));
+      event_is = c.in_ok-event.ensures;
       proposes = c.in_ok-turn.ensures.proposed;
       site = c.in_ok-effects.ensures.after;
     }
 
-pub returns-clause-pass : goal.returns-clause-pass
-returns-clause-pass g c = proposal_turned c.args.locked.now.book c.args.pass.now c.in_ok-event.event c.in_ok-turn.turn c.propose.new.self.book c.propose.new.pass c.in_ok-turn.ensures.proposed
-
 pub returns-in_err-effects-clause-memory : goal.returns-in_err-effects-clause-memory
 returns-in_err-effects-clause-memory g c = on_err _ _ (
-    let ready = c.requires.chosen.1 in
-    let picks = ready.fires.covers.picks in
     proposal_may c.args.locked.now.book c.args.pass.now c.in_ok-event.event (IsEventOf c.args.code.now c.args.site.now (choice.Pick c.args.pick.now)) c.in_ok-turn.turn c.propose.new.self.book c.propose.new.pass
-    (ready.pick, (picks, c.in_ok-event.ensures ready.pick picks)) c.in_ok-turn.ensures.proposed)
+    c.in_ok-event.ensures c.in_ok-turn.ensures.proposed)
 
 pub returns-in_err-effects-clause-gain : goal.returns-in_err-effects-clause-gain
-returns-in_err-effects-clause-gain g c = on_err _ _ (
-    let ready = c.requires.chosen.1 in
-    let picks = ready.fires.covers.picks in
-    let is = IsEventOf c.args.code.now c.args.site.now (choice.Pick c.args.pick.now) in
-    may_gain is c.args.locked.now.book c.args.pass.now c.propose.new.self.book c.propose.new.pass
-    (proposal_may c.args.locked.now.book c.args.pass.now c.in_ok-event.event is c.in_ok-turn.turn c.propose.new.self.book c.propose.new.pass
-    (ready.pick, (picks, c.in_ok-event.ensures ready.pick picks)) c.in_ok-turn.ensures.proposed))
+returns-in_err-effects-clause-gain g c = on_err _ _ (turned_gains c.args.pass.now c.in_ok-turn.turn c.propose.new.pass c.in_ok-turn.ensures.pass)
 
 pub returns-clause-born : goal.returns-clause-born
 returns-clause-born g c =
