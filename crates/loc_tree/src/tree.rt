@@ -114,6 +114,21 @@ fn note(newest: &mut [u64], loc: Loc)
     }
 }
 
+// The spot of a location, if the map has it. The roots came first, in the order of sites, so a root
+// is looked for at its place, and only what isn't found there by its key.
+fn find(spots: &IndexMap<(u32, u64), Spot>, loc: &Loc) -> Option<Spot>
+    ensures { result ≡ lookup (is_pair_of loc.now) spots.now.entries }
+{
+    if loc.k == 0 {
+        if let Some((key, spot)) = spots.get_index(loc.site as usize) {
+            if key.0 == loc.site && key.1 == 0 {
+                return Some(*spot);
+            }
+        }
+    }
+    spots.get(&(loc.site, loc.k)).copied()
+}
+
 impl LocTree {
     /// So many unmarked roots, one a site.
     pub fn start(alloc: Global, roots: u32) -> Result<LocTree, Memory>
@@ -171,7 +186,14 @@ impl LocTree {
     fn spot(&self, loc: &Loc) -> Option<Spot>
         ensures { result ≡ spot self.now loc.now }
     {
-        self.spots.get(&(loc.site, loc.k)).copied()
+        find(&self.spots, loc)
+    }
+
+    /// How many roots there are.
+    pub fn roots(&self) -> u32
+        ensures { result ≡ self.now.roots }
+    {
+        self.roots
     }
 
     fn has_mark(&self, loc: &Loc) -> bool
@@ -195,7 +217,7 @@ impl LocTree {
         ensures placed { (placed : List Placed) → IsTreeOf self.now placed
             → result ≡ is_there (standing placed loc.now) }
     {
-        self.spots.contains_key(&(loc.site, loc.k))
+        find(&self.spots, loc).is_some()
     }
 
     /// Whether neither the location nor its root is marked.
@@ -225,7 +247,7 @@ impl LocTree {
         ensures root { (placed : List Placed) → IsTreeOf self.now placed
             → root (standing placed) loc.now ≡ root_of result }
     {
-        match self.spots.get(&(loc.site, loc.k)) {
+        match find(&self.spots, loc) {
             Some(spot) => spot.number,
             None => 0,
         }
