@@ -189,7 +189,8 @@ WritesWhole words told ended held old new = IfSome ended.kept (λ kept.
 abbrev pub RefusesLog : (status : ℕ) → (told : Option (List ℕ)) → (gains : List ℕ → Type 0) → Type 0
 RefusesLog status told gains = status ≡ 1 → IsRefusedLog told gains
 
--- at 8 the bytes are no log, or too many, and a line that says so is gained
+-- at 8 the bytes were read to their end and are no log, or they are too many, and a line that says
+-- which is gained
 abbrev pub RefusesBytes : (status : ℕ) → (old new : Option (List ℕ)) → (gains : List ℕ → Type 0)
     → Type 0
 RefusesBytes status old new gains = status ≡ 8 → IsNoLog old new gains

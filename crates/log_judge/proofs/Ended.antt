@@ -153,7 +153,7 @@ module _ (ask : Ask) (old new : Option (List ℕ)) (fault : Type 0) (was now : O
   no_log (judged log text whole is j w s) h = absurd (not_eight status (told_status ask j.verdict text status j.told) h)
   no_log (cut_off log text meant whole is j p f l e) h = absurd cc
   no_log (refused log kind place whole is r u l e) h = absurd cc
-  no_log (wrong place whole w u l e) h = inl (record { place = place; wrong = w; line = l })
+  no_log (wrong place whole w u l e) h = inl (whole, record { place = place; wrong = w; line = l })
   no_log (too_long took u l e) h = inr (took, l)
   no_log (unread took f u l e) h = absurd cc
   no_log (no_memory took u l e) h = absurd cc

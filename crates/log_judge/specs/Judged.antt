@@ -90,10 +90,10 @@ pub record IsWrongLog (told : Option (List ℕ)) (gains : List ℕ → Type 0) :
   pub wrong : OnTold told (λ bytes. WrongAt bytes place)
   pub line : gains (wrong_line place)
 
--- the bytes are no log, or they are too many
+-- the bytes were read to their end and are no log, or they are too many, whatever they are
 abbrev pub IsNoLog : (old new : Option (List ℕ)) → (gains : List ℕ → Type 0) → Type 0
 IsNoLog old new gains =
-    IsWrongLog old gains
+    (IsReadWhole old new × IsWrongLog old gains)
     ⊎ (TakesCount old new 134217729 × gains (codes "log 2 at 134217728\n"))
 
 -- the sink gained the text that tells the verdict on the log, where the status goes with it; or at
