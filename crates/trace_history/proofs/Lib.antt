@@ -29,3 +29,4 @@ pub mod Alike
 pub mod LeftLaws
 pub mod CausesLaws
 pub mod AtomsLaws
+pub mod GivenLaws

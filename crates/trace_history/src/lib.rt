@@ -2,6 +2,7 @@
 #![tactic(auto)]
 
 mod all_causes;
+mod binders;
 mod book;
 mod causes;
 mod crossing;
@@ -13,5 +14,7 @@ mod search;
 mod table;
 mod waiting;
 
+pub use binders::only_made_names_have_binders;
 pub use book::{Book, Commit, Found};
+pub use chem_causes::{Cause, Left, Lefts};
 pub use crossing::book_crosses;
