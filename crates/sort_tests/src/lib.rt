@@ -6,6 +6,8 @@ mod arguments;
 #[cfg(test)]
 mod called;
 #[cfg(test)]
+mod calls;
+#[cfg(test)]
 mod judged;
 mod lines;
 mod names;
