@@ -1,6 +1,6 @@
 // Sources and sinks at their ends.
 
-use crate::outcome::{call, call_into, ends_of, sink_with};
+use crate::outcome::{call, call_into, ends_of, sink_with, source_with};
 use std::test::Fail;
 
 const FIRST: &[u8] = b"observe out/1; site s [ x(u) => out(u) : x(s) ]";
@@ -24,6 +24,26 @@ fn a_text_past_the_limit(rt: HostRuntime) -> Result<(), Fail> {
     let run = call(&rt, &ALONE, blanks.as_slice())?;
     run.expect(&rt, 1, "", "lex 1 at 1048576\n");
     run.expect_unread(&rt, 3);
+    Ok(())
+}
+
+/// The judge of sorts refuses it too.
+#[test]
+fn sorts_of_a_text_past_the_limit(rt: HostRuntime) -> Result<(), Fail> {
+    let blanks = vec![in rt.alloc(); b' '; 1_048_580]?;
+    let run = call(&rt, &["sorts"], blanks.as_slice())?;
+    run.expect(&rt, 1, "", "lex 1 at 1048576\n");
+    run.expect_unread(&rt, 3);
+    Ok(())
+}
+
+/// The judge of sorts tells no verdict where a read fails.
+#[test]
+fn sorts_of_a_source_that_fails(rt: HostRuntime) -> Result<(), Fail> {
+    let mut ends = ends_of(rt.alloc(), b"")?;
+    ends.source = source_with(rt.alloc(), FIRST, 16, &[2])?;
+    let run = call_into(&rt, &["sorts"], &mut ends)?;
+    run.expect(&rt, 3, "", "read fault\n");
     Ok(())
 }
 

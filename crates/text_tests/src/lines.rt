@@ -64,6 +64,8 @@ const LINES: &[(&[&str], Asked)] = &[
     (&["gen", "5", "--by", "rounds"], FIVE),
     (&["check"], CHECK),
     (&["--", "explain"], EXPLAIN),
+    (&["sorts"], SORTS),
+    (&["--", "sorts"], SORTS),
     (&["--by=rounds", "gen", "--", "0000005"], FIVE),
 ];
 
@@ -76,6 +78,12 @@ const CHECK: Asked = Asked {
 /// What asks why what a log's run left is left.
 const EXPLAIN: Asked = Asked {
     job: Job::Explain,
+    ..PLAIN
+};
+
+/// What asks whether a source keeps the sorts that it declares.
+const SORTS: Asked = Asked {
+    job: Job::Sorts,
     ..PLAIN
 };
 
@@ -108,6 +116,8 @@ const NO_LINES: &[&[&str]] = &[
     &["run", "--", "--log"],
     &["check", "5"],
     &["explain", "check"],
+    &["sorts", "5"],
+    &["sorts", "check"],
     &["gen", "5", "--by", "check"],
 ];
 
@@ -134,6 +144,8 @@ const NO_OPTIONS: &[&[&str]] = &[
     &["check", "--by", "alone"],
     &["explain", "--budget", "100000"],
     &["explain", "--workers=4"],
+    &["sorts", "--log"],
+    &["--budget", "10", "sorts"],
 ];
 
 #[test]
