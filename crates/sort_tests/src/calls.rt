@@ -1,7 +1,4 @@
-// Calls of their own: copies, and a sort line that is as long as one may be, or longer.
-ghost use Rattle.std.specs.Prelude.{◌≤◌};
-
-use chem_model::Memory;
+// Copies of sorts, entries and answers.
 use sort_check::{Judged, SortArg, SortEnd, Sorts, read_sorts};
 use sort_laws::Entry;
 use std::alloc::Global;
@@ -64,35 +61,4 @@ fn copies(rt: HostRuntime) {
     assert!(rt; ENTRY.copy(alloc) == Ok(ENTRY));
     assert!(rt; NO.copy(alloc) == Ok(NO));
     assert!(rt; FAULT.copy(alloc) == Ok(FAULT));
-}
-
-/// A sort line with so many blanks and nothing else.
-fn line_of(alloc: Global, blanks: usize) -> Result<Vec<u8>, Memory>
-    requires { blanks ≤ 1048577 }
-{
-    let mut bytes = vec![in alloc; b' '; blanks + 2]?;
-    bytes[0] = b'#';
-    bytes[1] = b':';
-    Ok(bytes)
-}
-
-/// Why a line of so many blanks declares nothing, where it doesn't.
-fn end_of(alloc: Global, blanks: usize) -> Result<Option<SortEnd>, Memory>
-    requires { blanks ≤ 1048577 }
-{
-    let bytes = line_of(alloc, blanks)?;
-    match read_sorts(alloc, bytes.as_slice()) {
-        Ok(_sorts) => Ok(None),
-        Err(end) => Ok(Some(end)),
-    }
-}
-
-/// A line of 1,048,576 bytes is read; a longer one is answered as want of memory.
-#[test]
-fn the_longest_line(rt: HostRuntime) -> Result<(), Fail> {
-    let longest = end_of(rt.alloc(), 1_048_576)?;
-    assert!(rt; longest == Some(SortEnd::Fault { kind: 1, place: 0 }));
-    let longer = end_of(rt.alloc(), 1_048_577)?;
-    assert!(rt; longer == Some(SortEnd::Memory));
-    Ok(())
 }
