@@ -9,10 +9,10 @@ use std::alloc::Global;
 use trace_history::{Book, Commit, Found};
 use worked_programs::program_of;
 
-/// More events than any run of these tests has.
+// More events than any run of these tests has.
 const MOST_EVENTS: usize = 10_000;
 
-/// A book, the solution of the plain program, and the site that both look at first.
+// A book, the solution of the plain program, and the site that both look at first.
 #[derive(Drop)]
 pub struct Both {
     pub book: Box<Book>,
@@ -20,8 +20,8 @@ pub struct Both {
     pub from: u32,
 }
 
-/// How a run ended: both found that nothing is possible; all events were made that the run may
-/// have; or the two weren't the same.
+// How a run ended: both found that nothing is possible; all events were made that the run may
+// have; or the two weren't the same.
 #[derive(Clone, Copy, PartialEq, Eq, Debug)]
 pub enum End {
     Quiet,
@@ -29,7 +29,7 @@ pub enum End {
     Differ,
 }
 
-/// The book of a program, before any event.
+// The book of a program, before any event.
 pub fn book_with(alloc: Global, program: &Program) -> Result<Box<Book>, Memory>
     ensures { IfOk result (λ book. book.value.journal ≡ []) }
 {
@@ -51,7 +51,7 @@ fn both_started(alloc: Global, program: &Program) -> Result<Both, Memory> {
     })
 }
 
-/// A text's book and the plain program, each after the opening.
+// A text's book and the plain program, each after the opening.
 pub fn both_of(alloc: Global, text: &[u8]) -> Result<Both, Front> {
     let program = program_of(alloc, text)?;
     Ok(both_started(alloc, &program)?)
@@ -73,7 +73,7 @@ fn is_same_event(one: &Event, other: &Event) -> bool {
     }
 }
 
-/// Whether both are the same event at the same site, or none.
+// Whether both are the same event at the same site, or none.
 fn is_same_found(one: &Option<Found>, other: &Option<Found>) -> bool {
     match (one, other) {
         (Some(found), Some(against)) => {
@@ -84,7 +84,7 @@ fn is_same_found(one: &Option<Found>, other: &Option<Found>) -> bool {
     }
 }
 
-/// The event that comes first in a book, and its site.
+// The event that comes first in a book, and its site.
 fn first_of_book(alloc: Global, book: &Book, from: u32) -> Result<Option<Found>, Memory> {
     if from as usize >= book.program().sites.len() {
         return Ok(None);
@@ -92,7 +92,7 @@ fn first_of_book(alloc: Global, book: &Book, from: u32) -> Result<Option<Found>,
     book.first_enabled(alloc, from)
 }
 
-/// Whether a book makes an event, and this then stands last in its journal.
+// Whether a book makes an event, and this then stands last in its journal.
 fn is_made(alloc: Global, book: &mut Book, event: &Event) -> Result<bool, Memory> {
     let place = book.journal().len();
     if place >= MOST_EVENTS {
@@ -114,21 +114,21 @@ fn are_same_outs(one: &[Out], other: &[Out]) -> bool {
     true
 }
 
-/// The site whose turn comes after this one.
+// The site whose turn comes after this one.
 fn after(sites: usize, site: u32) -> u32 {
     let next = site.saturating_add(1);
     if next as usize >= sites { 0 } else { next }
 }
 
 impl Both {
-    /// Whether the book finds the same event as the plain search did, and is quiet exactly where
-    /// there is none.
+    // Whether the book finds the same event as the plain search did, and is quiet exactly where
+    // there is none.
     fn finds(&self, alloc: Global, by_lists: &Option<Found>) -> Result<bool, Memory> {
         let by_book = first_of_book(alloc, &self.book, self.from)?;
         Ok(is_same_found(&by_book, by_lists) && self.book.quiet() == by_lists.is_none())
     }
 
-    /// The event that comes first by the plain search, and whether the book finds the same one.
+    // The event that comes first by the plain search, and whether the book finds the same one.
     fn found(&self, alloc: Global) -> Result<(bool, Option<Found>), Memory> {
         let by_lists = first_by_lists(alloc, &self.plain, self.from)?;
         match self.finds(alloc, &by_lists) {
@@ -140,12 +140,12 @@ impl Both {
         }
     }
 
-    /// Whether both say of an event that it is possible.
+    // Whether both say of an event that it is possible.
     fn allow(&self, event: &Event) -> bool {
         self.book.enabled(event) && is_enabled(&self.plain, event)
     }
 
-    /// Whether both make an event, and go on from the site after this one.
+    // Whether both make an event, and go on from the site after this one.
     fn make(&mut self, alloc: Global, found: &Found) -> Result<bool, Memory> {
         self.from = after(self.plain.counts.len(), found.site);
         match apply(alloc, &self.plain, &found.event)? {
@@ -157,7 +157,7 @@ impl Both {
         }
     }
 
-    /// One event more, unless both are quiet. It answers how the run ends, if it does.
+    // One event more, unless both are quiet. It answers how the run ends, if it does.
     fn step(&mut self, alloc: Global) -> Result<Option<End>, Memory> {
         match self.found(alloc)? {
             (true, Some(found)) => {
@@ -172,7 +172,7 @@ impl Both {
         }
     }
 
-    /// So many events at most, one after another.
+    // So many events at most, one after another.
     pub fn run(&mut self, alloc: Global, budget: u32) -> Result<End, Memory> {
         for _ in 0..budget {
             if let Some(end) = self.step(alloc)? {
@@ -182,7 +182,7 @@ impl Both {
         Ok(End::Spent)
     }
 
-    /// Whether both have the same observables, and gave the same names to the same binders.
+    // Whether both have the same observables, and gave the same names to the same binders.
     pub fn agree(&self) -> bool {
         let names: &[Named] = self.book.names().as_slice();
         names == self.plain.named.as_slice()

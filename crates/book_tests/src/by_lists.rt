@@ -6,7 +6,7 @@ use chem_plain::{atom_at, is_enabled, meets, rule_at};
 use std::alloc::{AllocError, Global};
 use trace_history::Found;
 
-/// Whether a site and a number come before others.
+// Whether a site and a number come before others.
 fn is_less(site: u32, k: u64, other_site: u32, other_k: u64) -> bool {
     site < other_site || (site == other_site && k < other_k)
 }
@@ -19,7 +19,7 @@ fn is_lesser_atom(one: AtomId, other: AtomId) -> bool {
     is_less(one.site, one.k, other.site, other.k)
 }
 
-/// Whether the first atom in which they differ is lesser in the one list.
+// Whether the first atom in which they differ is lesser in the one list.
 fn are_lesser(one: &[AtomId], other: &[AtomId]) -> bool {
     for (at, atom) in one.iter().enumerate() {
         match other.get(at) {
@@ -34,7 +34,7 @@ fn are_lesser(one: &[AtomId], other: &[AtomId]) -> bool {
     one.len() < other.len()
 }
 
-/// The request of an event. A reaction has none.
+// The request of an event. A reaction has none.
 fn request_of(event: &Event) -> Option<AtomId> {
     match event {
         Event::React { .. } => None,
@@ -52,7 +52,7 @@ fn is_lesser_request(one: Option<AtomId>, other: Option<AtomId>) -> bool {
     }
 }
 
-/// Whether an event comes before another one at the same site: a reaction before a request.
+// Whether an event comes before another one at the same site: a reaction before a request.
 fn is_lesser_event(one: &Event, other: &Event) -> bool {
     match (one, other) {
         (
@@ -72,7 +72,7 @@ fn is_lesser_event(one: &Event, other: &Event) -> bool {
     }
 }
 
-/// The location at which the rule or the request of an event is.
+// The location at which the rule or the request of an event is.
 fn place_of(solution: &Numbered, event: &Event) -> Option<Loc> {
     match event {
         Event::React { rule, .. } => match rule_at(solution, *rule) {
@@ -89,7 +89,7 @@ fn place_of(solution: &Numbered, event: &Event) -> Option<Loc> {
     }
 }
 
-/// How many turns after the site that is looked at first a site comes.
+// How many turns after the site that is looked at first a site comes.
 fn turns(solution: &Numbered, from: u32, site: u32) -> u64 {
     if site < from {
         let sites = solution.counts.len() as u64;
@@ -118,7 +118,7 @@ fn earlier(solution: &Numbered, from: u32, one: Found, other: Option<Found>) -> 
     }
 }
 
-/// What comes first of what was found and an event, where this is possible.
+// What comes first of what was found and an event, where this is possible.
 fn or_event(solution: &Numbered, from: u32, found: Option<Found>, event: Event) -> Option<Found> {
     if !is_enabled(solution, &event) {
         return found;
@@ -132,14 +132,14 @@ fn or_event(solution: &Numbered, from: u32, found: Option<Found>, event: Event) 
     }
 }
 
-/// The list with one more message.
+// The list with one more message.
 fn with_one_more(alloc: Global, list: &Atoms, id: AtomId) -> Result<Atoms, Memory> {
     let mut copy = list.copy(alloc)?;
     copy.push(id)?;
     Ok(copy)
 }
 
-/// Adds these lists, each with one more message.
+// Adds these lists, each with one more message.
 fn add_longer(
     alloc: Global,
     longer: &mut Vec<Atoms>,
@@ -152,7 +152,7 @@ fn add_longer(
     Ok(())
 }
 
-/// These lists, each with one more message that the pattern receives at the location.
+// These lists, each with one more message that the pattern receives at the location.
 fn lengthened(
     alloc: Global,
     solution: &Numbered,
@@ -169,14 +169,14 @@ fn lengthened(
     Ok(longer)
 }
 
-/// One list, which is empty.
+// One list, which is empty.
 fn one_empty(alloc: Global) -> Result<Vec<Atoms>, AllocError> {
     let mut lists = Vec::new(alloc);
     lists.push(Items::new(alloc))?;
     Ok(lists)
 }
 
-/// All lists of messages that a rule receives, one for each pattern.
+// All lists of messages that a rule receives, one for each pattern.
 fn received(alloc: Global, solution: &Numbered, rule: &NumberedRule) -> Result<Vec<Atoms>, Memory> {
     let mut lists = one_empty(alloc)?;
     for pat in rule.pats.as_slice() {
@@ -185,7 +185,7 @@ fn received(alloc: Global, solution: &Numbered, rule: &NumberedRule) -> Result<V
     Ok(lists)
 }
 
-/// What comes first of what was found and the reactions of a rule.
+// What comes first of what was found and the reactions of a rule.
 fn or_rule(
     alloc: Global,
     solution: &Numbered,
@@ -204,14 +204,14 @@ fn or_rule(
     Ok(first)
 }
 
-/// What comes first of what was found and the events that meet a request.
+// What comes first of what was found and the events that meet a request.
 fn or_request(solution: &Numbered, from: u32, found: Option<Found>, atom: AtomId) -> Option<Found> {
     let first = or_event(solution, from, found, Event::Move { atom });
     let first = or_event(solution, from, first, Event::Halt { atom });
     or_event(solution, from, first, Event::Detect { atom })
 }
 
-/// The reaction that comes first, where the site `from` is looked at first, and its site.
+// The reaction that comes first, where the site `from` is looked at first, and its site.
 fn first_reaction(alloc: Global, solution: &Numbered, from: u32) -> Result<Option<Found>, Memory> {
     let mut first = None;
     for rule in solution.rules.as_slice() {
@@ -220,7 +220,7 @@ fn first_reaction(alloc: Global, solution: &Numbered, from: u32) -> Result<Optio
     Ok(first)
 }
 
-/// The event that comes first, where the site `from` is looked at first, and its site.
+// The event that comes first, where the site `from` is looked at first, and its site.
 pub fn first_by_lists(
     alloc: Global,
     solution: &Numbered,

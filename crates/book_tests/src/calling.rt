@@ -11,14 +11,14 @@ use std::test::Fail;
 use trace_history::Book;
 use trace_text::{Ending, trace_bytes};
 
-/// The program of a text.
+// The program of a text.
 fn program_of(alloc: Global, text: &str) -> Result<Program, Front> {
     let tokens = lex(alloc, text.as_bytes())?;
     let tree = parse(alloc, &tokens)?;
     check(alloc, &tree)
 }
 
-/// What a program shows after the event that comes first, where one is possible.
+// What a program shows after the event that comes first, where one is possible.
 fn after_one_event(alloc: Global, program: &Program) -> Result<Text, Memory> {
     let _ = &program.tops;
     let mut book = Box::new(alloc, Book::start(alloc, program)?)?;
@@ -33,7 +33,7 @@ fn after_one_event(alloc: Global, program: &Program) -> Result<Text, Memory> {
     trace_bytes(alloc, &book, ending)
 }
 
-/// What the program of a text shows after one event.
+// What the program of a text shows after one event.
 fn shown_of(alloc: Global, text: &str) -> Result<Text, Front> {
     let program = Box::new(alloc, program_of(alloc, text)?)?;
     Ok(after_one_event(alloc, &program)?)

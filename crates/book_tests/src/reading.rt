@@ -4,13 +4,13 @@ use std::alloc::Global;
 use std::process::Abort;
 use trace_text::{Log, LogEnd, log_of_parts, read_log};
 
-/// The log of a run of one event.
+// The log of a run of one event.
 const LOG: &[u8] =
     b"joinlog 1\nsource 47\nobserve out/1; site s [ x(u) => out(u) : x(s) ]\nbudget 10\nevents 1\n\
     react 0.2 0.3\ntrace 17\nout(s)\nquiescent\n";
 
-/// Where the fields of that log begin. A number that ends with the input is a whole one, so within
-/// a number of two digits the field behind it begins, too.
+// Where the fields of that log begin. A number that ends with the input is a whole one, so within
+// a number of two digits the field behind it begins, too.
 const FIELDS: &[usize] = &[
     0, 17, 18, 19, 20, 67, 75, 76, 77, 85, 86, 87, 93, 94, 95, 96, 97, 98, 99, 100, 101, 107, 108,
     109, 110,
@@ -20,11 +20,11 @@ const EACH_KIND: &[u8] = b"joinlog 1\nsource 0\n\nbudget 1000000\nevents 4\n\
     react 0.2 0.3 4294967295.18446744073709551615\n\
     move 4294967295.18446744073709551615\nhalt 10.100\ndetect 7.0\ntrace 8\nstopped\n";
 
-/// A log of the second kind.
+// A log of the second kind.
 const LARGE: &[u8] = b"joinlog 2\nsource 0\n\nbudget 4000000\nevents 0\ntrace 0\n";
 
-/// Bytes that are no log, and where they are wrong first. The line of an event begins at 38, and
-/// what follows `halt 7.0` at 47.
+// Bytes that are no log, and where they are wrong first. The line of an event begins at 38, and
+// what follows `halt 7.0` at 47.
 const WRONG: &[(&[u8], u64)] = &[
     (b"joinlog 3\nsource 0", 0),
     (b"joinlog 2\nsource", 0),
@@ -108,7 +108,7 @@ fn wrong() -> &'static [(&'static [u8], u64)] {
     WRONG
 }
 
-/// Where bytes are wrong first, if they are no log.
+// Where bytes are wrong first, if they are no log.
 fn wrong_at(alloc: Global, bytes: &[u8]) -> Result<Option<u64>, Memory> {
     match read_log(alloc, bytes) {
         Ok(_) => Ok(None),
@@ -117,12 +117,12 @@ fn wrong_at(alloc: Global, bytes: &[u8]) -> Result<Option<u64>, Memory> {
     }
 }
 
-/// That bytes are no log, and wrong first at this place.
+// That bytes are no log, and wrong first at this place.
 fn expect_wrong(rt: &impl Abort, alloc: Global, bytes: &[u8], place: u64) {
     assert_eq!(rt; wrong_at(alloc, bytes), Ok(Some(place)));
 }
 
-/// The last field of `LOG` that begins at this place or before.
+// The last field of `LOG` that begins at this place or before.
 fn field_before(place: usize) -> u64 {
     let mut last = 0;
     for field in fields() {
@@ -133,7 +133,7 @@ fn field_before(place: usize) -> u64 {
     last
 }
 
-/// That a log that ends at any place before its end is wrong in its last field.
+// That a log that ends at any place before its end is wrong in its last field.
 fn expect_cut(rt: &impl Abort, alloc: Global, log: &[u8]) {
     for (place, _) in log.iter().enumerate() {
         let (front, _) = log.split_at(place);
@@ -154,7 +154,7 @@ fn copied_log(alloc: Global, log: &Log) -> Result<Box<Log>, Memory> {
     Ok(Box::new(alloc, copy)?)
 }
 
-/// The text of a log.
+// The text of a log.
 fn text_of(alloc: Global, log: &Log) -> Result<Text, Memory> {
     log_of_parts(
         alloc,
@@ -165,7 +165,7 @@ fn text_of(alloc: Global, log: &Log) -> Result<Text, Memory> {
     )
 }
 
-/// Whether a copy of a log has the text that the log was read from.
+// Whether a copy of a log has the text that the log was read from.
 fn copy_is_spelled(alloc: Global, log: &Log, bytes: &[u8]) -> Result<bool, Memory> {
     let copy = copied_log(alloc, log)?;
     let text = text_of(alloc, &copy)?;
@@ -179,7 +179,7 @@ fn spelled_again(alloc: Global, bytes: &[u8]) -> Result<bool, LogEnd> {
     is_same.map_err(|_memory| LogEnd::Memory)
 }
 
-/// The last atom that the first event of a journal takes.
+// The last atom that the first event of a journal takes.
 fn last_of_first(journal: &Journal) -> Option<AtomId> {
     match journal.as_slice().first() {
         Some(Event::React { took, .. }) => took.as_slice().last().copied(),
@@ -187,7 +187,7 @@ fn last_of_first(journal: &Journal) -> Option<AtomId> {
     }
 }
 
-/// The last atom that the first event of a log takes.
+// The last atom that the first event of a log takes.
 fn last_taken(alloc: Global, bytes: &[u8]) -> Result<Option<AtomId>, LogEnd> {
     let log = read_log(alloc, bytes)?;
     let last = last_of_first(&log.events);
@@ -195,7 +195,7 @@ fn last_taken(alloc: Global, bytes: &[u8]) -> Result<Option<AtomId>, LogEnd> {
     Ok(last)
 }
 
-/// That these bytes are a log, which a copy of what is read spells again.
+// That these bytes are a log, which a copy of what is read spells again.
 fn expect_spelled(rt: &impl Abort, alloc: Global, bytes: &[u8]) {
     assert_eq!(rt; spelled_again(alloc, bytes), Ok(true));
 }

@@ -38,7 +38,7 @@ fn the_ring_of_3(rt: HostRuntime) -> Result<(), Fail> {
     expect_text(&rt, rt.alloc(), 3, RING_OF_3)
 }
 
-/// How many bytes the text of a ring has.
+// How many bytes the text of a ring has.
 fn length_of(alloc: Global, n: u32) -> Result<usize, Memory>
     requires { (1 ≤ n) × (n ≤ 64) }
 {
@@ -46,9 +46,9 @@ fn length_of(alloc: Global, n: u32) -> Result<usize, Memory>
     Ok(text.len())
 }
 
-/// 15 bytes for the declaration, 10 times 78 and 54 times 88 for the lines of sites of one digit
-/// and of two, 38 for the agent without its 63 rules, 29 for each of these without its numbers, and
-/// 4 times 117 for their digits.
+// 15 bytes for the declaration, 10 times 78 and 54 times 88 for the lines of sites of one digit
+// and of two, 38 for the agent without its 63 rules, 29 for each of these without its numbers, and
+// 4 times 117 for their digits.
 #[test]
 fn the_length_of_the_ring_of_64(rt: HostRuntime) {
     assert_eq!(rt; length_of(rt.alloc(), 64), Ok(7880));

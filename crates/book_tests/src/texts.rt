@@ -10,7 +10,7 @@ use std::test::Fail;
 use trace_text::{Ending, log_bytes, log_of_parts, trace_bytes};
 use worked_programs::program_of;
 
-/// The trace of the book of a text before any event, and the log that says it was stopped there.
+// The trace of the book of a text before any event, and the log that says it was stopped there.
 fn before_any_event(alloc: Global, source: &[u8]) -> Result<(Text, Text), Front>
     requires { length source.now ≤ 1048576 }
 {
@@ -21,7 +21,7 @@ fn before_any_event(alloc: Global, source: &[u8]) -> Result<(Text, Text), Front>
     Ok((trace, log))
 }
 
-/// That these bytes are the ones that are wanted.
+// That these bytes are the ones that are wanted.
 pub fn expect_bytes(rt: &impl Abort, bytes: &[u8], want: &[u8]) {
     assert_eq!(rt; bytes, want);
 }
@@ -38,7 +38,7 @@ fn the_texts_of_a_book(rt: HostRuntime) -> Result<(), Fail> {
     Ok(())
 }
 
-/// The log of a text without an event.
+// The log of a text without an event.
 fn log_without_an_event(alloc: Global, budget: u32) -> Result<Text, Memory> {
     let source = b"observe out/0; site s [ none : out() ]";
     let journal = Items::new(alloc);
@@ -65,7 +65,7 @@ fn a_log_of_the_second_kind(rt: HostRuntime) -> Result<(), Fail> {
     Ok(())
 }
 
-/// The greatest numbers of a site and of an atom.
+// The greatest numbers of a site and of an atom.
 const LAST: AtomId = AtomId {
     site: 4_294_967_295,
     k: 18_446_744_073_709_551_615,
@@ -79,7 +79,7 @@ fn a_reaction(alloc: Global) -> Result<Event, Memory> {
     })
 }
 
-/// Adds a reaction and each kind of request.
+// Adds a reaction and each kind of request.
 fn push_each_kind(alloc: Global, journal: &mut Journal) -> Result<(), Memory> {
     journal.push(a_reaction(alloc)?)?;
     journal.push(Event::Move { atom: LAST })?;

@@ -15,12 +15,12 @@ use trace_history::Book;
 use trace_text::{Ending, trace_bytes};
 use worked_programs::program_of;
 
-/// A move between sites, and what the moved location then shows.
+// A move between sites, and what the moved location then shows.
 const MOVE: &str =
     "observe out/1; site a [ m[ k() => out(m) : go(b, k) ] : 0 ] site b [ none : 0 ]";
 
-/// How a run was made, without its report: on free threads with the number of events that the
-/// workers made.
+// How a run was made, without its report: on free threads with the number of events that the
+// workers made.
 #[derive(Clone, Copy, PartialEq, Eq, Debug)]
 enum Made {
     Alone,
@@ -38,7 +38,7 @@ fn how_made(how: &How) -> Made {
     }
 }
 
-/// What a run left, as plain values.
+// What a run left, as plain values.
 #[derive(Drop)]
 struct Outcome {
     made: Made,
@@ -86,7 +86,7 @@ fn by_two_free_workers<R: AllocGlobal + Threads + Wait + Sync>(
     outcome_of(rt.alloc(), done)
 }
 
-/// That a run was made as wanted, ended quiet with two events, and shows the location.
+// That a run was made as wanted, ended quiet with two events, and shows the location.
 fn expect_move(rt: &impl Abort, run: &Outcome, made: Made) {
     assert_eq!(rt; run.made, made);
     assert!(rt; run.quiet);

@@ -11,13 +11,13 @@ use std::sync::Wait;
 use std::thread::Threads;
 use worked_texts::Case;
 
-/// More bytes than any log of these tests has.
+// More bytes than any log of these tests has.
 const ROOM: u32 = 65_536;
 
-/// More bytes than what is said of a log has.
+// More bytes than what is said of a log has.
 const LINES: u32 = 1024;
 
-/// How a call ended: its status, and what the sinks took.
+// How a call ended: its status, and what the sinks took.
 #[derive(Drop)]
 pub struct Called {
     pub status: u8,
@@ -25,7 +25,7 @@ pub struct Called {
     pub err: Vec<u8>,
 }
 
-/// What a call reads from, and what it writes to.
+// What a call reads from, and what it writes to.
 #[derive(Drop)]
 struct Ends {
     source: Box<MemSource>,
@@ -44,7 +44,7 @@ fn sink_of(alloc: Global, room: u32) -> Result<Box<MemSink>, Memory> {
     Ok(Box::new(alloc, MemSink::new(alloc, room, ROOM, fails)?)?)
 }
 
-/// A source of these bytes and two sinks, the first of so much room, none of which fails.
+// A source of these bytes and two sinks, the first of so much room, none of which fails.
 fn ends_of(alloc: Global, bytes: &[u8], room: u32) -> Result<Box<Ends>, Memory> {
     let source = source_of(alloc, bytes)?;
     let out = sink_of(alloc, room)?;
@@ -60,7 +60,7 @@ fn owned(alloc: Global, words: &[&str]) -> Result<Vec<String>, Memory> {
     Ok(owned)
 }
 
-/// Runs the words over these ends, and answers the status.
+// Runs the words over these ends, and answers the status.
 fn status_of<R: AllocGlobal + Abort + Threads + Wait + Sync>(
     rt: &R,
     words: &[&str],
@@ -82,7 +82,7 @@ fn status_of<R: AllocGlobal + Abort + Threads + Wait + Sync>(
     Ok(ended.status)
 }
 
-/// Runs the words over a source of these bytes. What is printed needs little room.
+// Runs the words over a source of these bytes. What is printed needs little room.
 pub fn call<R: AllocGlobal + Abort + Threads + Wait + Sync>(
     rt: &R,
     words: &[&str],
@@ -93,7 +93,7 @@ pub fn call<R: AllocGlobal + Abort + Threads + Wait + Sync>(
     call_with(rt, words, bytes, LINES)
 }
 
-/// Runs the words over a source of these bytes, where so many bytes may be printed.
+// Runs the words over a source of these bytes, where so many bytes may be printed.
 fn call_with<R: AllocGlobal + Abort + Threads + Wait + Sync>(
     rt: &R,
     words: &[&str],
@@ -111,7 +111,7 @@ fn call_with<R: AllocGlobal + Abort + Threads + Wait + Sync>(
     })
 }
 
-/// Runs the text of a case by these words.
+// Runs the text of a case by these words.
 fn call_of<R: AllocGlobal + Abort + Threads + Wait + Sync>(
     rt: &R,
     words: &[&str],
@@ -123,7 +123,7 @@ fn call_of<R: AllocGlobal + Abort + Threads + Wait + Sync>(
     call_with(rt, words, source.as_slice(), ROOM)
 }
 
-/// The log of a case by these words. It is that of a run that ended quiet, or was stopped.
+// The log of a case by these words. It is that of a run that ended quiet, or was stopped.
 pub fn log_by<R: AllocGlobal + Abort + Threads + Wait + Sync>(
     rt: &R,
     words: &[&str],
@@ -136,20 +136,20 @@ pub fn log_by<R: AllocGlobal + Abort + Threads + Wait + Sync>(
     Ok(run.out)
 }
 
-/// That a run with this status has a log.
+// That a run with this status has a log.
 fn expect_run(rt: &impl Abort, status: u8) {
     assert!(rt; status == 0 || status == 5, "the status is {status}");
 }
 
 impl Called {
-    /// That the call ended with this status and these bytes.
+    // That the call ended with this status and these bytes.
     pub fn expect(&self, rt: &impl Abort, status: u8, out: &[u8], err: &[u8]) {
         expect_bytes(rt, self.out.as_slice(), out);
         expect_bytes(rt, self.err.as_slice(), err);
         expect_status(rt, self.status, status);
     }
 
-    /// That the call ended with this status, and `out` took nothing.
+    // That the call ended with this status, and `out` took nothing.
     pub fn expect_untouched(&self, rt: &impl Abort, status: u8) {
         expect_status(rt, self.status, status);
         expect_bytes(rt, self.out.as_slice(), b"");
@@ -160,7 +160,7 @@ fn expect_status(rt: &impl Abort, status: u8, want: u8) {
     assert_eq!(rt; status, want);
 }
 
-/// That these bytes are the ones that are wanted.
+// That these bytes are the ones that are wanted.
 fn expect_bytes(rt: &impl Abort, bytes: &[u8], want: &[u8]) {
     assert_eq!(rt; bytes, want);
 }

@@ -9,7 +9,7 @@ use std::sync::Wait;
 use std::test::Fail;
 use std::thread::Threads;
 
-/// A text, how many events its run on one thread may have, and what is said of what this leaves.
+// A text, how many events its run on one thread may have, and what is said of what this leaves.
 struct Left {
     text: &'static str,
     budget: &'static str,
@@ -142,7 +142,7 @@ fn tables() -> [&'static [Left]; 2] {
     [LEFT, MORE]
 }
 
-/// What is said of what the run of a text leaves.
+// What is said of what the run of a text leaves.
 fn explained<R: AllocGlobal + Abort + Threads + Wait + Sync>(
     rt: &R,
     left: &Left,
@@ -154,7 +154,7 @@ fn explained<R: AllocGlobal + Abort + Threads + Wait + Sync>(
     call(rt, &["explain"], log.out.as_slice())
 }
 
-/// That it is what was worked out.
+// That it is what was worked out.
 fn expect_left<R: AllocGlobal + Abort + Threads + Wait + Sync>(
     rt: &R,
     cases: &[Left],

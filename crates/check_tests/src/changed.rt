@@ -14,7 +14,7 @@ use trace_text::{Log, log_of_parts, read_log};
 use worked_programs::program_of;
 use worked_texts::{Case, examples, runs};
 
-/// What is done with one event.
+// What is done with one event.
 #[derive(Clone, Copy)]
 enum Change {
     Drop,
@@ -24,7 +24,7 @@ enum Change {
 
 const CHANGES: [Change; 3] = [Change::Drop, Change::Double, Change::SwapWithNext];
 
-/// Which event comes at this place where the one at `at` is changed.
+// Which event comes at this place where the one at `at` is changed.
 fn taken_from(change: Change, at: usize, place: usize) -> usize {
     match change {
         Change::Drop => place.saturating_add(if place < at { 0 } else { 1 }),
@@ -41,8 +41,8 @@ fn taken_from(change: Change, at: usize, place: usize) -> usize {
     }
 }
 
-/// The events, of which the one at `at` is changed. The last one has no next one to be swapped
-/// with, and goes.
+// The events, of which the one at `at` is changed. The last one has no next one to be swapped
+// with, and goes.
 fn changed(alloc: Global, events: &[Event], change: Change, at: usize) -> Result<Journal, Memory> {
     let mut journal = Items::new(alloc);
     for place in 0..events.len().saturating_add(1) {
@@ -62,14 +62,14 @@ fn log_in(alloc: Global, bytes: &[u8]) -> Result<Box<Log>, Fail> {
     Ok(Box::new(alloc, log)?)
 }
 
-/// The bytes of a log with these events and this trace in place of its own. It may have one event
-/// more.
+// The bytes of a log with these events and this trace in place of its own. It may have one event
+// more.
 fn bytes_with(alloc: Global, log: &Log, events: &Journal, trace: &[u8]) -> Result<Text, Memory> {
     let budget = log.budget.saturating_add(1);
     log_of_parts(alloc, log.source.as_slice(), budget, events, trace)
 }
 
-/// That this is said of the bytes of a log.
+// That this is said of the bytes of a log.
 fn expect_said<R: AllocGlobal + Abort + Threads + Wait + Sync>(
     rt: &R,
     bytes: &[u8],
@@ -83,7 +83,7 @@ fn expect_said<R: AllocGlobal + Abort + Threads + Wait + Sync>(
     Ok(())
 }
 
-/// That of a log with these events it is said what the plain program says.
+// That of a log with these events it is said what the plain program says.
 fn expect_plain<R: AllocGlobal + Abort + Threads + Wait + Sync>(
     rt: &R,
     program: &Program,
@@ -98,7 +98,7 @@ fn expect_plain<R: AllocGlobal + Abort + Threads + Wait + Sync>(
     expect_said(rt, bytes.as_slice(), said)
 }
 
-/// The same where the event at `at` is changed in each way.
+// The same where the event at `at` is changed in each way.
 fn expect_changes<R: AllocGlobal + Abort + Threads + Wait + Sync>(
     rt: &R,
     program: &Program,
@@ -114,7 +114,7 @@ fn expect_changes<R: AllocGlobal + Abort + Threads + Wait + Sync>(
     Ok(())
 }
 
-/// The same for each event of a log, and the log as it is.
+// The same for each event of a log, and the log as it is.
 fn expect_events<R: AllocGlobal + Abort + Threads + Wait + Sync>(
     rt: &R,
     log: &Log,
@@ -129,14 +129,14 @@ fn expect_events<R: AllocGlobal + Abort + Threads + Wait + Sync>(
     Ok(())
 }
 
-/// The trace of a log with another byte at this place.
+// The trace of a log with another byte at this place.
 fn trace_but_at(alloc: Global, log: &Log, place: usize) -> Result<Text, Memory> {
     let mut trace = log.trace.copy(alloc)?;
     trace.set(place, b'!');
     Ok(trace)
 }
 
-/// That a log with another byte in its trace is refused at that byte.
+// That a log with another byte in its trace is refused at that byte.
 fn expect_trace<R: AllocGlobal + Abort + Threads + Wait + Sync>(
     rt: &R,
     log: &Log,
@@ -149,10 +149,10 @@ fn expect_trace<R: AllocGlobal + Abort + Threads + Wait + Sync>(
     expect_said(rt, bytes.as_slice(), Said::Trace(place as u64))
 }
 
-/// Every so many bytes of a trace are changed.
+// Every so many bytes of a trace are changed.
 const STEP: usize = 7;
 
-/// The same for some bytes of the trace, the last one too.
+// The same for some bytes of the trace, the last one too.
 fn expect_traces<R: AllocGlobal + Abort + Threads + Wait + Sync>(
     rt: &R,
     log: &Log,
@@ -165,7 +165,7 @@ fn expect_traces<R: AllocGlobal + Abort + Threads + Wait + Sync>(
     expect_trace(rt, log, log.trace.len().saturating_sub(1))
 }
 
-/// All this of the log of a case, which has ten events at most.
+// All this of the log of a case, which has ten events at most.
 fn expect_case<R: AllocGlobal + Abort + Threads + Wait + Sync>(
     rt: &R,
     case: &Case,

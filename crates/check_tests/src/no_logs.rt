@@ -14,8 +14,8 @@ use trace_text::log_of_parts;
 const LOG: &[u8] = b"joinlog 1\nsource 47\nobserve out/1; site s [ x(u) => out(u) : x(s) ]\n\
     budget 10\nevents 1\nreact 0.2 0.3\ntrace 17\nout(s)\nquiescent\n";
 
-/// How many bytes of the log there are, and the line that says where the field begins that is
-/// wrong first.
+// How many bytes of the log there are, and the line that says where the field begins that is
+// wrong first.
 const CUTS: &[(usize, &str)] = &[
     (0, "log 1 at 0\n"),
     (16, "log 1 at 0\n"),
@@ -35,7 +35,7 @@ const CUTS: &[(usize, &str)] = &[
     (126, "log 1 at 110\n"),
 ];
 
-/// Bytes that aren't those of a log, and the line that says where.
+// Bytes that aren't those of a log, and the line that says where.
 const WRONG: &[(&str, &str)] = &[
     ("it is no log", "log 1 at 0\n"),
     (
@@ -75,7 +75,7 @@ const WRONG: &[(&str, &str)] = &[
     ),
 ];
 
-/// That the commands say of bytes that they are no log.
+// That the commands say of bytes that they are no log.
 fn expect_no_log<R: AllocGlobal + Abort + Threads + Wait + Sync>(
     rt: &R,
     bytes: &[u8],
@@ -90,7 +90,7 @@ fn expect_no_log<R: AllocGlobal + Abort + Threads + Wait + Sync>(
     Ok(())
 }
 
-/// The first bytes of the log.
+// The first bytes of the log.
 fn first_bytes(count: usize) -> &'static [u8] {
     match LOG.get(0..count) {
         Some(first) => first,
@@ -106,7 +106,7 @@ fn logs_that_are_cut_off(rt: HostRuntime) -> Result<(), Fail> {
     Ok(())
 }
 
-/// That a log is one only with its last byte.
+// That a log is one only with its last byte.
 fn expect_cut<R: AllocGlobal + Abort + Threads + Wait + Sync>(
     rt: &R,
     count: usize,
@@ -136,7 +136,7 @@ fn bytes_that_are_no_log(rt: HostRuntime) -> Result<(), Fail> {
     Ok(())
 }
 
-/// Texts that are refused, and the lines that say so.
+// Texts that are refused, and the lines that say so.
 const REFUSED: &[(&str, &str)] = &[
     ("", "grammar 1 at 0\n"),
     ("site s [ none : 0 ] $", "lex 2 at 20\n"),
@@ -144,13 +144,13 @@ const REFUSED: &[(&str, &str)] = &[
     ("site s [ x(u) => 0 : x() ]", "arity 1 at 21\n"),
 ];
 
-/// A log of this source, without an event.
+// A log of this source, without an event.
 fn log_with(alloc: Global, source: &[u8]) -> Result<Text, Memory> {
     let events = Items::new(alloc);
     log_of_parts(alloc, source, 10, &events, b"quiescent\n")
 }
 
-/// What the commands say of a log of this source.
+// What the commands say of a log of this source.
 fn judged_with<R: AllocGlobal + Abort + Threads + Wait + Sync>(
     rt: &R,
     words: &[&str],
@@ -162,7 +162,7 @@ fn judged_with<R: AllocGlobal + Abort + Threads + Wait + Sync>(
     call(rt, words, log.as_slice())
 }
 
-/// That a log of this source is refused as the source is.
+// That a log of this source is refused as the source is.
 fn expect_refused<R: AllocGlobal + Abort + Threads + Wait + Sync>(
     rt: &R,
     source: &str,

@@ -7,17 +7,17 @@ use chem_plain::{apply, can_be_told, can_halt, can_move, meets, opening};
 use std::alloc::Global;
 use trace_text::{push_all, push_number};
 
-/// What is said of the events and the trace of a log.
+// What is said of the events and the trace of a log.
 #[derive(Clone, Copy, PartialEq, Eq, Debug)]
 pub enum Said {
     Yes,
-    /// The first event that isn't possible.
+    // The first event that isn't possible.
     Event(u64),
-    /// The first byte of the trace that differs.
+    // The first byte of the trace that differs.
     Trace(u64),
 }
 
-/// The solution that events lead to, or the first of them that isn't possible.
+// The solution that events lead to, or the first of them that isn't possible.
 enum Reached {
     At(Box<Numbered>),
     Refused(u64),
@@ -28,7 +28,7 @@ fn opened(alloc: Global, program: &Program) -> Result<Box<Numbered>, Memory> {
     Ok(Box::new(alloc, solution)?)
 }
 
-/// One event more.
+// One event more.
 fn after(
     alloc: Global,
     solution: &Numbered,
@@ -51,7 +51,7 @@ fn made_all(alloc: Global, program: &Program, events: &[Event]) -> Result<Reache
     Ok(Reached::At(solution))
 }
 
-/// Whether some message stands at the rule's location for this pattern.
+// Whether some message stands at the rule's location for this pattern.
 fn is_met(solution: &Numbered, rule: &NumberedRule, pat: &Pat) -> bool {
     for atom in solution.atoms.as_slice() {
         if meets(rule.loc, pat, atom) {
@@ -61,7 +61,7 @@ fn is_met(solution: &Numbered, rule: &NumberedRule, pat: &Pat) -> bool {
     false
 }
 
-/// Whether a rule can react: its patterns are on channels that differ, so no message is met twice.
+// Whether a rule can react: its patterns are on channels that differ, so no message is met twice.
 fn reacts(solution: &Numbered, rule: &NumberedRule) -> bool {
     for pat in rule.pats.as_slice() {
         if !is_met(solution, rule, pat) {
@@ -93,7 +93,7 @@ fn some_request_is_met(solution: &Numbered) -> bool {
     false
 }
 
-/// How the run ends that led to a solution.
+// How the run ends that led to a solution.
 fn ending(solution: &Numbered) -> &'static [u8] {
     if some_rule_reacts(solution) || some_request_is_met(solution) {
         b"stopped\n"
@@ -102,7 +102,7 @@ fn ending(solution: &Numbered) -> &'static [u8] {
     }
 }
 
-/// The binder for which a name was made.
+// The binder for which a name was made.
 fn binder_of(solution: &Numbered, name: Name) -> Option<u32> {
     for named in solution.named.as_slice() {
         if same_name(named.name, name) {
@@ -126,7 +126,7 @@ fn seen_spelling(program: &Program, declaration: u32) -> &[u8] {
     }
 }
 
-/// The rank of a name, from 1: it gets the next one where it has none yet.
+// The rank of a name, from 1: it gets the next one where it has none yet.
 fn rank_of(ranked: &mut Names, name: Name) -> Result<u64, Memory> {
     for (place, other) in ranked.as_slice().iter().enumerate() {
         if same_name(*other, name) {
@@ -137,7 +137,7 @@ fn rank_of(ranked: &mut Names, name: Name) -> Result<u64, Memory> {
     Ok(ranked.len() as u64)
 }
 
-/// Appends a name that was made, which has a rank where no site defines it.
+// Appends a name that was made, which has a rank where no site defines it.
 fn push_made(
     text: &mut Text,
     program: &Program,
@@ -214,7 +214,7 @@ fn push_outs(
     push_all(text, ending(solution))
 }
 
-/// The text of the trace of a solution.
+// The text of the trace of a solution.
 fn trace_of(alloc: Global, program: &Program, solution: &Numbered) -> Result<Text, Memory> {
     let mut text = Items::new(alloc);
     let mut ranked = Items::new(alloc);
@@ -222,7 +222,7 @@ fn trace_of(alloc: Global, program: &Program, solution: &Numbered) -> Result<Tex
     Ok(text)
 }
 
-/// What is said of a trace beside the one that the events have.
+// What is said of a trace beside the one that the events have.
 fn compared(trace: &[u8], want: &[u8]) -> Said {
     for (place, byte) in trace.iter().enumerate() {
         if want.get(place) != Some(byte) {
@@ -236,7 +236,7 @@ fn compared(trace: &[u8], want: &[u8]) -> Said {
     }
 }
 
-/// What is said of these events and this trace.
+// What is said of these events and this trace.
 pub fn said_of(
     alloc: Global,
     program: &Program,
@@ -260,7 +260,7 @@ fn told(alloc: Global, what: &[u8], place: u64) -> Result<Text, Memory> {
 }
 
 impl Said {
-    /// The status that goes with it.
+    // The status that goes with it.
     pub fn status(self) -> u8 {
         match self {
             Said::Yes => 0,
@@ -268,7 +268,7 @@ impl Said {
         }
     }
 
-    /// The line that tells it.
+    // The line that tells it.
     pub fn line(self, alloc: Global) -> Result<Text, Memory> {
         match self {
             Said::Yes => Items::from_slice(alloc, b"yes\n"),

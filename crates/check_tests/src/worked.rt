@@ -9,7 +9,7 @@ use std::test::Fail;
 use std::thread::Threads;
 use worked_texts::{Case, runs_and_examples};
 
-/// That the log of a case by these words is one of a run.
+// That the log of a case by these words is one of a run.
 fn expect_yes<R: AllocGlobal + Abort + Threads + Wait + Sync>(
     rt: &R,
     words: &[&str],
@@ -23,7 +23,7 @@ fn expect_yes<R: AllocGlobal + Abort + Threads + Wait + Sync>(
     Ok(())
 }
 
-/// The same of each of these cases.
+// The same of each of these cases.
 fn expect_each<R: AllocGlobal + Abort + Threads + Wait + Sync>(
     rt: &R,
     words: &[&str],
@@ -37,7 +37,7 @@ fn expect_each<R: AllocGlobal + Abort + Threads + Wait + Sync>(
     Ok(())
 }
 
-/// The same of each worked text and each example.
+// The same of each worked text and each example.
 fn expect_all<R: AllocGlobal + Abort + Threads + Wait + Sync>(
     rt: &R,
     words: &[&str],

@@ -6,7 +6,7 @@ ghost use Rattle.chem_causes.specs.Decided.{cause_by_term, cause_by};
 use crate::cause::Cause;
 use chem_model::{Loc, Name, Proc, ProcNode, Ref};
 
-/// The cause of a message that no event takes, by whether a rule waits for its like.
+// The cause of a message that no event takes, by whether a rule waits for its like.
 fn cause_by_channel(waited: bool, on: Ref) -> Cause
     ensures { result ≡ cause_by_channel waited on }
 {
@@ -19,7 +19,7 @@ fn cause_by_channel(waited: bool, on: Ref) -> Cause
     }
 }
 
-/// The cause of a request to go that can't be met.
+// The cause of a request to go that can't be met.
 fn cause_by_go(at: Loc, target: Ref) -> Cause
     ensures { result ≡ cause_by_go at target }
 {
@@ -37,7 +37,7 @@ fn cause_by_go(at: Loc, target: Ref) -> Cause
     }
 }
 
-/// The cause of a request that waits for a failure, where that can't be detected.
+// The cause of a request that waits for a failure, where that can't be detected.
 fn cause_by_fail(target: Ref) -> Cause
     ensures { result ≡ cause_by_fail target }
 {
@@ -47,7 +47,7 @@ fn cause_by_fail(target: Ref) -> Cause
     }
 }
 
-/// The cause of an atom at a live location of which no event takes care.
+// The cause of an atom at a live location of which no event takes care.
 fn cause_by_term(waited: bool, at: Loc, term: &Proc) -> Cause
     ensures { result ≡ cause_by_term waited at term.now }
 {

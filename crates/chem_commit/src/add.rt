@@ -5,7 +5,7 @@ ghost use Rattle.chem_commit.specs.inside.Parts.{appended, lengths, cut, Keeps};
 
 use chem_model::{Items, Made, Memory, Numbered};
 
-/// Moves the members of the other list to the end, where there are any.
+// Moves the members of the other list to the end, where there are any.
 fn move_to_end<T: Drop>(list: &mut Items<T>, more: &mut Items<T>) -> Result<(), Memory>
     ensures ok { OnOk result (list.new ≡ list.old ++ more.old) }
     ensures err { OnErr result (list.new ≡ list.old) }
@@ -16,8 +16,8 @@ fn move_to_end<T: Drop>(list: &mut Items<T>, more: &mut Items<T>) -> Result<(), 
     list.append(more)
 }
 
-/// Moves what was made to the ends of the lists. On want of memory each list still begins with what
-/// it held.
+// Moves what was made to the ends of the lists. On want of memory each list still begins with what
+// it held.
 fn append(solution: &mut Numbered, made: &mut Made) -> Result<(), Memory>
     ensures ok { OnOk result (solution.new ≡ appended solution.old made.old) }
     ensures err { OnErr result (Keeps solution.old solution.new) }
@@ -29,7 +29,7 @@ fn append(solution: &mut Numbered, made: &mut Made) -> Result<(), Memory>
     move_to_end(&mut solution.trace, &mut made.outs)
 }
 
-/// How many members each list has.
+// How many members each list has.
 #[derive(Clone, Copy, Debug)]
 struct Lengths {
     places: usize,
@@ -39,7 +39,7 @@ struct Lengths {
     trace: usize,
 }
 
-/// How many members each list has now.
+// How many members each list has now.
 fn lengths_of(solution: &Numbered) -> Lengths
     ensures { result ≡ lengths solution.now }
 {
@@ -52,7 +52,7 @@ fn lengths_of(solution: &Numbered) -> Lengths
     }
 }
 
-/// Cuts each list back.
+// Cuts each list back.
 fn cut_back(solution: &mut Numbered, lengths: Lengths)
     ensures { solution.new ≡ cut lengths solution.old }
 {
@@ -63,7 +63,7 @@ fn cut_back(solution: &mut Numbered, lengths: Lengths)
     solution.trace.truncate(lengths.trace);
 }
 
-/// Adds what was made at a site. On want of memory nothing changes.
+// Adds what was made at a site. On want of memory nothing changes.
 pub(crate) fn add(solution: &mut Numbered, site: u32, made: Made) -> Result<(), Memory>
     ensures ok { OnOk result (solution.new ≡ add_made solution.old site made) }
     ensures err { OnErr result (solution.new ≡ solution.old) }

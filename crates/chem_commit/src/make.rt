@@ -13,7 +13,7 @@ use crate::take::{set_host, set_mark, take_out, take_out_all};
 use chem_model::{AtomId, Atoms, Event, Memory, Numbered, RuleId};
 use std::alloc::Global;
 
-/// The messages go, and what the rule pours is there.
+// The messages go, and what the rule pours is there.
 fn react(
     alloc: Global,
     solution: &mut Numbered,
@@ -38,7 +38,7 @@ fn react(
     }
 }
 
-/// The request goes, its location is under another root, and its continuation is poured there.
+// The request goes, its location is under another root, and its continuation is poured there.
 fn depart(
     alloc: Global,
     solution: &mut Numbered,
@@ -61,8 +61,8 @@ fn depart(
     }
 }
 
-/// What the request pours is added, the request goes, and its location, which seems to stand at
-/// this place, is under the other root.
+// What the request pours is added, the request goes, and its location, which seems to stand at
+// this place, is under the other root.
 fn go_under(solution: &mut Numbered, id: AtomId, place: usize, effect: Effect) -> Result<(), Memory>
     requires { IsSound solution.old }
     ensures ok { OnOk result (Some solution.new ≡ moved solution.old id (Some effect)) }
@@ -76,7 +76,7 @@ fn go_under(solution: &mut Numbered, id: AtomId, place: usize, effect: Effect) -
     Ok(())
 }
 
-/// The request goes, and its location is marked.
+// The request goes, and its location is marked.
 fn halt(solution: &mut Numbered, guesses: &Guesses, id: AtomId) -> bool
     requires { IsSound solution.old }
     ensures { Replaces (with_atom (atom_at solution.old.atoms id) (halt_atom solution.old id))
@@ -94,7 +94,7 @@ fn halt(solution: &mut Numbered, guesses: &Guesses, id: AtomId) -> bool
     }
 }
 
-/// The request goes, and its continuation is poured at its location.
+// The request goes, and its continuation is poured at its location.
 fn detect(
     alloc: Global,
     solution: &mut Numbered,

@@ -12,10 +12,10 @@ use chem_model::{
 use chem_plain::{atom_at, received_all, same_atom};
 use std::alloc::Global;
 
-/// How many of the newest ones are looked at first.
+// How many of the newest ones are looked at first.
 const NEWEST: usize = 64;
 
-/// The place of the one with this number, where it is among the newest of the first ones.
+// The place of the one with this number, where it is among the newest of the first ones.
 fn newest_place(atoms: &NumberedAtoms, count: usize, id: AtomId) -> Option<usize>
     ensures { IfSome result (λ j. IsAtomAt atoms.now count id j) }
 {
@@ -32,7 +32,7 @@ fn newest_place(atoms: &NumberedAtoms, count: usize, id: AtomId) -> Option<usize
     None
 }
 
-/// The place of the one with this number, from the first one on.
+// The place of the one with this number, from the first one on.
 fn oldest_place(atoms: &NumberedAtoms, id: AtomId) -> Option<usize>
     ensures { result ≡ place_from id 0 atoms.now }
 {
@@ -44,7 +44,7 @@ fn oldest_place(atoms: &NumberedAtoms, id: AtomId) -> Option<usize>
     None
 }
 
-/// The place of the one with this number. It is likely to be among the newest of the first ones.
+// The place of the one with this number. It is likely to be among the newest of the first ones.
 pub(crate) fn place_of(atoms: &NumberedAtoms, count: usize, id: AtomId) -> Option<usize>
     requires { AtomsDiffer (take count atoms.now) }
     ensures { result ≡ place_from id 0 atoms.now }
@@ -55,7 +55,7 @@ pub(crate) fn place_of(atoms: &NumberedAtoms, count: usize, id: AtomId) -> Optio
     }
 }
 
-/// The message or request with this number.
+// The message or request with this number.
 pub(crate) fn atom_of(solution: &Numbered, id: AtomId) -> Option<&NumberedAtom>
     requires { IsSound solution.now }
     ensures { option_copied result ≡ atom_at solution.now.atoms id }
@@ -70,7 +70,7 @@ pub(crate) fn atom_of(solution: &Numbered, id: AtomId) -> Option<&NumberedAtom>
     }
 }
 
-/// Copies of those with these numbers that are there.
+// Copies of those with these numbers that are there.
 fn picked(alloc: Global, solution: &Numbered, took: &Atoms) -> Result<NumberedAtoms, Memory>
     requires { IsSound solution.now }
     ensures { IfOk result (ArePicked solution.now.atoms took.now) }
@@ -88,8 +88,8 @@ fn picked(alloc: Global, solution: &Numbered, took: &Atoms) -> Result<NumberedAt
     Ok(few)
 }
 
-/// The names received where there is one message for each pattern, in order, each at the location.
-/// Where there are many messages, those that are taken are picked first.
+// The names received where there is one message for each pattern, in order, each at the location.
+// Where there are many messages, those that are taken are picked first.
 pub(crate) fn received_of(
     alloc: Global,
     solution: &Numbered,

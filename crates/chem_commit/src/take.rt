@@ -7,7 +7,7 @@ ghost use Rattle.chem_commit.specs.inside.Differ.{PlacesDiffer, AtomsDiffer};
 use crate::near::place_of;
 use chem_model::{AtomId, Atoms, Loc, NumberedAtoms, Placed, PlacedList, same_loc};
 
-/// Takes the atom with this number out of the first ones, and answers how many of these are left.
+// Takes the atom with this number out of the first ones, and answers how many of these are left.
 pub(crate) fn take_out(atoms: &mut NumberedAtoms, count: usize, id: AtomId) -> usize
     requires within { count ≤ length atoms.old }
     requires apart { AtomsDiffer (take count atoms.old) }
@@ -27,7 +27,7 @@ pub(crate) fn take_out(atoms: &mut NumberedAtoms, count: usize, id: AtomId) -> u
     }
 }
 
-/// Takes the atoms with these numbers out of the first ones.
+// Takes the atoms with these numbers out of the first ones.
 pub(crate) fn take_out_all(atoms: &mut NumberedAtoms, count: usize, took: &Atoms)
     requires within { count ≤ length atoms.old }
     requires apart { AtomsDiffer (take count atoms.old) }
@@ -39,7 +39,7 @@ pub(crate) fn take_out_all(atoms: &mut NumberedAtoms, count: usize, took: &Atoms
     }
 }
 
-/// A location's entry, with another host where it is the entry of this location.
+// A location's entry, with another host where it is the entry of this location.
 fn hosted(placed: Placed, at: Loc, host: Loc) -> Placed
     ensures { result ≡ hosted at host placed }
 {
@@ -54,7 +54,7 @@ fn hosted(placed: Placed, at: Loc, host: Loc) -> Placed
     }
 }
 
-/// A location's entry, marked where it is the entry of this location.
+// A location's entry, marked where it is the entry of this location.
 fn marked(placed: Placed, at: Loc) -> Placed
     ensures { result ≡ marked at placed }
 {
@@ -69,8 +69,8 @@ fn marked(placed: Placed, at: Loc) -> Placed
     }
 }
 
-/// Gives a location another host, where it is among the first ones, each entry of which is looked
-/// at.
+// Gives a location another host, where it is among the first ones, each entry of which is looked
+// at.
 fn set_each_host(places: &mut PlacedList, count: usize, at: Loc, host: Loc)
     ensures { places.new ≡ with_hosts at host (take count places.old) ++ drop count places.old }
 {
@@ -82,7 +82,7 @@ fn set_each_host(places: &mut PlacedList, count: usize, at: Loc, host: Loc)
     }
 }
 
-/// Marks a location: each entry is looked at.
+// Marks a location: each entry is looked at.
 fn set_each_mark(places: &mut PlacedList, at: Loc)
     ensures { places.new ≡ with_marks at places.old }
 {
@@ -94,7 +94,7 @@ fn set_each_mark(places: &mut PlacedList, at: Loc)
     }
 }
 
-/// The entry at this place, where it is a location's.
+// The entry at this place, where it is a location's.
 fn entry_of(places: &PlacedList, place: usize, at: Loc) -> Option<Placed>
     ensures { IfSome result (IsEntry places.now place at) }
 {
@@ -110,8 +110,8 @@ fn entry_of(places: &PlacedList, place: usize, at: Loc) -> Option<Placed>
     }
 }
 
-/// Gives a location another host, where it is among the first ones. It seems to stand at this
-/// place.
+// Gives a location another host, where it is among the first ones. It seems to stand at this
+// place.
 #[tactic(auto, using(crate::proofs::Entries::host_changed))]
 pub(crate) fn set_host(places: &mut PlacedList, count: usize, place: usize, at: Loc, host: Loc)
     requires { PlacesDiffer (take count places.old) }
@@ -126,7 +126,7 @@ pub(crate) fn set_host(places: &mut PlacedList, count: usize, place: usize, at: 
     set_each_host(places, count, at, host);
 }
 
-/// Marks a location. It seems to stand at this place.
+// Marks a location. It seems to stand at this place.
 #[tactic(auto, using(crate::proofs::Entries::mark_changed))]
 pub(crate) fn set_mark(places: &mut PlacedList, place: usize, at: Loc)
     requires { PlacesDiffer places.old }

@@ -207,7 +207,7 @@ pub fn same_name(one: Name, other: Name) -> bool
     }
 }
 
-/// The entry of a location. Of two entries the first counts.
+// The entry of a location. Of two entries the first counts.
 fn place_at(places: &PlacedList, at: Loc) -> Option<Placed>
     ensures { standing_of result ≡ standing places.now at }
 {
@@ -273,7 +273,7 @@ impl Numbered {
         }
     }
 
-    /// Whether a location is marked.
+    // Whether a location is marked.
     fn is_marked(&self, at: Loc) -> bool
         ensures { result ≡ is_marked (standing self.now.places at) }
     {

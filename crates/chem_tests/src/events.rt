@@ -9,7 +9,7 @@ use chem_model::{AtomId, Loc, Name, Placed, RuleId};
 
 const ROOT: Loc = Loc { site: 0, k: 0 };
 
-/// The place `m` of the site `a`.
+// The place `m` of the site `a`.
 const LEFT: Loc = Loc { site: 0, k: 1 };
 
 fn moved() -> &'static [Fact] {
@@ -28,8 +28,8 @@ fn moved() -> &'static [Fact] {
     ]
 }
 
-/// `site a [ m[ k() => out(m) : go(b, k) ] : 0 ] site b [ none : 0 ]`: the message that the request
-/// becomes is numbered by the new root's site.
+// `site a [ m[ k() => out(m) : go(b, k) ] : 0 ] site b [ none : 0 ]`: the message that the request
+// becomes is numbered by the new root's site.
 #[test]
 fn a_move_between_sites(rt: HostRuntime) {
     let steps = &[Step::Move(4)];
@@ -44,7 +44,7 @@ fn told_by_what_moved() -> &'static [Fact] {
     ]
 }
 
-/// The rule that moved with its location takes that message.
+// The rule that moved with its location takes that message.
 #[test]
 fn a_rule_that_moved(rt: HostRuntime) {
     let steps = &[Step::Move(4), Step::React(3, AtomId { site: 1, k: 1 })];
@@ -81,8 +81,8 @@ fn two_channels() -> &'static [Fact] {
     ]
 }
 
-/// `site s [ x() => def y() => 0 in out(y) : x() & x() ]`: each reaction makes a channel of its
-/// own.
+// `site s [ x() => def y() => 0 in out(y) : x() & x() ]`: each reaction makes a channel of its
+// own.
 #[test]
 fn a_fresh_channel(rt: HostRuntime) {
     let steps = &[
@@ -92,7 +92,7 @@ fn a_fresh_channel(rt: HostRuntime) {
     expect_after(&rt, rt.alloc(), channels_to_come(), steps, two_channels());
 }
 
-/// The place that is born.
+// The place that is born.
 const BORN: Loc = Loc { site: 0, k: 5 };
 
 fn with_a_birth() -> &'static [Fact] {
@@ -114,14 +114,14 @@ fn with_a_birth() -> &'static [Fact] {
     ]
 }
 
-/// `site s [ x() => def p[ z() => 0 : z() ] and y() => 0 in y() : x() ]`.
+// `site s [ x() => def p[ z() => 0 : z() ] and y() => 0 in y() : x() ]`.
 #[test]
 fn a_place_that_is_born(rt: HostRuntime) {
     let steps = &[Step::React(2, AtomId { site: 0, k: 3 })];
     expect_after(&rt, rt.alloc(), a_place_to_come(), steps, with_a_birth());
 }
 
-/// The place is marked.
+// The place is marked.
 fn halted() -> &'static [Fact] {
     &[Fact::Place(
         1,
@@ -141,7 +141,7 @@ fn told_of_the_halt() -> &'static [Fact] {
     ]
 }
 
-/// `site s [ m[ none : halt() ] and d() => 0 : fail(m, d) ]`.
+// `site s [ m[ none : halt() ] and d() => 0 : fail(m, d) ]`.
 #[test]
 fn a_halt_and_its_failure(rt: HostRuntime) {
     let sites = a_place_that_halts();
@@ -150,7 +150,7 @@ fn a_halt_and_its_failure(rt: HostRuntime) {
     expect_after(&rt, rt.alloc(), sites, steps, told_of_the_halt());
 }
 
-/// A failure is detected only where the location is dead.
+// A failure is detected only where the location is dead.
 #[test]
 fn no_failure_before_a_halt(rt: HostRuntime) {
     expect_refused(&rt, rt.alloc(), a_place_that_halts(), Step::Detect(5));
@@ -160,8 +160,8 @@ fn unchanged() -> &'static [Fact] {
     &[Fact::Counts(&[7]), Fact::Lengths(2, 1, 3, 0)]
 }
 
-/// `site s [ x(u) => 0 and m[ none : go(x, x) ] : x() & go(s, x) ]`: a message with a wrong count
-/// isn't taken.
+// `site s [ x(u) => 0 and m[ none : go(x, x) ] : x() & go(s, x) ]`: a message with a wrong count
+// isn't taken.
 #[test]
 fn a_wrong_count(rt: HostRuntime) {
     let sites = nothing_to_happen();
@@ -174,7 +174,7 @@ fn a_wrong_count(rt: HostRuntime) {
     );
 }
 
-/// There the target of the request 0.4 isn't a location, and the request 0.6 asks to move a root.
+// There the target of the request 0.4 isn't a location, and the request 0.6 asks to move a root.
 #[test]
 fn moves_that_are_not_possible(rt: HostRuntime) {
     let sites = nothing_to_happen();

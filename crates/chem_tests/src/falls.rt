@@ -19,9 +19,9 @@ const A_FALL: &[Site] = &[
 
 const HALTED: Step = Step::HaltOf(AtomId { site: 1, k: 1 });
 
-/// `site a [ m[ k() => 0 : go(b, k) ] and d() => 0 : fail(m, d) ] site b [ none : halt() ]`: the
-/// place falls with the site that has halted, its continuation doesn't come, and the fall is
-/// detected.
+// `site a [ m[ k() => 0 : go(b, k) ] and d() => 0 : fail(m, d) ] site b [ none : halt() ]`: the
+// place falls with the site that has halted, its continuation doesn't come, and the fall is
+// detected.
 #[test]
 fn a_fall(rt: HostRuntime) {
     let fallen = &[
@@ -49,7 +49,7 @@ fn a_fall(rt: HostRuntime) {
     expect_in(&rt, rt.alloc(), 2, A_FALL, steps, told);
 }
 
-/// In version 1 the request stays, and so does the one that waits for a failure.
+// In version 1 the request stays, and so does the one that waits for a failure.
 #[test]
 fn no_fall(rt: HostRuntime) {
     expect_refused_in(&rt, rt.alloc(), 1, A_FALL, &[HALTED, Step::Move(6)]);
@@ -69,8 +69,8 @@ const BELOW_THE_DEAD: &[Site] = &[
     ),
 ];
 
-/// `site a [ m[ k() => 0 : go(n, k) ] : 0 ] site b [ n[ x() => 0 : 0 ] : halt() ]`: a dead location
-/// that is no root takes nobody in.
+// `site a [ m[ k() => 0 : go(n, k) ] : 0 ] site b [ n[ x() => 0 : 0 ] : halt() ]`: a dead location
+// that is no root takes nobody in.
 #[test]
 fn no_fall_below_a_dead_root(rt: HostRuntime) {
     let steps = &[Step::HaltOf(AtomId { site: 1, k: 4 }), Step::Move(4)];

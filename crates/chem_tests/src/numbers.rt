@@ -29,7 +29,7 @@ const A_SUM: &[Site] = &[(
     Process::Say(ADD, &[TWO, THREE, Ref::Binder(1)]),
 )];
 
-/// `site s [ k(u) => out(u) : add(2, 3, k) ]`: the sum is the one message of the opening.
+// `site s [ k(u) => out(u) : add(2, 3, k) ]`: the sum is the one message of the opening.
 #[test]
 fn a_sum(rt: HostRuntime) {
     let opened = &[
@@ -49,7 +49,7 @@ fn a_sum(rt: HostRuntime) {
 
 const A_SUM_THAT_IS_SEEN: &[Site] = &[(0, &[], Process::Say(ADD, &[TWO, THREE, OUT]))];
 
-/// `site s [ none : add(2, 3, out) ]`: it takes no number.
+// `site s [ none : add(2, 3, out) ]`: it takes no number.
 #[test]
 fn a_sum_that_is_seen(rt: HostRuntime) {
     let opened = &[
@@ -65,8 +65,8 @@ const A_SUM_FOR_ANOTHER_SITE: &[Site] = &[
     (1, &[Definition::Rule(2, &[3], NOTHING)], NOTHING),
 ];
 
-/// `site s [ none : add(2, 3, k) ] site t [ k(u) => 0 : 0 ]`: the sum stands at the other site, and
-/// has a number of the one that poured it.
+// `site s [ none : add(2, 3, k) ] site t [ k(u) => 0 : 0 ]`: the sum stands at the other site, and
+// has a number of the one that poured it.
 #[test]
 fn a_sum_for_another_site(rt: HostRuntime) {
     let opened = &[
@@ -87,8 +87,8 @@ const NO_SUMS: &[Site] = &[(
     ]),
 )];
 
-/// `site s [ none : add(18446744073709551615, 1, out) | add(s, 1, out) | add(1, 2, u) ]`, where 7
-/// stands for `u`: two messages on the operation stay, and one on a number.
+// `site s [ none : add(18446744073709551615, 1, out) | add(s, 1, out) | add(1, 2, u) ]`, where 7
+// stands for `u`: two messages on the operation stay, and one on a number.
 #[test]
 fn no_sums(rt: HostRuntime) {
     let opened = &[
@@ -109,8 +109,8 @@ const COMPARED: &[Site] = &[(
     ]),
 )];
 
-/// `site s [ x() => 0 : same(7, 7, x, s) | same(7, 2, x, s) | same(s, s, out, out) ]`: the first is
-/// a message for the rule, the second one on a location, and the third stays.
+// `site s [ x() => 0 : same(7, 7, x, s) | same(7, 2, x, s) | same(s, s, out, out) ]`: the first is
+// a message for the rule, the second one on a location, and the third stays.
 #[test]
 fn compared(rt: HostRuntime) {
     let steps = &[Step::React(2, AtomId { site: 0, k: 3 })];
@@ -137,8 +137,8 @@ const THREE_SUMS: &[Site] = &[(
     Process::Say(Ref::Binder(1), &[ONE]),
 )];
 
-/// `site s [ n(u) => add(u, 1, out) | add(u, 2, n) | add(u, 3, out) : n(1) ]`: a chain of sums,
-/// three in each pouring, which takes one number.
+// `site s [ n(u) => add(u, 1, out) | add(u, 2, n) | add(u, 3, out) : n(1) ]`: a chain of sums,
+// three in each pouring, which takes one number.
 #[test]
 fn three_sums(rt: HostRuntime) {
     let steps = &[

@@ -4,7 +4,7 @@ use crate::expect::{Fact, expect_after};
 use crate::solutions::{a_place_that_leaves, a_place_that_sends, sites_that_tell};
 use chem_model::{AtomId, Loc, Name, Placed, RuleId};
 
-/// The place `m` of the site `a`.
+// The place `m` of the site `a`.
 const M: Loc = Loc { site: 0, k: 1 };
 
 fn with_a_place() -> &'static [Fact] {
@@ -34,7 +34,7 @@ fn with_a_place() -> &'static [Fact] {
     ]
 }
 
-/// `site a [ m[ k() => out(m) : go(b, k) ] : 0 ] site b [ none : 0 ]`.
+// `site a [ m[ k() => out(m) : go(b, k) ] : 0 ] site b [ none : 0 ]`.
 #[test]
 fn two_sites_and_a_place(rt: HostRuntime) {
     expect_after(&rt, rt.alloc(), a_place_that_leaves(), &[], with_a_place());
@@ -51,13 +51,13 @@ fn told() -> &'static [Fact] {
     ]
 }
 
-/// The trace is `m`, `a`, `n`, `b`: of each site first what its places pour, and then its process.
+// The trace is `m`, `a`, `n`, `b`: of each site first what its places pour, and then its process.
 #[test]
 fn the_order_of_an_opening(rt: HostRuntime) {
     expect_after(&rt, rt.alloc(), sites_that_tell(), &[], told());
 }
 
-/// The place `n`.
+// The place `n`.
 const N: Loc = Loc { site: 0, k: 2 };
 
 fn with_a_message() -> &'static [Fact] {
@@ -77,8 +77,8 @@ fn with_a_message() -> &'static [Fact] {
     ]
 }
 
-/// `site s [ none : def m[ none : k() ] and n[ k() => 0 : 0 ] in 0 ]`: the message is put before
-/// the rule, at `n`.
+// `site s [ none : def m[ none : k() ] and n[ k() => 0 : 0 ] in 0 ]`: the message is put before
+// the rule, at `n`.
 #[test]
 fn a_message_before_its_rule(rt: HostRuntime) {
     expect_after(&rt, rt.alloc(), a_place_that_sends(), &[], with_a_message());

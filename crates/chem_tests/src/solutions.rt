@@ -15,8 +15,8 @@ const A_PLACE_THAT_LEAVES: &[Site] = &[
     (3, &[], NOTHING),
 ];
 
-/// `site a [ m[ k() => out(m) : go(b, k) ] : 0 ] site b [ none : 0 ]`, in which `a`, `m`, `k` and
-/// `b` are the binders 0 to 3.
+// `site a [ m[ k() => out(m) : go(b, k) ] : 0 ] site b [ none : 0 ]`, in which `a`, `m`, `k` and
+// `b` are the binders 0 to 3.
 pub fn a_place_that_leaves() -> &'static [Site] {
     A_PLACE_THAT_LEAVES
 }
@@ -34,8 +34,8 @@ const SITES_THAT_TELL: &[Site] = &[
     ),
 ];
 
-/// `site a [ m[ none : out(m) ] : out(a) ] site b [ n[ none : out(n) ] : out(b) ]`, in which `a`,
-/// `m`, `b` and `n` are the binders 0 to 3.
+// `site a [ m[ none : out(m) ] : out(a) ] site b [ n[ none : out(n) ] : out(b) ]`, in which `a`,
+// `m`, `b` and `n` are the binders 0 to 3.
 pub fn sites_that_tell() -> &'static [Site] {
     SITES_THAT_TELL
 }
@@ -52,8 +52,8 @@ const A_PLACE_THAT_SENDS: &[Site] = &[(
     ),
 )];
 
-/// `site s [ none : def m[ none : k() ] and n[ k() => 0 : 0 ] in 0 ]`, in which `s`, `m`, `n` and
-/// `k` are the binders 0 to 3.
+// `site s [ none : def m[ none : k() ] and n[ k() => 0 : 0 ] in 0 ]`, in which `s`, `m`, `n` and
+// `k` are the binders 0 to 3.
 pub fn a_place_that_sends() -> &'static [Site] {
     A_PLACE_THAT_SENDS
 }
@@ -68,8 +68,8 @@ const CHANNELS_TO_COME: &[Site] = &[(
     Process::All(&[Process::Signal(1), Process::Signal(1)]),
 )];
 
-/// `site s [ x() => def y() => 0 in out(y) : x() & x() ]`, in which `s`, `x` and `y` are the
-/// binders 0 to 2.
+// `site s [ x() => def y() => 0 in out(y) : x() & x() ]`, in which `s`, `x` and `y` are the
+// binders 0 to 2.
 pub fn channels_to_come() -> &'static [Site] {
     CHANNELS_TO_COME
 }
@@ -90,8 +90,8 @@ const A_PLACE_TO_COME: &[Site] = &[(
     Process::Signal(1),
 )];
 
-/// `site s [ x() => def p[ z() => 0 : z() ] and y() => 0 in y() : x() ]`, in which `s`, `x`, `p`,
-/// `z` and `y` are the binders 0 to 4.
+// `site s [ x() => def p[ z() => 0 : z() ] and y() => 0 in y() : x() ]`, in which `s`, `x`, `p`,
+// `z` and `y` are the binders 0 to 4.
 pub fn a_place_to_come() -> &'static [Site] {
     A_PLACE_TO_COME
 }
@@ -105,8 +105,8 @@ const A_PLACE_THAT_HALTS: &[Site] = &[(
     Process::Fail(1, 2),
 )];
 
-/// `site s [ m[ none : halt() ] and d() => 0 : fail(m, d) ]`, in which `s`, `m` and `d` are the
-/// binders 0 to 2.
+// `site s [ m[ none : halt() ] and d() => 0 : fail(m, d) ]`, in which `s`, `m` and `d` are the
+// binders 0 to 2.
 pub fn a_place_that_halts() -> &'static [Site] {
     A_PLACE_THAT_HALTS
 }
@@ -120,8 +120,8 @@ const NOTHING_TO_HAPPEN: &[Site] = &[(
     Process::All(&[Process::Signal(1), Process::Go(0, 1)]),
 )];
 
-/// `site s [ x(u) => 0 and m[ none : go(x, x) ] : x() & go(s, x) ]`, in which `s`, `x`, `u` and
-/// `m` are the binders 0 to 3.
+// `site s [ x(u) => 0 and m[ none : go(x, x) ] : x() & go(s, x) ]`, in which `s`, `x`, `u` and
+// `m` are the binders 0 to 3.
 pub fn nothing_to_happen() -> &'static [Site] {
     NOTHING_TO_HAPPEN
 }

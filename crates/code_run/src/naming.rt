@@ -9,21 +9,21 @@ use crate::parts::level_at;
 use chem_model::{Loc, Memory, Name, Names, Nums};
 use env_store::{Code, Level, Locs};
 
-/// The sum. A count that would pass the last number is answered as want of memory.
+// The sum. A count that would pass the last number is answered as want of memory.
 pub(crate) fn sum(one: u64, more: u64) -> Result<u64, Memory>
     ensures { IfOk result (λ both. both ≡ one + more) }
 {
     one.checked_add(more).ok_or(Memory)
 }
 
-/// The next number after a place and its channels.
+// The next number after a place and its channels.
 pub(crate) fn after_place(k: u64, level: &Level) -> Result<u64, Memory>
     ensures { IfOk result (λ next. next ≡ after_place k level.now) }
 {
     sum(k, 1 + level.counts.len() as u64)
 }
 
-/// Names the channels of a location with these counts, from a number on. Answers the next number.
+// Names the channels of a location with these counts, from a number on. Answers the next number.
 fn name_channels(
     names: &mut Names,
     site: u32,
@@ -43,7 +43,7 @@ fn name_channels(
     Ok(k)
 }
 
-/// Names the places with these levels, each with its channels, from a number on.
+// Names the places with these levels, each with its channels, from a number on.
 fn name_places(
     code: &Code,
     site: u32,
@@ -66,7 +66,7 @@ fn name_places(
     Ok(())
 }
 
-/// Appends the names of the block with these levels at a location, from a number on.
+// Appends the names of the block with these levels at a location, from a number on.
 pub(crate) fn name_block(
     code: &Code,
     site: u32,
@@ -87,7 +87,7 @@ pub(crate) fn name_block(
     name_places(code, site, first, places, names)
 }
 
-/// The locations of the places with these levels are born, from a number on.
+// The locations of the places with these levels are born, from a number on.
 pub(crate) fn bear_places(
     code: &Code,
     site: u32,

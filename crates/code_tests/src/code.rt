@@ -7,41 +7,41 @@ use std::alloc::Global;
 use std::process::Abort;
 use worked_programs::program_of;
 
-/// Whose body it is.
+// Whose body it is.
 #[derive(Clone, Copy)]
 pub enum Body {
-    /// That of the rule with this guard.
+    // That of the rule with this guard.
     Rule(usize),
-    /// That of the place of this level.
+    // That of the place of this level.
     Place(usize),
-    /// That of the first site.
+    // That of the first site.
     Site,
 }
 
-/// What a code has. Levels, guards and the instructions of a body go by their numbers.
+// What a code has. Levels, guards and the instructions of a body go by their numbers.
 #[derive(Clone, Copy)]
 pub enum Fact {
-    /// So many levels, guards, blocks, bodies and sites.
+    // So many levels, guards, blocks, bodies and sites.
     Sizes([usize; 5]),
-    /// The counts of the observed names.
+    // The counts of the observed names.
     Seen(&'static [u32]),
-    /// The locations that the sites define.
+    // The locations that the sites define.
     Tops(&'static [Loc]),
-    /// The depth of a level, the first of its guards and how many there are, and its place.
+    // The depth of a level, the first of its guards and how many there are, and its place.
     Level(usize, [u32; 3], Option<u32>),
-    /// The counts of a level's channels: how many there are, and the first.
+    // The counts of a level's channels: how many there are, and the first.
     Counts(usize, usize, u32),
-    /// The levels of the block of a level, and how many names it makes.
+    // The levels of the block of a level, and how many names it makes.
     Block(usize, &'static [u32], u32),
-    /// A guard's level, and how many locations its body opens and messages it pours.
+    // A guard's level, and how many locations its body opens and messages it pours.
     Guard(usize, [u32; 3]),
-    /// The words of a guard's mask.
+    // The words of a guard's mask.
     Mask(usize, &'static [u64]),
-    /// An instruction that sends, with at most one argument.
+    // An instruction that sends, with at most one argument.
     Send(Body, usize, Slot, Option<Slot>),
-    /// An instruction that enters a block with so many names.
+    // An instruction that enters a block with so many names.
     Enter(Body, usize, u32),
-    /// An instruction that drops so many names.
+    // An instruction that drops so many names.
     Leave(Body, usize, u32),
 }
 
@@ -69,7 +69,7 @@ fn has_counts(code: &Code, number: usize, many: usize, first: u32) -> bool {
     }
 }
 
-/// Whether a block has these levels and makes so many names.
+// Whether a block has these levels and makes so many names.
 fn is_block(code: &Code, number: u32, levels: &[u32], names: u32) -> bool {
     match code.blocks.as_slice().get(number as usize) {
         Some(block) => block.levels.as_slice() == levels && block.names == names,
@@ -98,7 +98,7 @@ fn has_mask(code: &Code, number: usize, words: &[u64]) -> bool {
     }
 }
 
-/// The number of a body.
+// The number of a body.
 fn body_of(code: &Code, whose: Body) -> Option<u32> {
     match whose {
         Body::Rule(guard) => code.guards.as_slice().get(guard).map(|g| g.body),
@@ -121,7 +121,7 @@ fn sends(instr: Option<&Instr>, channel: Slot, arg: Option<Slot>) -> bool {
     }
 }
 
-/// Whether a block makes so many names.
+// Whether a block makes so many names.
 fn has_names(code: &Code, block: u32, names: u32) -> bool {
     match code.blocks.as_slice().get(block as usize) {
         Some(block) => block.names == names,
@@ -143,7 +143,7 @@ fn leaves(instr: Option<&Instr>, names: u32) -> bool {
     }
 }
 
-/// Whether the code is as the fact says.
+// Whether the code is as the fact says.
 fn holds(code: &Code, fact: &Fact) -> bool {
     match fact {
         Fact::Sizes(sizes) => has_sizes(code, *sizes),
@@ -174,20 +174,20 @@ fn code_of(alloc: Global, text: &[u8]) -> Option<Box<Code>> {
     }
 }
 
-/// A copy of the code of a text.
+// A copy of the code of a text.
 fn copied(alloc: Global, text: &[u8]) -> Option<Box<Code>> {
     let code = code_of(alloc, text)?;
     boxed(alloc, code.copy(alloc))
 }
 
-/// That the code is as each of these facts says.
+// That the code is as each of these facts says.
 fn expect_each(rt: &impl Abort, code: &Code, facts: &[Fact]) {
     for (index, fact) in facts.iter().enumerate() {
         assert!(rt; holds(code, fact), "fact {index}");
     }
 }
 
-/// That a copy of the code of this text is as each of these facts says.
+// That a copy of the code of this text is as each of these facts says.
 pub fn expect_code(rt: &impl Abort, alloc: Global, text: &[u8], facts: &[Fact]) {
     match copied(alloc, text) {
         Some(code) => expect_each(rt, &code, facts),
@@ -195,7 +195,7 @@ pub fn expect_code(rt: &impl Abort, alloc: Global, text: &[u8], facts: &[Fact]) 
     }
 }
 
-/// Whether these are the names of the site-level binders of a text.
+// Whether these are the names of the site-level binders of a text.
 pub fn has_top_names(alloc: Global, text: &[u8], names: &[Name]) -> bool {
     match program_of(alloc, text) {
         Ok(program) => match top_names(alloc, &program) {

@@ -4,7 +4,7 @@ use crate::fields::{Fields, fields_of};
 use chem_model::Memory;
 use std::alloc::Global;
 
-/// A site, and a number there.
+// A site, and a number there.
 type Pair = (u64, u64);
 
 fn pair(fields: &mut Fields) -> Pair {

@@ -61,7 +61,7 @@ const PACKETS: &[(&[u8], usize)] = &[
     (&[3], 0),
 ];
 
-/// Packets, each with the place of its first wrong field.
+// Packets, each with the place of its first wrong field.
 pub fn packets() -> &'static [(&'static [u8], usize)] {
     PACKETS
 }
@@ -105,7 +105,7 @@ const LOGS: &[(&[u8], usize)] = &[
     ),
 ];
 
-/// Logs, each with the place of its first wrong field.
+// Logs, each with the place of its first wrong field.
 pub fn logs() -> &'static [(&'static [u8], usize)] {
     LOGS
 }

@@ -9,19 +9,19 @@ use std::process::Abort;
 use trace_text::{LogEnd, read_log};
 use wire_packet::{DecodeEnd, decode};
 
-/// The message 0.5 on the channel 0.1 of the location 0.0, with the location 1.0.
+// The message 0.5 on the channel 0.1 of the location 0.0, with the location 1.0.
 const MESSAGE: &[u8] = &[
     1, 0, 0, 0, 0, 0, 0, 0, 0, 0, 0, 0, 5, 2, 0, 0, 0, 0, 0, 0, 0, 0, 0, 0, 0, 1, 0, 0, 0, 0, 0, 0,
     0, 0, 0, 0, 0, 0, 1, 1, 0, 0, 0, 1, 0, 0, 0, 0, 0, 0, 0, 0,
 ];
 
-/// The location 0.1 with one group: level 1, the first channel 0.2 and the first rule 0.3.
+// The location 0.1 with one group: level 1, the first channel 0.2 and the first rule 0.3.
 const PARCEL: &[u8] = &[
     2, 0, 0, 0, 0, 0, 0, 0, 0, 0, 0, 0, 1, 0, 0, 0, 1, 0, 0, 0, 1, 0, 0, 0, 0, 0, 0, 0, 0, 0, 0, 0,
     2, 0, 0, 0, 0, 0, 0, 0, 0, 0, 0, 0, 3, 0, 0, 0, 0, 0, 0, 0, 0, 0, 0, 0, 0,
 ];
 
-/// The location 1.7 with two groups, the waiting messages 0.9 and 1.9, and two requests.
+// The location 1.7 with two groups, the waiting messages 0.9 and 1.9, and two requests.
 const FULL_PARCEL: &[u8] = &[
     2, 0, 0, 0, 1, 0, 0, 0, 0, 0, 0, 0, 7, 0, 0, 0, 1, 0, 0, 0, 3, 0, 0, 0, 1, 0, 0, 0, 0, 0, 0, 0,
     8, 0, 0, 0, 1, 0, 0, 0, 0, 0, 0, 0, 9, 0, 0, 0, 1, 0, 0, 0, 0, 2, 0, 0, 0, 2, 0, 0, 0, 0, 0, 0,
@@ -31,15 +31,15 @@ const FULL_PARCEL: &[u8] = &[
     0, 0, 0, 0, 0, 0, 0, 0, 0, 0, 0, 0, 1, 0, 0, 0, 0, 0, 0, 0, 2, 2,
 ];
 
-/// The location 0.1, where the message 0.4 waits: a sum of 7 and the location 0.0 for the first
-/// observed name.
+// The location 0.1, where the message 0.4 waits: a sum of 7 and the location 0.0 for the first
+// observed name.
 const OPERATION_PARCEL: &[u8] = &[
     2, 0, 0, 0, 0, 0, 0, 0, 0, 0, 0, 0, 1, 0, 0, 0, 0, 0, 0, 0, 1, 0, 0, 0, 0, 0, 0, 0, 0, 0, 0, 0,
     4, 4, 0, 0, 0, 0, 3, 3, 0, 0, 0, 0, 0, 0, 0, 7, 1, 0, 0, 0, 0, 0, 0, 0, 0, 0, 0, 0, 0, 0, 0, 0,
     0, 0, 0, 0, 0, 0,
 ];
 
-/// The log of a run of one event.
+// The log of a run of one event.
 const LOG: &[u8] =
     b"joinlog 1\nsource 47\nobserve out/1; site s [ x(u) => out(u) : x(s) ]\nbudget 10\nevents 1\n\
     react 0.2 0.3\ntrace 17\nout(s)\nquiescent\n";
@@ -66,7 +66,7 @@ fn log() -> &'static [u8] {
     LOG
 }
 
-/// Where bytes are wrong first, if they are.
+// Where bytes are wrong first, if they are.
 type Found = Result<Option<usize>, Memory>;
 
 fn decoded(alloc: Global, bytes: &[u8]) -> Found {
@@ -85,14 +85,14 @@ fn read(alloc: Global, bytes: &[u8]) -> Found {
     }
 }
 
-/// What bytes are to be.
+// What bytes are to be.
 #[derive(Clone, Copy)]
 enum Kind {
     Packet,
     Log,
 }
 
-/// What the product finds.
+// What the product finds.
 fn product(alloc: Global, kind: Kind, bytes: &[u8]) -> Found {
     match kind {
         Kind::Packet => decoded(alloc, bytes),
@@ -100,7 +100,7 @@ fn product(alloc: Global, kind: Kind, bytes: &[u8]) -> Found {
     }
 }
 
-/// What the small reader finds.
+// What the small reader finds.
 fn small_reader(alloc: Global, kind: Kind, bytes: &[u8]) -> Found {
     match kind {
         Kind::Packet => packet_wrong_at(alloc, bytes),
@@ -108,22 +108,22 @@ fn small_reader(alloc: Global, kind: Kind, bytes: &[u8]) -> Found {
     }
 }
 
-/// Whether both find the same.
+// Whether both find the same.
 fn agree(alloc: Global, kind: Kind, bytes: &[u8]) -> bool {
     product(alloc, kind, bytes) == small_reader(alloc, kind, bytes)
 }
 
-/// Whether both find this place.
+// Whether both find this place.
 fn find(alloc: Global, kind: Kind, bytes: &[u8], place: usize) -> bool {
     product(alloc, kind, bytes) == Ok(Some(place)) && agree(alloc, kind, bytes)
 }
 
-/// Whether both find a place, and the same one.
+// Whether both find a place, and the same one.
 fn refuse(alloc: Global, kind: Kind, bytes: &[u8]) -> bool {
     product(alloc, kind, bytes) != Ok(None) && agree(alloc, kind, bytes)
 }
 
-/// That both find the same where the byte at a place is changed to each value.
+// That both find the same where the byte at a place is changed to each value.
 fn expect_each_value(rt: &impl Abort, alloc: Global, kind: Kind, text: &mut Text, at: usize) {
     for byte in 0..=255 {
         text.set(at, byte);
@@ -131,7 +131,7 @@ fn expect_each_value(rt: &impl Abort, alloc: Global, kind: Kind, text: &mut Text
     }
 }
 
-/// That both find the same where each byte is changed, and a place where the bytes end before it.
+// That both find the same where each byte is changed, and a place where the bytes end before it.
 fn expect_each_byte(rt: &impl Abort, alloc: Global, kind: Kind, text: &mut Text, bytes: &[u8]) {
     for (at, old) in bytes.iter().enumerate() {
         expect_each_value(rt, alloc, kind, text, at);
@@ -140,7 +140,7 @@ fn expect_each_byte(rt: &impl Abort, alloc: Global, kind: Kind, text: &mut Text,
     }
 }
 
-/// That the bytes are right, and both find the same where they are damaged.
+// That the bytes are right, and both find the same where they are damaged.
 fn expect_damage(rt: &impl Abort, alloc: Global, kind: Kind, bytes: &[u8]) {
     let many = bytes.len();
     assert!(rt; product(alloc, kind, bytes) == Ok(None), "all {many} bytes");
@@ -163,14 +163,14 @@ fn each_byte_of_a_log(rt: HostRuntime) {
     expect_damage(&rt, rt.alloc(), Kind::Log, log());
 }
 
-/// That the first wrong fields are at these places.
+// That the first wrong fields are at these places.
 fn expect_places(rt: &impl Abort, alloc: Global, kind: Kind, rows: &[(&[u8], usize)]) {
     for (index, (bytes, place)) in rows.iter().enumerate() {
         assert!(rt; find(alloc, kind, *bytes, *place), "row {index}");
     }
 }
 
-/// The table, judged by the product and by the small reader.
+// The table, judged by the product and by the small reader.
 #[test]
 fn the_first_wrong_field(rt: HostRuntime) {
     expect_places(&rt, rt.alloc(), Kind::Packet, packets());

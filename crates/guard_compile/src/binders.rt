@@ -8,7 +8,7 @@ use std::alloc::Global;
 use std::collections::HashMap;
 use std::marker::Model;
 
-/// A list of binders, seen as that list. A binder is found in it without a walk.
+// A list of binders, seen as that list. A binder is found in it without a walk.
 #[derive(Drop)]
 pub(crate) struct Binders {
     list: Nums,
@@ -28,7 +28,7 @@ impl Model for Binders {
 }
 
 impl Binders {
-    /// No binders.
+    // No binders.
     pub(crate) fn new(alloc: Global) -> Binders
         ensures { result ≡ [] }
     {
@@ -38,21 +38,21 @@ impl Binders {
         }
     }
 
-    /// How many binders there are.
+    // How many binders there are.
     pub(crate) fn len(&self) -> u32
         ensures { result ≡ length self.now }
     {
         self.list.len() as u32
     }
 
-    /// The binders in order.
+    // The binders in order.
     pub(crate) fn as_slice(&self) -> &[u32]
         ensures { result.now ≡ self.now }
     {
         self.list.as_slice()
     }
 
-    /// The first place of a binder.
+    // The first place of a binder.
     pub(crate) fn place(&self, binder: u32) -> Option<u32>
         ensures { result ≡ position self.now binder }
     {
@@ -65,7 +65,7 @@ impl Binders {
         self.place(binder).is_some()
     }
 
-    /// Appends a binder.
+    // Appends a binder.
     pub(crate) fn push(&mut self, binder: u32) -> Result<(), Memory>
         ensures { OnOk result (self.new ≡ self.old ++ binder ∷ []) }
     {
@@ -79,7 +79,7 @@ impl Binders {
         Ok(())
     }
 
-    /// Appends binders.
+    // Appends binders.
     pub(crate) fn extend(&mut self, binders: &[u32]) -> Result<(), Memory>
         ensures { OnOk result (self.new ≡ self.old ++ binders.now) }
     {
@@ -89,7 +89,7 @@ impl Binders {
         Ok(())
     }
 
-    /// Drops the last binder.
+    // Drops the last binder.
     fn pop(&mut self)
         ensures { self.new ≡ take (length self.old - 1) self.old }
     {
@@ -102,7 +102,7 @@ impl Binders {
         }
     }
 
-    /// Keeps at most so many binders, the first ones.
+    // Keeps at most so many binders, the first ones.
     pub(crate) fn truncate(&mut self, count: u32)
         ensures { self.new ≡ take count self.old }
     {

@@ -13,7 +13,7 @@ use chem_model::{DefnNode, Defs, Items, Memory, Nums, Pat, Pats, Ref, Refs};
 use env_store::{Slot, Slots};
 use std::alloc::Global;
 
-/// The slot of an occurrence of a name.
+// The slot of an occurrence of a name.
 pub(crate) fn slot(tops: &NameTable, layout: &Binders, occurrence: Ref) -> Slot
     ensures { result ≡ slot_or tops.now layout.now occurrence }
 {
@@ -29,7 +29,7 @@ pub(crate) fn slot(tops: &NameTable, layout: &Binders, occurrence: Ref) -> Slot
     }
 }
 
-/// The slots of occurrences of names.
+// The slots of occurrences of names.
 pub(crate) fn slots(
     alloc: Global,
     tops: &NameTable,
@@ -45,7 +45,7 @@ pub(crate) fn slots(
     Ok(list)
 }
 
-/// The number of a channel in its level.
+// The number of a channel in its level.
 fn channel(channels: &Binders, occurrence: Ref) -> u32
     ensures { result ≡ channel_of channels.now occurrence }
 {
@@ -58,7 +58,7 @@ fn channel(channels: &Binders, occurrence: Ref) -> u32
     }
 }
 
-/// The numbers of the channels of a join pattern.
+// The numbers of the channels of a join pattern.
 pub(crate) fn channels(alloc: Global, channels: &Binders, pats: &Pats) -> Result<Nums, Memory>
     ensures { IfOk result (λ list. list ≡ channels_of channels.now pats.now) }
 {
@@ -69,7 +69,7 @@ pub(crate) fn channels(alloc: Global, channels: &Binders, pats: &Pats) -> Result
     Ok(list)
 }
 
-/// A channel that has no name yet gets one.
+// A channel that has no name yet gets one.
 fn name_pat(
     named: &mut Binders,
     fresh: &mut Binders,
@@ -107,7 +107,7 @@ fn name_pats(
     Ok(())
 }
 
-/// The channels of a level that have no name yet get one, each with its number of arguments.
+// The channels of a level that have no name yet get one, each with its number of arguments.
 fn name_channels(
     named: &mut Binders,
     fresh: &mut Binders,
@@ -129,7 +129,7 @@ fn name_channels(
     Ok(())
 }
 
-/// A place gets a name, and then its channels do.
+// A place gets a name, and then its channels do.
 pub(crate) fn name_place(
     named: &mut Binders,
     fresh: &mut Binders,
@@ -151,7 +151,7 @@ pub(crate) fn name_place(
     name_channels(named, fresh, counts, defs)
 }
 
-/// A place of a block gets its name, and then its channels do.
+// A place of a block gets its name, and then its channels do.
 fn name_block_place(
     alloc: Global,
     named: &mut Binders,
@@ -166,7 +166,7 @@ fn name_block_place(
     name_place(named, &mut fresh, &mut counts, name, defs)
 }
 
-/// The places of a block get their names.
+// The places of a block get their names.
 fn name_places(alloc: Global, named: &mut Binders, defs: &Defs) -> Result<(), Memory>
     ensures { OnOk result (named.new ≡ named.old ++ places_order named.old (definitions defs.now)) }
 {
@@ -178,8 +178,8 @@ fn name_places(alloc: Global, named: &mut Binders, defs: &Defs) -> Result<(), Me
     Ok(())
 }
 
-/// What a block names: its own channels, each with its number of arguments, and all its names in
-/// order.
+// What a block names: its own channels, each with its number of arguments, and all its names in
+// order.
 #[derive(Drop)]
 pub(crate) struct Opened {
     pub(crate) channels: Binders,
@@ -187,7 +187,7 @@ pub(crate) struct Opened {
     pub(crate) order: Binders,
 }
 
-/// A block of which nothing is named yet gets its names.
+// A block of which nothing is named yet gets its names.
 fn name_block(alloc: Global, opened: &mut Opened, defs: &Defs) -> Result<(), Memory>
     requires { opened.old ≡ record { channels = []; counts = []; order = [] } }
     ensures { OnOk result (AreBlockNames (definitions defs.now) opened.new) }
@@ -201,7 +201,7 @@ fn name_block(alloc: Global, opened: &mut Opened, defs: &Defs) -> Result<(), Mem
     name_places(alloc, &mut opened.order, defs)
 }
 
-/// What a block names.
+// What a block names.
 pub(crate) fn open(alloc: Global, defs: &Defs) -> Result<Opened, Memory>
     ensures { IfOk result (λ opened. AreBlockNames (definitions defs.now) opened) }
 {
@@ -219,7 +219,7 @@ pub(crate) fn open(alloc: Global, defs: &Defs) -> Result<Opened, Memory>
     }
 }
 
-/// Appends the parameters of a join pattern.
+// Appends the parameters of a join pattern.
 pub(crate) fn push_params(layout: &mut Binders, pats: &Pats) -> Result<(), Memory>
     ensures { OnOk result (layout.new ≡ layout.old ++ params_of pats.now) }
 {

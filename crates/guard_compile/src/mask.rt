@@ -6,7 +6,7 @@ use chem_model::{Items, Memory, Nums};
 use env_store::Bits;
 use std::alloc::Global;
 
-/// Sets the bit of a channel.
+// Sets the bit of a channel.
 fn set_bit(words: &mut Vec<u64>, channel: u32)
     ensures { words.new.items ≡ with_bit words.old.items channel }
 {
@@ -15,7 +15,7 @@ fn set_bit(words: &mut Vec<u64>, channel: u32)
     }
 }
 
-/// The words of a set of channels, where the level has so many.
+// The words of a set of channels, where the level has so many.
 pub(crate) fn mask(alloc: Global, count: u32, channels: &Nums) -> Result<Bits, Memory>
     ensures { IfOk result (λ words. words ≡ mask_of count channels.now) }
 {

@@ -14,8 +14,8 @@ use std::alloc::Global;
 use std::collections::HashMap;
 use std::marker::Model;
 
-/// Binders with their names, seen as the list of both. Of two entries of a binder the first counts,
-/// and it is found without a walk.
+// Binders with their names, seen as the list of both. Of two entries of a binder the first counts,
+// and it is found without a walk.
 #[derive(Drop)]
 pub(crate) struct NameTable {
     entries: Naming,
@@ -44,21 +44,21 @@ impl NameTable {
         }
     }
 
-    /// The entries in order.
+    // The entries in order.
     pub(crate) fn as_slice(&self) -> &[Named]
         ensures { result.now ≡ self.now }
     {
         self.entries.as_slice()
     }
 
-    /// The name of a binder.
+    // The name of a binder.
     pub(crate) fn name_at(&self, binder: u32) -> Option<Name>
         ensures { result ≡ name_at self.now binder }
     {
         self.names.get(&binder).copied()
     }
 
-    /// Appends a binder with a name.
+    // Appends a binder with a name.
     fn push(&mut self, binder: u32, name: Name) -> Result<(), Memory>
         ensures { OnOk result (self.new ≡ self.old
             ++ record { binder = binder; name = name } ∷ []) }
@@ -73,7 +73,7 @@ impl NameTable {
         Ok(())
     }
 
-    /// Appends entries.
+    // Appends entries.
     fn extend(&mut self, entries: &[Named]) -> Result<(), Memory>
         ensures { OnOk result (self.new ≡ self.old ++ entries.now) }
     {
@@ -84,7 +84,7 @@ impl NameTable {
     }
 }
 
-/// The naming of one site's level: the next number, and the names given so far.
+// The naming of one site's level: the next number, and the names given so far.
 #[derive(Drop)]
 struct Drawing {
     next: u64,
@@ -92,7 +92,7 @@ struct Drawing {
 }
 
 impl Drawing {
-    /// Gives the next number away.
+    // Gives the next number away.
     fn draw(&mut self, binder: u32, name: Name) -> Result<(), Memory>
         ensures next { OnOk result (self.new.next ≡ self.old.next + 1) }
         ensures names { OnOk result (self.new.names ≡ self.old.names
@@ -107,7 +107,7 @@ impl Drawing {
         Ok(())
     }
 
-    /// A channel that has no name yet gets one.
+    // A channel that has no name yet gets one.
     fn name_ref(&mut self, site: u32, home: Loc, occurrence: Ref) -> Result<(), Memory>
         ensures { OnOk result (drawn self.new ≡ name_ref site home occurrence (drawn self.old)) }
     {
@@ -133,7 +133,7 @@ impl Drawing {
         Ok(())
     }
 
-    /// Names the channels of a list of definitions that stands at a location.
+    // Names the channels of a list of definitions that stands at a location.
     fn name_channels(&mut self, site: u32, home: Loc, defs: &Defs) -> Result<(), Memory>
         ensures { OnOk result (drawn self.new ≡ name_channels site home (definitions defs.now)
             (drawn self.old)) }
@@ -156,7 +156,7 @@ impl Drawing {
         Ok(())
     }
 
-    /// Names the places of a list of definitions, each with its own channels.
+    // Names the places of a list of definitions, each with its own channels.
     fn name_places(&mut self, site: u32, defs: &Defs) -> Result<(), Memory>
         ensures { OnOk result (drawn self.new ≡ name_places site (definitions defs.now)
             (drawn self.old)) }
@@ -172,14 +172,14 @@ impl Drawing {
     }
 }
 
-/// The root of a site, which is the first that it makes.
+// The root of a site, which is the first that it makes.
 fn root_of(site: u32) -> Loc
     ensures { result ≡ root_of site }
 {
     Loc { site, k: 0 }
 }
 
-/// The names of a site's level, which stands at its root.
+// The names of a site's level, which stands at its root.
 fn level_names(alloc: Global, site: u32, defs: &Defs) -> Result<NameTable, Memory>
     ensures { IfOk result (λ names. names ≡ (naming site (root_of site)
         (definitions defs.now) 1).names) }
@@ -193,7 +193,7 @@ fn level_names(alloc: Global, site: u32, defs: &Defs) -> Result<NameTable, Memor
     Ok(drawing.names)
 }
 
-/// Each site's name is that of its root.
+// Each site's name is that of its root.
 fn name_roots(names: &mut NameTable, sites: &SiteTerms) -> Result<(), Memory>
     ensures { OnOk result (names.new ≡ names.old ++ root_names 0 sites.now) }
 {
@@ -203,7 +203,7 @@ fn name_roots(names: &mut NameTable, sites: &SiteTerms) -> Result<(), Memory>
     Ok(())
 }
 
-/// Each site's level is named at its root.
+// Each site's level is named at its root.
 fn name_levels(alloc: Global, names: &mut NameTable, sites: &SiteTerms) -> Result<(), Memory>
     ensures { OnOk result (names.new ≡ names.old ++ level_names 0 sites.now) }
 {
@@ -214,7 +214,7 @@ fn name_levels(alloc: Global, names: &mut NameTable, sites: &SiteTerms) -> Resul
     Ok(())
 }
 
-/// The names of all that the sites define.
+// The names of all that the sites define.
 pub(crate) fn site_names(alloc: Global, sites: &SiteTerms) -> Result<NameTable, Memory>
     ensures { IfOk result (λ names. names ≡ site_names sites.now) }
 {

@@ -13,7 +13,7 @@ use chem_model::{Items, Memory, Name, Names, Nums, Program, SeenDecls, SiteTerms
 use env_store::{Code, Locs, SiteCodes};
 use std::alloc::Global;
 
-/// Writes the sites, each with its block and its body.
+// Writes the sites, each with its block and its body.
 fn write_sites(
     alloc: Global,
     tops: &NameTable,
@@ -33,7 +33,7 @@ fn write_sites(
     Ok(())
 }
 
-/// The members that all sites add, whose codes are appended.
+// The members that all sites add, whose codes are appended.
 fn whole_piece(
     alloc: Global,
     tops: &NameTable,
@@ -61,7 +61,7 @@ fn whole_piece(
     }
 }
 
-/// The declared counts of observed names.
+// The declared counts of observed names.
 fn counts(alloc: Global, seen: &SeenDecls) -> Result<Nums, Memory>
     ensures { IfOk result (λ list. list ≡ counts_of seen.now) }
 {
@@ -72,7 +72,7 @@ fn counts(alloc: Global, seen: &SeenDecls) -> Result<Nums, Memory>
     Ok(list)
 }
 
-/// The locations among names.
+// The locations among names.
 fn locations(alloc: Global, names: &NameTable) -> Result<Locs, Memory>
     ensures { IfOk result (λ list. list ≡ locs_in names.now) }
 {
@@ -85,7 +85,7 @@ fn locations(alloc: Global, names: &NameTable) -> Result<Locs, Memory>
     Ok(list)
 }
 
-/// The code of a program, where these are its site-level names as the opening gives them.
+// The code of a program, where these are its site-level names as the opening gives them.
 fn code(alloc: Global, program: &Program, tops: &NameTable) -> Result<Code, Memory>
     requires { tops.now ≡ site_names program.now.sites }
     ensures { IfOk result (λ code. code ≡ code_of program.now) }
@@ -115,7 +115,7 @@ pub fn compile(alloc: Global, program: &Program) -> Result<Code, Memory>
     code(alloc, program, &tops)
 }
 
-/// The names of the site-level binders, by their numbers, where these are all names of that level.
+// The names of the site-level binders, by their numbers, where these are all names of that level.
 fn names_in_order(alloc: Global, program: &Program, tops: &NameTable) -> Result<Names, Memory>
     requires { tops.now ≡ site_names program.now.sites }
     ensures count { IfOk result (λ names. length names ≡ program.now.tops) }

@@ -24,7 +24,7 @@ use env_store::{
 use std::alloc::Global;
 use std::mem;
 
-/// The next number of each list.
+// The next number of each list.
 #[derive(Clone, Copy)]
 pub(crate) struct At {
     pub(crate) level: u32,
@@ -33,7 +33,7 @@ pub(crate) struct At {
     pub(crate) body: u32,
 }
 
-/// Members of the lists, and the next numbers behind them.
+// Members of the lists, and the next numbers behind them.
 #[derive(Drop)]
 pub(crate) struct Piece {
     pub(crate) next: At,
@@ -43,8 +43,8 @@ pub(crate) struct Piece {
     pub(crate) bodies: Bodies,
 }
 
-/// What definitions add: the guards of their rules, the numbers of their places' levels, and all
-/// that is within.
+// What definitions add: the guards of their rules, the numbers of their places' levels, and all
+// that is within.
 #[derive(Drop)]
 pub(crate) struct Defined {
     pub(crate) guards: Guards,
@@ -52,8 +52,8 @@ pub(crate) struct Defined {
     pub(crate) piece: Piece,
 }
 
-/// A block of which nothing is written yet: how many rules stand at its top, what it names, and
-/// what its definitions add.
+// A block of which nothing is written yet: how many rules stand at its top, what it names, and
+// what its definitions add.
 #[derive(Drop)]
 struct Begun {
     count: u32,
@@ -62,7 +62,7 @@ struct Begun {
 }
 
 impl At {
-    /// The numbers behind a level with so many guards.
+    // The numbers behind a level with so many guards.
     fn behind(self, guards: u32) -> Result<At, Memory>
         ensures { IfOk result (λ at. at ≡ behind self guards) }
     {
@@ -76,7 +76,7 @@ impl At {
         })
     }
 
-    /// The numbers behind a block.
+    // The numbers behind a block.
     fn inside(self) -> Result<At, Memory>
         ensures { IfOk result (λ at. at ≡ inside self) }
     {
@@ -89,7 +89,7 @@ impl At {
         })
     }
 
-    /// The numbers behind a body.
+    // The numbers behind a body.
     fn above(self) -> Result<At, Memory>
         ensures { IfOk result (λ at. at ≡ above self) }
     {
@@ -104,7 +104,7 @@ impl At {
 }
 
 impl Piece {
-    /// No members.
+    // No members.
     pub(crate) fn start(alloc: Global, at: At) -> Piece
         ensures { result ≡ no_piece at }
     {
@@ -119,7 +119,7 @@ impl Piece {
 }
 
 impl Defined {
-    /// No definitions.
+    // No definitions.
     fn start(alloc: Global, at: At) -> Defined
         ensures { result ≡ no_definitions at }
     {
@@ -131,7 +131,7 @@ impl Defined {
     }
 }
 
-/// Begins a block at these numbers.
+// Begins a block at these numbers.
 fn begin(alloc: Global, at: At, defs: &Defs) -> Result<Begun, Memory>
     ensures { IfOk result (λ begun. IsBegun at (definitions defs.now) begun) }
 {
@@ -145,7 +145,7 @@ fn begin(alloc: Global, at: At, defs: &Defs) -> Result<Begun, Memory>
     })
 }
 
-/// The levels of a block: its own, and then those of its places.
+// The levels of a block: its own, and then those of its places.
 fn levels_of(alloc: Global, own: u32, places: &mut Nums) -> Result<Nums, Memory>
     ensures { IfOk result (λ levels. levels ≡ own ∷ places.old) }
 {
@@ -155,7 +155,7 @@ fn levels_of(alloc: Global, own: u32, places: &mut Nums) -> Result<Nums, Memory>
     Ok(levels)
 }
 
-/// Appends a piece behind another.
+// Appends a piece behind another.
 fn put_piece(piece: &mut Piece, more: &mut Piece) -> Result<(), Memory>
     ensures { OnOk result (Appends piece.old piece.new more.old) }
 {
@@ -167,7 +167,7 @@ fn put_piece(piece: &mut Piece, more: &mut Piece) -> Result<(), Memory>
     Ok(())
 }
 
-/// Appends a level with its guards, and then what is within it.
+// Appends a level with its guards, and then what is within it.
 fn put_level(piece: &mut Piece, level: Level, defined: &mut Defined) -> Result<(), Memory>
     ensures next { OnOk result (piece.new.next ≡ defined.old.piece.next) }
     ensures levels { OnOk result (piece.new.levels ≡ piece.old.levels
@@ -184,7 +184,7 @@ fn put_level(piece: &mut Piece, level: Level, defined: &mut Defined) -> Result<(
     put_piece(piece, &mut defined.piece)
 }
 
-/// Appends a block with its own level, and then what is within it.
+// Appends a block with its own level, and then what is within it.
 fn put_block(
     alloc: Global,
     at: At,
@@ -210,7 +210,7 @@ fn put_block(
     put_level(piece, own, &mut begun.defined)
 }
 
-/// Appends a place with its level, and then what is within it.
+// Appends a place with its level, and then what is within it.
 fn put_place(
     number: u32,
     level: Level,
@@ -224,7 +224,7 @@ fn put_place(
     put_level(&mut defined.piece, level, inner)
 }
 
-/// Appends a body that is done, and answers its number.
+// Appends a body that is done, and answers its number.
 fn put_body(piece: &mut Piece, instrs: Instrs) -> Result<u32, Memory>
     ensures number { IfOk result (λ number. number ≡ piece.old.next.body) }
     ensures next { OnOk result (piece.new.next ≡ above piece.old.next) }
@@ -240,7 +240,7 @@ fn put_body(piece: &mut Piece, instrs: Instrs) -> Result<u32, Memory>
     Ok(number)
 }
 
-/// The guard of a rule, whose body has this number.
+// The guard of a rule, whose body has this number.
 fn rule_guard(
     alloc: Global,
     level: u32,
@@ -265,8 +265,8 @@ fn rule_guard(
     })
 }
 
-/// Writes a process under a layout: its members are appended to the piece, and its instructions to
-/// the body.
+// Writes a process under a layout: its members are appended to the piece, and its instructions to
+// the body.
 #[cycle(write)]
 pub(crate) fn write(
     alloc: Global,
@@ -327,8 +327,8 @@ fn write_all(
     Ok(())
 }
 
-/// Writes `def`: its block with its own level come first, then what its definitions add, and then
-/// what its process adds.
+// Writes `def`: its block with its own level come first, then what its definitions add, and then
+// what its process adds.
 #[cycle(write)]
 fn write_block(
     alloc: Global,
@@ -353,7 +353,7 @@ fn write_block(
     written
 }
 
-/// Writes a block that is begun.
+// Writes a block that is begun.
 #[cycle(write)]
 fn write_begun(
     alloc: Global,
@@ -399,7 +399,7 @@ fn write_begun(
     put_block(alloc, at, depth, names, begun, piece)
 }
 
-/// Writes definitions of one level, in a block of which so many places have been written.
+// Writes definitions of one level, in a block of which so many places have been written.
 #[cycle(write)]
 fn write_defs(
     alloc: Global,
@@ -465,7 +465,7 @@ fn write_def(
     }
 }
 
-/// Writes a process that is a body of its own, and answers the number of that body.
+// Writes a process that is a body of its own, and answers the number of that body.
 #[cycle(write)]
 fn write_body(
     alloc: Global,
@@ -485,7 +485,7 @@ fn write_body(
     put_body(piece, instrs)
 }
 
-/// Writes a rule: its body, and then its guard.
+// Writes a rule: its body, and then its guard.
 #[cycle(write)]
 fn write_rule(
     alloc: Global,
@@ -510,7 +510,7 @@ fn write_rule(
     defined.guards.push(guard)
 }
 
-/// Writes a place: its level, what its definitions add, and then its process.
+// Writes a place: its level, what its definitions add, and then its process.
 #[cycle(write)]
 fn write_place(
     alloc: Global,
@@ -561,8 +561,8 @@ fn write_place(
     }
 }
 
-/// Writes what is within a place, whose level has this number, and says of it in the level how many
-/// arguments its channels take, and which body it has.
+// Writes what is within a place, whose level has this number, and says of it in the level how many
+// arguments its channels take, and which body it has.
 #[cycle(write)]
 fn write_within(
     alloc: Global,
@@ -608,7 +608,7 @@ fn write_within(
     Ok(())
 }
 
-/// Writes the definitions of a site.
+// Writes the definitions of a site.
 fn site_definitions(
     alloc: Global,
     tops: &NameTable,
@@ -638,7 +638,7 @@ fn site_definitions(
     )
 }
 
-/// Writes the process of a site, and answers the number of its body.
+// Writes the process of a site, and answers the number of its body.
 fn site_process(
     alloc: Global,
     tops: &NameTable,
@@ -654,8 +654,8 @@ fn site_process(
     write_body(alloc, tops, &mut layout, process, piece)
 }
 
-/// Writes a site: its block with its own level come first, then what its definitions add, and then
-/// its process.
+// Writes a site: its block with its own level come first, then what its definitions add, and then
+// its process.
 pub(crate) fn write_site(
     alloc: Global,
     tops: &NameTable,
@@ -674,7 +674,7 @@ pub(crate) fn write_site(
     code
 }
 
-/// Writes a site whose block is begun.
+// Writes a site whose block is begun.
 fn write_begun_site(
     alloc: Global,
     tops: &NameTable,

@@ -13,11 +13,11 @@ use chem_model::Items;
 use join_base::{Front, Kind, Span};
 use std::alloc::Global;
 
-/// The most bytes that a text may have.
+// The most bytes that a text may have.
 const LIMIT: usize = 1_048_576;
 
-/// Passes over the piece at `place`, and appends its token where it is one. Answers the place
-/// behind it. `second` says whether the text is of the second version.
+// Passes over the piece at `place`, and appends its token where it is one. Answers the place
+// behind it. `second` says whether the text is of the second version.
 fn step(
     alloc: Global,
     bytes: &[u8],
@@ -78,7 +78,7 @@ pub fn says_second(tokens: &[Token]) -> bool
     is_version_word(&a.kind) && is_two(&b.kind) && is_semicolon(&c.kind)
 }
 
-/// The tokens of a text, or its first fault.
+// The tokens of a text, or its first fault.
 fn tokens_of(alloc: Global, bytes: &[u8]) -> Result<Tokens, Front>
     ensures tokens { IfOk result (λ t. AreTokensOf t bytes.now) }
     ensures fault { IfErr result (λ e. NamesFault e bytes.now) }

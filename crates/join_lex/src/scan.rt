@@ -26,14 +26,14 @@ fn is_word_byte(byte: u8) -> bool
     matches!(byte, b'a'..=b'z' | b'A'..=b'Z' | b'0'..=b'9' | b'_')
 }
 
-/// How many bytes at the front may stand in a word.
+// How many bytes at the front may stand in a word.
 fn word_len(bytes: &[u8]) -> usize
     ensures { result ≡ prefix_len in_word bytes.now }
 {
     bytes.iter().take_while(|byte| is_word_byte(**byte)).count()
 }
 
-/// How many bytes stand before the end of the line.
+// How many bytes stand before the end of the line.
 fn line_len(bytes: &[u8]) -> usize
     ensures value { result ≡ prefix_len in_line bytes.now }
     ensures bound { result ≤ length bytes.now }
@@ -41,7 +41,7 @@ fn line_len(bytes: &[u8]) -> usize
     bytes.iter().take_while(|byte| **byte != b'\n').count()
 }
 
-/// How many bytes at the front are digits.
+// How many bytes at the front are digits.
 fn digits_len(bytes: &[u8]) -> usize
     ensures { result ≡ prefix_len is_digit bytes.now }
 {
@@ -51,7 +51,7 @@ fn digits_len(bytes: &[u8]) -> usize
         .count()
 }
 
-/// The value of digits, or `largest + 1` for a larger one.
+// The value of digits, or `largest + 1` for a larger one.
 fn value_up_to_bound(digits: &[u8], largest: u64) -> u128
     ensures { result ≡ min (value_of digits.now) (largest + 1) }
 {
@@ -63,7 +63,7 @@ fn value_up_to_bound(digits: &[u8], largest: u64) -> u128
     value
 }
 
-/// The keyword that a word is.
+// The keyword that a word is.
 fn key_of(word: &[u8], second: bool) -> Option<Key>
     ensures found { IfSome result (λ k.
         (word.now ≡ key_bytes k) × IsIn k (version_at second).keywords) }
@@ -86,7 +86,7 @@ fn key_of(word: &[u8], second: bool) -> Option<Key>
     }
 }
 
-/// The sign at the front, and how many bytes it has.
+// The sign at the front, and how many bytes it has.
 fn sign_of(bytes: &[u8]) -> Option<(Sign, usize)>
     ensures sign { result ≡ sign_at bytes.now }
     ensures bound { IfSome result (λ found. found.1 ≤ length bytes.now) }
@@ -106,7 +106,7 @@ fn sign_of(bytes: &[u8]) -> Option<(Sign, usize)>
     }
 }
 
-/// The word at the front, and how many bytes it has: a keyword or an identifier.
+// The word at the front, and how many bytes it has: a keyword or an identifier.
 fn word_at(alloc: Global, text: &[u8], second: bool) -> Result<(Option<Kind2>, usize), Front>
     ensures scanned { (place : ℕ) → IsPieceAt
         (Ok (word_piece (version_at second) (take_while in_word text.now)))
@@ -121,7 +121,7 @@ fn word_at(alloc: Global, text: &[u8], second: bool) -> Result<(Option<Kind2>, u
     }
 }
 
-/// The number at the front, and how many bytes it has.
+// The number at the front, and how many bytes it has.
 fn number_at(text: &[u8], place: u32, second: bool) -> Result<(Option<Kind2>, usize), Front>
     ensures scanned { IsPieceAt
         (number_piece (version_at second) (take_while is_digit text.now)) place text.now result }
@@ -140,9 +140,9 @@ fn number_at(text: &[u8], place: u32, second: bool) -> Result<(Option<Kind2>, us
     }
 }
 
-/// The first piece of a text that isn't empty: what token it is, where it is one, and how many
-/// bytes it has. `place` is where the text stands; a fault is answered at it. `second` says whether
-/// the text is of the second version.
+// The first piece of a text that isn't empty: what token it is, where it is one, and how many
+// bytes it has. `place` is where the text stands; a fault is answered at it. `second` says whether
+// the text is of the second version.
 pub fn scan(
     alloc: Global,
     text: &[u8],

@@ -7,18 +7,18 @@ use join_top::{OpenGate, Threaded, run_join};
 use std::process::ExitCode;
 use std::{env, io};
 
-/// The status and the line for words that are no line. A word that isn't text never reaches the top
-/// call.
+// The status and the line for words that are no line. A word that isn't text never reaches the top
+// call.
 const USAGE: u8 = 2;
 
 const USAGE_LINE: &str = "usage: join MODE [N] [OPTIONS]";
 
-/// The status and the line where memory ran out before the top call.
+// The status and the line where memory ran out before the top call.
 const OUT_OF_MEMORY: u8 = 6;
 
 const OUT_OF_MEMORY_LINE: &str = "out of memory";
 
-/// The words after the program's name.
+// The words after the program's name.
 fn words_after_name(rt: &HostRuntime) -> io::Result<Vec<String>> {
     let mut words = env::args(rt)?;
     let _name = words.next();

@@ -93,7 +93,7 @@ impl SeenTree {
     }
 }
 
-/// Two identifiers that are equal to these.
+// Two identifiers that are equal to these.
 pub fn copy_pair(alloc: Global, one: &Word, other: &Word) -> Result<(Word, Word), Memory>
     ensures one { IfOk result (λ copies. copies.0 ≡ one.now) }
     ensures other { IfOk result (λ copies. copies.1 ≡ other.now) }
@@ -103,7 +103,7 @@ pub fn copy_pair(alloc: Global, one: &Word, other: &Word) -> Result<(Word, Word)
     Ok((first, second))
 }
 
-/// Two arguments that are equal to these.
+// Two arguments that are equal to these.
 pub fn copy_operands(alloc: Global, left: &Arg, right: &Arg) -> Result<(Arg, Arg), Memory>
     ensures left { IfOk result (λ copies. copies.0 ≡ left.now) }
     ensures right { IfOk result (λ copies. copies.1 ≡ right.now) }

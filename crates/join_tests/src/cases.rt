@@ -12,7 +12,7 @@ use std::test::Fail;
 use std::thread::Threads;
 use worked_texts::{Case, QUIET, examples, runs, runs_in_rounds};
 
-/// A text that is refused.
+// A text that is refused.
 pub const REFUSED: Case = Case {
     status: 1,
     out: "",
@@ -20,7 +20,7 @@ pub const REFUSED: Case = Case {
     ..QUIET
 };
 
-/// Words that ask for nothing, beside a text that could be run.
+// Words that ask for nothing, beside a text that could be run.
 const USAGE: &Case = &Case {
     text: &[(1, "site s [ none : 0 ]")],
     status: 2,
@@ -32,7 +32,7 @@ fn usage() -> &'static Case {
     USAGE
 }
 
-/// How a case ends, run with these words.
+// How a case ends, run with these words.
 fn outcome_of<R: AllocGlobal + Abort + Threads + Wait + Sync>(
     rt: &R,
     words: &[&str],
@@ -44,7 +44,7 @@ fn outcome_of<R: AllocGlobal + Abort + Threads + Wait + Sync>(
     call(rt, words, source.as_slice())
 }
 
-/// That a case ends as it says, run with these words.
+// That a case ends as it says, run with these words.
 pub fn expect<R: AllocGlobal + Abort + Threads + Wait + Sync>(
     rt: &R,
     words: &[&str],
@@ -57,7 +57,7 @@ pub fn expect<R: AllocGlobal + Abort + Threads + Wait + Sync>(
     Ok(())
 }
 
-/// That a case ends as it says, run with these words, and so made.
+// That a case ends as it says, run with these words, and so made.
 pub fn expect_made<R: AllocGlobal + Abort + Threads + Wait + Sync>(
     rt: &R,
     words: &[&str],
@@ -72,7 +72,7 @@ pub fn expect_made<R: AllocGlobal + Abort + Threads + Wait + Sync>(
     Ok(())
 }
 
-/// That each of these cases ends as it says, and is made on one thread.
+// That each of these cases ends as it says, and is made on one thread.
 fn expect_all_alone<R: AllocGlobal + Abort + Threads + Wait + Sync>(
     rt: &R,
     cases: &[Case],
@@ -85,7 +85,7 @@ fn expect_all_alone<R: AllocGlobal + Abort + Threads + Wait + Sync>(
     Ok(())
 }
 
-/// That each of these cases ends as it says.
+// That each of these cases ends as it says.
 fn expect_all<R: AllocGlobal + Abort + Threads + Wait + Sync>(
     rt: &R,
     cases: &[Case],
@@ -122,7 +122,7 @@ fn refused_texts(rt: HostRuntime) -> Result<(), Fail> {
     Ok(())
 }
 
-/// That each of these lines of words asks for nothing.
+// That each of these lines of words asks for nothing.
 fn expect_usage<R: AllocGlobal + Abort + Threads + Wait + Sync>(
     rt: &R,
     lines: &[&[&str]],

@@ -7,7 +7,7 @@ const FIRST: &[u8] = b"observe out/1; site s [ x(u) => out(u) : x(s) ]";
 
 const ALONE: [&str; 3] = ["alone", "--budget", "10"];
 
-/// The first write is offered the whole text: a sink that takes it isn't asked again.
+// The first write is offered the whole text: a sink that takes it isn't asked again.
 #[test]
 fn one_write_is_enough(rt: HostRuntime) -> Result<(), Fail> {
     let mut ends = ends_of(rt.alloc(), FIRST)?;
@@ -17,7 +17,7 @@ fn one_write_is_enough(rt: HostRuntime) -> Result<(), Fail> {
     Ok(())
 }
 
-/// One byte more than the limit is refused, and no byte after it is taken.
+// One byte more than the limit is refused, and no byte after it is taken.
 #[test]
 fn a_text_past_the_limit(rt: HostRuntime) -> Result<(), Fail> {
     let blanks = vec![in rt.alloc(); b' '; 1_048_580]?;
@@ -27,7 +27,7 @@ fn a_text_past_the_limit(rt: HostRuntime) -> Result<(), Fail> {
     Ok(())
 }
 
-/// The judge of sorts refuses it too.
+// The judge of sorts refuses it too.
 #[test]
 fn sorts_of_a_text_past_the_limit(rt: HostRuntime) -> Result<(), Fail> {
     let blanks = vec![in rt.alloc(); b' '; 1_048_580]?;
@@ -37,7 +37,7 @@ fn sorts_of_a_text_past_the_limit(rt: HostRuntime) -> Result<(), Fail> {
     Ok(())
 }
 
-/// The judge of sorts tells no verdict where a read fails.
+// The judge of sorts tells no verdict where a read fails.
 #[test]
 fn sorts_of_a_source_that_fails(rt: HostRuntime) -> Result<(), Fail> {
     let mut ends = ends_of(rt.alloc(), b"")?;
@@ -47,7 +47,7 @@ fn sorts_of_a_source_that_fails(rt: HostRuntime) -> Result<(), Fail> {
     Ok(())
 }
 
-/// A line that has no room leaves the status of its cause.
+// A line that has no room leaves the status of its cause.
 #[test]
 fn the_line_of_a_fault_is_cut(rt: HostRuntime) -> Result<(), Fail> {
     let mut ends = ends_of(rt.alloc(), b"")?;

@@ -12,14 +12,14 @@ use std::test::Fail;
 use std::thread::Threads;
 use worked_texts::{Case, Freely, QUIET, runs_and_examples};
 
-/// How often a line occurs in a text.
+// How often a line occurs in a text.
 fn times(line: &[u8], text: &[u8]) -> usize {
     text.split(|byte| *byte == b'\n')
         .filter(|other| *other == line)
         .count()
 }
 
-/// Whether each line of the text occurs as often in the other, and the last one stands last there.
+// Whether each line of the text occurs as often in the other, and the last one stands last there.
 fn has_lines_of(other: &[u8], text: &[u8]) -> bool {
     let mut last: &[u8] = b"";
     for line in text.split(|byte| *byte == b'\n') {
@@ -36,7 +36,7 @@ fn has_lines_of(other: &[u8], text: &[u8]) -> bool {
             .is_some_and(|it| it.ends_with(last))
 }
 
-/// Whether one line stands in a text before another.
+// Whether one line stands in a text before another.
 fn stands_before(line: &[u8], other: &[u8], text: &[u8]) -> bool {
     for next in text.split(|byte| *byte == b'\n') {
         if next == line {
@@ -49,7 +49,7 @@ fn stands_before(line: &[u8], other: &[u8], text: &[u8]) -> bool {
     false
 }
 
-/// Whether the first line of each pair stands before the second one.
+// Whether the first line of each pair stands before the second one.
 fn keep_order(text: &[u8], pairs: &[(&'static str, &'static str)]) -> bool {
     for (line, other) in pairs {
         if !stands_before(line.as_bytes(), other.as_bytes(), text) {
@@ -59,7 +59,7 @@ fn keep_order(text: &[u8], pairs: &[(&'static str, &'static str)]) -> bool {
     true
 }
 
-/// Whether free threads may print this text in the case.
+// Whether free threads may print this text in the case.
 fn may_print(printed: &[u8], case: &Case) -> bool {
     match case.freely {
         Freely::Same => printed == case.out.as_bytes(),
@@ -71,7 +71,7 @@ fn may_print(printed: &[u8], case: &Case) -> bool {
     }
 }
 
-/// A case on free threads, with so many workers.
+// A case on free threads, with so many workers.
 fn run_freely<R: AllocGlobal + Abort + Threads + Wait + Sync>(
     rt: &R,
     case: &Case,
@@ -85,7 +85,7 @@ fn run_freely<R: AllocGlobal + Abort + Threads + Wait + Sync>(
     call(rt, words.as_slice(), source.as_slice())
 }
 
-/// That a run on free threads ended as the case says, and that the workers made each event.
+// That a run on free threads ended as the case says, and that the workers made each event.
 fn expect_freely(rt: &impl Abort, run: &Outcome, case: &Case) {
     run.expect_status(rt, case.status);
     assert!(rt; may_print(run.out.as_slice(), case));
@@ -94,7 +94,7 @@ fn expect_freely(rt: &impl Abort, run: &Outcome, case: &Case) {
     run.expect_made(rt, made);
 }
 
-/// That a case ends on free threads as it may, with so many workers.
+// That a case ends on free threads as it may, with so many workers.
 fn expect_shared<R: AllocGlobal + Abort + Threads + Wait + Sync>(
     rt: &R,
     case: &Case,
@@ -107,7 +107,7 @@ fn expect_shared<R: AllocGlobal + Abort + Threads + Wait + Sync>(
     Ok(())
 }
 
-/// That a case ends on free threads as it may, with each number of workers.
+// That a case ends on free threads as it may, with each number of workers.
 fn expect_shared_by_each<R: AllocGlobal + Abort + Threads + Wait + Sync>(
     rt: &R,
     case: &Case,
@@ -119,7 +119,7 @@ fn expect_shared_by_each<R: AllocGlobal + Abort + Threads + Wait + Sync>(
     expect_shared(rt, case, "16")
 }
 
-/// That each of these cases ends on free threads as it may.
+// That each of these cases ends on free threads as it may.
 fn expect_all_shared<R: AllocGlobal + Abort + Threads + Wait + Sync>(
     rt: &R,
     cases: &[Case],
@@ -140,7 +140,7 @@ fn worked_texts_on_free_threads(rt: HostRuntime) -> Result<(), Fail> {
     Ok(())
 }
 
-/// A ring of 64 sites.
+// A ring of 64 sites.
 const RING: &Case = &Case {
     words: &["gen", "64", "--budget", "1000", "--by", "run"],
     text: &[(1, "this is not read")],
@@ -159,7 +159,7 @@ fn a_ring_on_free_threads(rt: HostRuntime) -> Result<(), Fail> {
     expect_shared(&rt, ring(), "4")
 }
 
-/// Ten messages at each of two sites.
+// Ten messages at each of two sites.
 const TWO_SITES: &str = "site s [ x() => 0 : x() | x() | x() | x() | x() | x() | x() | x() | x() | \
     x() ] site t [ y() => 0 : y() | y() | y() | y() | y() | y() | y() | y() | y() | y() ]";
 
@@ -167,7 +167,7 @@ fn two_sites() -> &'static str {
     TWO_SITES
 }
 
-/// A run of the two sites by two workers, through a gate.
+// A run of the two sites by two workers, through a gate.
 fn run_through<R: AllocGlobal + Abort + Threads + Wait + Sync>(
     rt: &R,
     gate: &HoldGate,
@@ -180,7 +180,7 @@ fn run_through<R: AllocGlobal + Abort + Threads + Wait + Sync>(
     call_through(rt.alloc(), &words, ends, gate, &team)
 }
 
-/// How such a run, which ends quiet, was made.
+// How such a run, which ends quiet, was made.
 fn made_through<R: AllocGlobal + Abort + Threads + Wait + Sync>(
     rt: &R,
     gate: &HoldGate,
@@ -193,8 +193,8 @@ fn made_through<R: AllocGlobal + Abort + Threads + Wait + Sync>(
     Ok(run.made)
 }
 
-/// How a run of the two sites by two workers was made, through a gate that holds each of them until
-/// the other has come, and whether one of them gave up.
+// How a run of the two sites by two workers was made, through a gate that holds each of them until
+// the other has come, and whether one of them gave up.
 fn through_the_gate<R: AllocGlobal + Abort + Threads + Wait + Sync>(
     rt: &R,
 ) -> Result<(Option<Made>, bool), Memory>
@@ -205,8 +205,8 @@ fn through_the_gate<R: AllocGlobal + Abort + Threads + Wait + Sync>(
     Ok((made, gate.gave_up()))
 }
 
-/// Two workers are inside their turns at once: one thread can't pass the gate, nor one lock round
-/// everything.
+// Two workers are inside their turns at once: one thread can't pass the gate, nor one lock round
+// everything.
 #[test]
 fn two_workers_work_at_once(rt: HostRuntime) -> Result<(), Fail> {
     let (made, gave_up) = through_the_gate(&rt)?;

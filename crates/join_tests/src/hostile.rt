@@ -13,18 +13,18 @@ use std::test::Fail;
 use std::thread::Threads;
 use worked_texts::{Case, QUIET};
 
-/// More bytes than any line or text of these runs has.
+// More bytes than any line or text of these runs has.
 const ROOM: u32 = 4096;
 
-/// The words of each command that runs a text.
+// The words of each command that runs a text.
 const COMMANDS: &[&[&str]] = &[
     &["alone", "--budget", "10"],
     &["rounds", "--budget", "10"],
     &["run", "--budget", "10"],
 ];
 
-/// A case, and the numbers of the reads, of the writes and of the writes to the sink of errors that
-/// fail in it. The source gives 16 bytes a read, the sinks take 4 and 8 bytes a write.
+// A case, and the numbers of the reads, of the writes and of the writes to the sink of errors that
+// fail in it. The source gives 16 bytes a read, the sinks take 4 and 8 bytes a write.
 #[derive(Drop)]
 struct Fault {
     reads: &'static [u32],
@@ -33,7 +33,7 @@ struct Fault {
     case: Case,
 }
 
-/// Of the four reads one fails.
+// Of the four reads one fails.
 const READ_FAULT: Case = Case {
     text: &[(1, "observe out/1; site s [ x(u) => out(u) : x(s) ]")],
     status: 3,
@@ -41,7 +41,7 @@ const READ_FAULT: Case = Case {
     ..REFUSED
 };
 
-/// Of the five writes one fails. The run is kept.
+// Of the five writes one fails. The run is kept.
 const WRITE_FAULT: Case = Case {
     text: &[(1, "observe out/1; site s [ x(u) => out(u) : x(s) ]")],
     status: 4,
@@ -51,14 +51,14 @@ const WRITE_FAULT: Case = Case {
     ..QUIET
 };
 
-/// An unknown name.
+// An unknown name.
 const UNKNOWN: Case = Case {
     text: &[(1, "site s [ none : q() ]")],
     err: "scope 1 at 16\n",
     ..REFUSED
 };
 
-/// Nothing fails.
+// Nothing fails.
 const NO_FAULT: Fault = Fault {
     reads: &[],
     writes: &[],
@@ -189,7 +189,7 @@ const FAULTS_OF_LINES: &[Fault] = &[
     },
 ];
 
-/// The source and the sinks of which the reads and writes of the fault fail.
+// The source and the sinks of which the reads and writes of the fault fail.
 fn ends_with(alloc: Global, fault: &Fault) -> Result<Box<Ends>, Memory> {
     let text = fault.case.source(alloc)?;
     let source = source_with(alloc, text.as_slice(), 16, fault.reads)?;
@@ -198,7 +198,7 @@ fn ends_with(alloc: Global, fault: &Fault) -> Result<Box<Ends>, Memory> {
     Ok(Box::new(alloc, Ends { source, out, err })?)
 }
 
-/// A run with these words, in which the reads and writes of the fault fail.
+// A run with these words, in which the reads and writes of the fault fail.
 fn run_with<R: AllocGlobal + Abort + Threads + Wait + Sync>(
     rt: &R,
     words: &[&str],
@@ -210,7 +210,7 @@ fn run_with<R: AllocGlobal + Abort + Threads + Wait + Sync>(
     call_into(rt, words, &mut ends)
 }
 
-/// That a run with these words ends as the fault says.
+// That a run with these words ends as the fault says.
 fn expect_fault<R: AllocGlobal + Abort + Threads + Wait + Sync>(
     rt: &R,
     words: &[&str],
@@ -241,7 +241,7 @@ fn faults_of_lines() -> &'static [Fault] {
     FAULTS_OF_LINES
 }
 
-/// That a run with these words ends as each of these faults says.
+// That a run with these words ends as each of these faults says.
 fn expect_faults<R: AllocGlobal + Abort + Threads + Wait + Sync>(
     rt: &R,
     words: &[&str],
@@ -255,7 +255,7 @@ fn expect_faults<R: AllocGlobal + Abort + Threads + Wait + Sync>(
     Ok(())
 }
 
-/// That a run with these words ends as each fault says.
+// That a run with these words ends as each fault says.
 fn expect_each_fault<R: AllocGlobal + Abort + Threads + Wait + Sync>(
     rt: &R,
     words: &[&str],
@@ -275,7 +275,7 @@ fn faults_by_each_command(rt: HostRuntime) -> Result<(), Fail> {
     Ok(())
 }
 
-/// That each of these texts is refused with these words.
+// That each of these texts is refused with these words.
 fn expect_refused<R: AllocGlobal + Abort + Threads + Wait + Sync>(
     rt: &R,
     words: &[&str],
@@ -289,7 +289,7 @@ fn expect_refused<R: AllocGlobal + Abort + Threads + Wait + Sync>(
     Ok(())
 }
 
-/// That each of these texts is refused alike by each command.
+// That each of these texts is refused alike by each command.
 fn expect_refused_by_each<R: AllocGlobal + Abort + Threads + Wait + Sync>(
     rt: &R,
     cases: &[Case],

@@ -9,7 +9,7 @@ use std::test::Fail;
 use std::thread::Threads;
 use worked_texts::{Case, runs};
 
-/// The words of a command on a log, its bytes, and how it ends.
+// The words of a command on a log, its bytes, and how it ends.
 struct Judged {
     words: &'static [&'static str],
     log: &'static str,
@@ -127,7 +127,7 @@ fn worked() -> [&'static [Judged]; 2] {
     [WORKED, MORE]
 }
 
-/// That the commands end as is said.
+// That the commands end as is said.
 fn expect_judged<R: AllocGlobal + Abort + Threads + Wait + Sync>(
     rt: &R,
     cases: &[Judged],
@@ -151,7 +151,7 @@ fn logs_that_are_judged(rt: HostRuntime) -> Result<(), Fail> {
     Ok(())
 }
 
-/// That the log that a case prints on one thread is one of a run.
+// That the log that a case prints on one thread is one of a run.
 fn expect_yes<R: AllocGlobal + Abort + Threads + Wait + Sync>(
     rt: &R,
     cases: &[Case],
@@ -180,7 +180,7 @@ fn logs_of_worked_texts(rt: HostRuntime) -> Result<(), Fail> {
 const LOG: &[u8] = b"joinlog 1\nsource 19\nsite s [ none : 0 ]\nbudget 10\nevents 0\ntrace \
     10\nquiescent\n";
 
-/// A read that fails, and a write that fails: of what is told, a prefix is written.
+// A read that fails, and a write that fails: of what is told, a prefix is written.
 #[test]
 fn faults_of_the_outside(rt: HostRuntime) -> Result<(), Fail> {
     let mut ends = ends_of(rt.alloc(), b"")?;

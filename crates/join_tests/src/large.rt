@@ -9,7 +9,7 @@ use std::sync::Wait;
 use std::test::Fail;
 use std::thread::Threads;
 
-/// A text of version 2 with so many sites, fewer than 1,000.
+// A text of version 2 with so many sites, fewer than 1,000.
 fn sites(alloc: Global, count: u32) -> Result<Vec<u8>, AllocError> {
     let mut text = Vec::new(alloc);
     text.extend_from_slice(b"version 2; ")?;
@@ -23,7 +23,7 @@ fn sites(alloc: Global, count: u32) -> Result<Vec<u8>, AllocError> {
     Ok(text)
 }
 
-/// That a text of so many sites ends so.
+// That a text of so many sites ends so.
 fn expect_so<R: AllocGlobal + Abort + Threads + Wait + Sync>(
     rt: &R,
     words: &[&str],

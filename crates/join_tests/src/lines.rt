@@ -128,7 +128,7 @@ fn rings() -> &'static [Case] {
     RINGS
 }
 
-/// Lines of words that ask for a run.
+// Lines of words that ask for a run.
 pub fn lines() -> [&'static [Case]; 4] {
     [budgets(), logs(), longer_logs(), rings()]
 }
@@ -164,7 +164,7 @@ const NO_LINES: &[&[&str]] = &[
     &["alone", "--budge", "5"],
 ];
 
-/// Lines of words that ask for nothing.
+// Lines of words that ask for nothing.
 pub fn no_lines() -> &'static [&'static [&'static str]] {
     NO_LINES
 }

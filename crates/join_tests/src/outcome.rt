@@ -13,11 +13,11 @@ use std::test::Fail;
 use std::thread::Threads;
 use worked_texts::Case;
 
-/// More bytes than any line or text of these tests has.
+// More bytes than any line or text of these tests has.
 const ROOM: u32 = 16_384;
 
-/// How a run was made, without its report: on free threads with the number of events that the
-/// workers made.
+// How a run was made, without its report: on free threads with the number of events that the
+// workers made.
 #[derive(Clone, Copy, Debug, PartialEq, Eq)]
 pub enum Made {
     Alone,
@@ -37,8 +37,8 @@ impl Made {
     }
 }
 
-/// How a call ended: its status, what the sinks took, how many bytes one more read of the source
-/// gives, and of the run that was kept how it was made and how many events it has.
+// How a call ended: its status, what the sinks took, how many bytes one more read of the source
+// gives, and of the run that was kept how it was made and how many events it has.
 #[derive(Drop)]
 pub struct Outcome {
     pub status: u8,
@@ -49,7 +49,7 @@ pub struct Outcome {
     pub events: Option<usize>,
 }
 
-/// A source of these bytes that gives at most `piece` of them a call, and fails in these calls.
+// A source of these bytes that gives at most `piece` of them a call, and fails in these calls.
 pub fn source_with(
     alloc: Global,
     bytes: &[u8],
@@ -63,12 +63,12 @@ pub fn source_with(
     Ok(Box::new(alloc, MemSource::new(bytes, piece, fails))?)
 }
 
-/// A source of these bytes that never fails.
+// A source of these bytes that never fails.
 pub fn source_of(alloc: Global, bytes: &[u8]) -> Result<Box<MemSource>, Memory> {
     source_with(alloc, bytes, ROOM, &[])
 }
 
-/// A sink of so much room that takes at most `piece` bytes a call, and fails in these calls.
+// A sink of so much room that takes at most `piece` bytes a call, and fails in these calls.
 pub fn sink_with(
     alloc: Global,
     room: u32,
@@ -81,12 +81,12 @@ pub fn sink_with(
     Ok(Box::new(alloc, MemSink::new(alloc, room, piece, fails)?)?)
 }
 
-/// A sink that never fails while there is room.
+// A sink that never fails while there is room.
 pub fn roomy_sink(alloc: Global) -> Result<Box<MemSink>, Memory> {
     sink_with(alloc, ROOM, ROOM, &[])
 }
 
-/// What a call reads from, and what it writes to.
+// What a call reads from, and what it writes to.
 #[derive(Drop)]
 pub struct Ends {
     pub source: Box<MemSource>,
@@ -94,7 +94,7 @@ pub struct Ends {
     pub err: Box<MemSink>,
 }
 
-/// A source of these bytes and two sinks, none of which fails.
+// A source of these bytes and two sinks, none of which fails.
 pub fn ends_of(alloc: Global, bytes: &[u8]) -> Result<Box<Ends>, Memory> {
     let source = source_of(alloc, bytes)?;
     let out = roomy_sink(alloc)?;
@@ -102,13 +102,13 @@ pub fn ends_of(alloc: Global, bytes: &[u8]) -> Result<Box<Ends>, Memory> {
     Ok(Box::new(alloc, Ends { source, out, err })?)
 }
 
-/// How many bytes one more read gives: none where it fails.
+// How many bytes one more read gives: none where it fails.
 fn read_on(source: &mut MemSource) -> usize {
     let mut buffer = [0u8; 16];
     source.read(&mut buffer).unwrap_or(0)
 }
 
-/// How a call ended, of which one more read gives so many bytes.
+// How a call ended, of which one more read gives so many bytes.
 fn outcome_of(alloc: Global, ended: &Ended, unread: usize, ends: &Ends) -> Result<Outcome, Memory> {
     Ok(Outcome {
         status: ended.status,
@@ -128,7 +128,7 @@ fn owned(alloc: Global, words: &[&str]) -> Result<Vec<String>, Memory> {
     Ok(owned)
 }
 
-/// One call of the top call, and how it ended.
+// One call of the top call, and how it ended.
 fn ended_by<G: Gate, T: Team + FreeTeam<G>>(
     alloc: Global,
     words: &[&str],
@@ -152,7 +152,7 @@ fn ended_by<G: Gate, T: Team + FreeTeam<G>>(
     Ok(Box::new(alloc, ended)?)
 }
 
-/// Runs the words over these ends, by a team whose free workers pass a gate.
+// Runs the words over these ends, by a team whose free workers pass a gate.
 pub fn call_through<G: Gate, T: Team + FreeTeam<G>>(
     alloc: Global,
     words: &[&str],
@@ -168,7 +168,7 @@ pub fn call_through<G: Gate, T: Team + FreeTeam<G>>(
     outcome_of(alloc, &ended, unread, ends)
 }
 
-/// Runs the words over these ends.
+// Runs the words over these ends.
 pub fn call_into<R: AllocGlobal + Abort + Threads + Wait + Sync>(
     rt: &R,
     words: &[&str],
@@ -180,7 +180,7 @@ pub fn call_into<R: AllocGlobal + Abort + Threads + Wait + Sync>(
     call_through(rt.alloc(), words, ends, &OpenGate, &team)
 }
 
-/// Runs the words over a source of these bytes and two sinks, none of which fails.
+// Runs the words over a source of these bytes and two sinks, none of which fails.
 pub fn call<R: AllocGlobal + Abort + Threads + Wait + Sync>(
     rt: &R,
     words: &[&str],
@@ -192,7 +192,7 @@ pub fn call<R: AllocGlobal + Abort + Threads + Wait + Sync>(
     call_into(rt, words, &mut ends)
 }
 
-/// What a run of a text on one thread left.
+// What a run of a text on one thread left.
 pub fn ended_alone<R: AllocGlobal + Abort + Threads + Wait + Sync>(
     rt: &R,
     text: &str,
@@ -205,20 +205,20 @@ pub fn ended_alone<R: AllocGlobal + Abort + Threads + Wait + Sync>(
     ended_by(rt.alloc(), &words, &mut ends, &OpenGate, &team)
 }
 
-/// The run that a call kept.
+// The run that a call kept.
 pub fn kept_of(ended: &Ended) -> Result<&Kept, Fail> {
     Ok(ended.kept.as_ref().ok_or("nothing is kept")?)
 }
 
 impl Outcome {
-    /// That the call ended with this status and these bytes.
+    // That the call ended with this status and these bytes.
     pub fn expect(&self, rt: &impl Abort, status: u8, out: &str, err: &str) {
         self.expect_status(rt, status);
         expect_bytes(rt, self.out.as_slice(), out.as_bytes());
         expect_bytes(rt, self.err.as_slice(), err.as_bytes());
     }
 
-    /// That the call ended as the case says.
+    // That the call ended as the case says.
     pub fn expect_case(&self, rt: &impl Abort, case: &Case) {
         self.expect(rt, case.status, case.out, case.err);
         self.expect_events(rt, case.events);
@@ -241,7 +241,7 @@ impl Outcome {
     }
 }
 
-/// That these bytes are the ones that are wanted.
+// That these bytes are the ones that are wanted.
 pub fn expect_bytes(rt: &impl Abort, bytes: &[u8], want: &[u8]) {
     assert_eq!(rt; bytes, want);
 }

@@ -242,7 +242,7 @@ fn versions() -> &'static [Case] {
     VERSIONS
 }
 
-/// Texts that are refused, with the kind and the place of their refusal.
+// Texts that are refused, with the kind and the place of their refusal.
 pub fn refusals() -> [&'static [Case]; 5] {
     [
         texts_of_no_program(),

@@ -12,10 +12,10 @@ use std::test::Fail;
 use std::thread::Threads;
 use worked_texts::{Case, examples, runs};
 
-/// More bytes than the log of any of these runs has.
+// More bytes than the log of any of these runs has.
 const ROOM: u32 = 65_536;
 
-/// The words of a case, by another command.
+// The words of a case, by another command.
 fn words_with(
     alloc: Global,
     case: &Case,
@@ -28,7 +28,7 @@ fn words_with(
     Ok(words)
 }
 
-/// The words of a case, by another command and with so many workers.
+// The words of a case, by another command and with so many workers.
 pub fn words_by(
     alloc: Global,
     case: &Case,
@@ -41,7 +41,7 @@ pub fn words_by(
     Ok(words)
 }
 
-/// That a case ends in rounds, with so many workers, as it does on one thread.
+// That a case ends in rounds, with so many workers, as it does on one thread.
 fn expect_by<R: AllocGlobal + Abort + Threads + Wait + Sync>(
     rt: &R,
     case: &Case,
@@ -53,7 +53,7 @@ fn expect_by<R: AllocGlobal + Abort + Threads + Wait + Sync>(
     expect_made(rt, words.as_slice(), case, Made::Rounds)
 }
 
-/// That a case ends in rounds as it does on one thread, with each number of workers.
+// That a case ends in rounds as it does on one thread, with each number of workers.
 fn expect_in_rounds<R: AllocGlobal + Abort + Threads + Wait + Sync>(
     rt: &R,
     case: &Case,
@@ -65,7 +65,7 @@ fn expect_in_rounds<R: AllocGlobal + Abort + Threads + Wait + Sync>(
     expect_by(rt, case, "16")
 }
 
-/// That each of these cases ends in rounds as it does on one thread.
+// That each of these cases ends in rounds as it does on one thread.
 fn expect_all_in_rounds<R: AllocGlobal + Abort + Threads + Wait + Sync>(
     rt: &R,
     cases: &[Case],
@@ -78,7 +78,7 @@ fn expect_all_in_rounds<R: AllocGlobal + Abort + Threads + Wait + Sync>(
     Ok(())
 }
 
-/// Where no order is open, a text ends in rounds as it does on one thread.
+// Where no order is open, a text ends in rounds as it does on one thread.
 #[test]
 fn worked_texts_in_rounds(rt: HostRuntime) -> Result<(), Fail> {
     for cases in runs() {
@@ -87,7 +87,7 @@ fn worked_texts_in_rounds(rt: HostRuntime) -> Result<(), Fail> {
     Ok(())
 }
 
-/// The words of a case in rounds, with so many workers, that ask for its log.
+// The words of a case in rounds, with so many workers, that ask for its log.
 fn words_for_log(
     alloc: Global,
     case: &Case,
@@ -98,7 +98,7 @@ fn words_for_log(
     Ok(words)
 }
 
-/// The ends of a run that writes its log.
+// The ends of a run that writes its log.
 fn ends_for_log(alloc: Global, case: &Case) -> Result<Box<Ends>, Memory> {
     let source = case.source(alloc)?;
     let mut ends = ends_of(alloc, source.as_slice())?;
@@ -106,7 +106,7 @@ fn ends_for_log(alloc: Global, case: &Case) -> Result<Box<Ends>, Memory> {
     Ok(ends)
 }
 
-/// A run of a program in rounds, with so many workers, that writes its log.
+// A run of a program in rounds, with so many workers, that writes its log.
 fn logged<R: AllocGlobal + Abort + Threads + Wait + Sync>(
     rt: &R,
     case: &Case,
@@ -119,7 +119,7 @@ fn logged<R: AllocGlobal + Abort + Threads + Wait + Sync>(
     call_into(rt, words.as_slice(), &mut ends)
 }
 
-/// The log of a program, in rounds and with so many workers. The program ends quiet.
+// The log of a program, in rounds and with so many workers. The program ends quiet.
 fn log_of<R: AllocGlobal + Abort + Threads + Wait + Sync>(
     rt: &R,
     case: &Case,
@@ -132,7 +132,7 @@ fn log_of<R: AllocGlobal + Abort + Threads + Wait + Sync>(
     Ok(run.out)
 }
 
-/// That the log of a program, with so many workers, is this one.
+// That the log of a program, with so many workers, is this one.
 fn expect_log<R: AllocGlobal + Abort + Threads + Wait + Sync>(
     rt: &R,
     case: &Case,
@@ -146,7 +146,7 @@ fn expect_log<R: AllocGlobal + Abort + Threads + Wait + Sync>(
     Ok(())
 }
 
-/// A program has one log, whatever the number of workers.
+// A program has one log, whatever the number of workers.
 fn expect_one_log<R: AllocGlobal + Abort + Threads + Wait + Sync>(
     rt: &R,
     case: &Case,
@@ -158,7 +158,7 @@ fn expect_one_log<R: AllocGlobal + Abort + Threads + Wait + Sync>(
     expect_log(rt, case, "16", first.as_slice())
 }
 
-/// That each of these programs has one log.
+// That each of these programs has one log.
 fn expect_one_log_each<R: AllocGlobal + Abort + Threads + Wait + Sync>(
     rt: &R,
     cases: &[Case],

@@ -11,14 +11,14 @@ use std::alloc::{AllocError, Global};
 use std::process::Abort;
 use std::test::Fail;
 
-/// `def none in (process)`.
+// `def none in (process)`.
 fn one_level(alloc: Global, process: Proc) -> Result<Proc, Memory> {
     let mut members = Items::new(alloc);
     members.push(process)?;
     Proc::def(alloc, Items::new(alloc), Proc::par(members))
 }
 
-/// `def none in (def none in ( .. halt()))`, so many levels deep, each in a parallel composition.
+// `def none in (def none in ( .. halt()))`, so many levels deep, each in a parallel composition.
 fn nested(alloc: Global, levels: u32) -> Result<Proc, Memory> {
     let mut process = Proc::halt();
     for _level in 0..levels {
@@ -34,7 +34,7 @@ fn two_hundred_levels_are_copied_and_dropped(rt: HostRuntime) -> Result<(), Fail
     Ok(())
 }
 
-/// A received name and a place.
+// A received name and a place.
 fn two_names(alloc: Global) -> Result<Names, Memory> {
     let mut names: Names = Items::new(alloc);
     names.push(Name::Seen(3))?;
@@ -42,7 +42,7 @@ fn two_names(alloc: Global) -> Result<Names, Memory> {
     Ok(names)
 }
 
-/// That a copy has two names, those of the list.
+// That a copy has two names, those of the list.
 fn expect_names(rt: &impl Abort, copy: &Names, names: &Names) {
     assert_eq!(rt; copy.len(), 2);
     assert_eq!(rt; copy.as_slice(), names.as_slice());
@@ -56,7 +56,7 @@ fn a_list_and_its_copy(rt: HostRuntime) -> Result<(), Fail> {
     Ok(())
 }
 
-/// `b[ none : go(t, k) ]`, with a binder for the place, and for the target and the continuation.
+// `b[ none : go(t, k) ]`, with a binder for the place, and for the target and the continuation.
 fn a_place(alloc: Global) -> Result<Defs, Memory> {
     let body = Proc::go(Ref::Binder(7), Ref::Binder(8));
     let place = Defn::place(alloc, Ref::Binder(4), Items::new(alloc), body)?;
@@ -70,7 +70,7 @@ fn copied_place(alloc: Global) -> Result<Defs, Memory> {
     defs.copy(alloc)
 }
 
-/// The names of a place and of the move that is its body.
+// The names of a place and of the move that is its body.
 fn names_of(place: &Defn) -> Option<(Ref, Ref, Ref)> {
     match place.node() {
         DefnNode::Place { name, body, .. } => match body.node() {
@@ -92,7 +92,7 @@ fn a_place_and_its_copy(rt: HostRuntime) -> Result<(), Fail> {
     Ok(())
 }
 
-/// The first message that the last event took, if it is a reaction.
+// The first message that the last event took, if it is a reaction.
 fn last_taken(journal: &Journal) -> Option<u64> {
     match journal.as_slice().last() {
         Some(Event::React { took, .. }) => took.as_slice().first().map(|atom| atom.k),
@@ -100,7 +100,7 @@ fn last_taken(journal: &Journal) -> Option<u64> {
     }
 }
 
-/// That a journal has ten events, the last of which took the message 12.
+// That a journal has ten events, the last of which took the message 12.
 fn expect_journal(rt: &impl Abort, journal: &Journal) {
     assert_eq!(rt; journal.len(), 10);
     assert_eq!(rt; last_taken(journal), Some(12));
@@ -114,7 +114,7 @@ fn a_journal_and_its_copy(rt: HostRuntime) -> Result<(), Fail> {
     Ok(())
 }
 
-/// An observable with one name.
+// An observable with one name.
 fn one_observable(alloc: Global) -> Result<Outs, Memory> {
     let args = Items::from_slice(alloc, &[Name::Seen(3)])?;
     let mut outs = Items::new(alloc);
@@ -127,7 +127,7 @@ fn copied_observable(alloc: Global) -> Result<Outs, Memory> {
     outs.copy(alloc)
 }
 
-/// That an observable is that one.
+// That an observable is that one.
 fn expect_observable(rt: &impl Abort, out: &Out) {
     assert_eq!(rt; out.on, 5);
     assert_eq!(rt; out.args.as_slice(), [Name::Seen(3)].as_slice());
@@ -146,7 +146,7 @@ fn copied_program(alloc: Global, program: &Program) -> Result<Box<Program>, Memo
     Ok(Box::new(alloc, copy)?)
 }
 
-/// The spellings of a program's binders, one behind the other.
+// The spellings of a program's binders, one behind the other.
 fn spellings(alloc: Global, program: &Program) -> Result<Vec<u8>, AllocError> {
     let mut spell = Vec::new(alloc);
     for text in program.spell.as_slice() {
@@ -155,14 +155,14 @@ fn spellings(alloc: Global, program: &Program) -> Result<Vec<u8>, AllocError> {
     Ok(spell)
 }
 
-/// That the site defines two of a program's binders, and that one name is observed.
+// That the site defines two of a program's binders, and that one name is observed.
 fn expect_counts(rt: &impl Abort, program: &Program) {
     assert_eq!(rt; program.tops, 2);
     let declared = program.seen.as_slice().first();
     assert_eq!(rt; declared.map(|declared| declared.count), Some(1));
 }
 
-/// That a program has three binders, two of which the site defines, and one observed name.
+// That a program has three binders, two of which the site defines, and one observed name.
 fn expect_program(rt: &impl Abort, alloc: Global, program: &Program) -> Result<(), Fail> {
     expect_counts(rt, program);
     let spell = spellings(alloc, program)?;
@@ -170,7 +170,7 @@ fn expect_program(rt: &impl Abort, alloc: Global, program: &Program) -> Result<(
     Ok(())
 }
 
-/// The names that the site defines are the first two binders, and the received name is the third.
+// The names that the site defines are the first two binders, and the received name is the third.
 #[test]
 fn the_program_of_a_text(rt: HostRuntime) -> Result<(), Fail> {
     let ended = ended_alone(&rt, "observe out/1; site s [ x(u) => out(u) : x(s) ]")?;
@@ -178,7 +178,7 @@ fn the_program_of_a_text(rt: HostRuntime) -> Result<(), Fail> {
     expect_program(&rt, rt.alloc(), &copy)
 }
 
-/// The rule of the first event, and the first message that it took.
+// The rule of the first event, and the first message that it took.
 fn first_reaction(journal: &Journal) -> Option<(RuleId, AtomId)> {
     match journal.as_slice().first() {
         Some(Event::React { rule, took }) => took.as_slice().first().map(|atom| (*rule, *atom)),
@@ -186,7 +186,7 @@ fn first_reaction(journal: &Journal) -> Option<(RuleId, AtomId)> {
     }
 }
 
-/// The root has the number 0 and the channel 1, so that the rule is 0.2 and the message 0.3.
+// The root has the number 0 and the channel 1, so that the rule is 0.2 and the message 0.3.
 #[test]
 fn the_kept_event(rt: HostRuntime) -> Result<(), Fail> {
     let ended = ended_alone(&rt, "observe out/1; site s [ x(u) => out(u) : x(s) ]")?;
@@ -197,8 +197,8 @@ fn the_kept_event(rt: HostRuntime) -> Result<(), Fail> {
     Ok(())
 }
 
-/// How many observables, and how many messages and requests, the replay of a kept journal ends
-/// with.
+// How many observables, and how many messages and requests, the replay of a kept journal ends
+// with.
 fn replayed(alloc: Global, kept: &Kept) -> Result<Option<(usize, usize)>, Memory> {
     let reached = replay(alloc, &kept.program, &kept.journal)?;
     Ok(reached.map(|solution| (solution.trace.len(), solution.atoms.len())))

@@ -9,7 +9,7 @@ use std::sync::Wait;
 use std::test::Fail;
 use std::thread::Threads;
 
-/// That no byte of the source is taken, and that the call ends with this status.
+// That no byte of the source is taken, and that the call ends with this status.
 fn expect_unread<R: AllocGlobal + Abort + Threads + Wait + Sync>(
     rt: &R,
     words: &[&str],
@@ -23,7 +23,7 @@ fn expect_unread<R: AllocGlobal + Abort + Threads + Wait + Sync>(
     Ok(())
 }
 
-/// Words, and the status that they end with.
+// Words, and the status that they end with.
 const UNREAD: &[(&[&str], u8)] = &[
     (&[], 2),
     (&["fly"], 2),
@@ -48,7 +48,7 @@ fn the_source_is_unread(rt: HostRuntime) -> Result<(), Fail> {
     Ok(())
 }
 
-/// How the ring of this size ends with no event left.
+// How the ring of this size ends with no event left.
 fn ring_of<R: AllocGlobal + Abort + Threads + Wait + Sync>(
     rt: &R,
     size: u32,
@@ -59,7 +59,7 @@ fn ring_of<R: AllocGlobal + Abort + Threads + Wait + Sync>(
     call(rt, &["gen", size.as_str(), "--budget", "0"], b"")
 }
 
-/// That a ring with no event left is stopped.
+// That a ring with no event left is stopped.
 fn expect_stopped<R: AllocGlobal + Abort + Threads + Wait + Sync>(
     rt: &R,
     size: u32,
@@ -71,7 +71,7 @@ fn expect_stopped<R: AllocGlobal + Abort + Threads + Wait + Sync>(
     Ok(())
 }
 
-/// No ring has a refusal: with no event left each of them is stopped.
+// No ring has a refusal: with no event left each of them is stopped.
 #[test]
 fn rings_of_all_sizes(rt: HostRuntime) -> Result<(), Fail> {
     for size in 1u32..65 {

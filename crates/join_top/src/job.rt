@@ -9,7 +9,7 @@ use join_words::Asked;
 use std::alloc::Global;
 use text_program::program_of;
 
-/// What a run begins with: what the words ask for, the text that is run, and its program.
+// What a run begins with: what the words ask for, the text that is run, and its program.
 #[derive(Drop)]
 pub struct Begun {
     pub asked: Asked,
@@ -17,19 +17,19 @@ pub struct Begun {
     pub program: Program,
 }
 
-/// Why there is no job.
+// Why there is no job.
 pub enum Stop {
-    /// The words are not of the line's form.
+    // The words are not of the line's form.
     Form,
-    /// There is no memory for what the words ask for.
+    // There is no memory for what the words ask for.
     Memory,
-    /// The source gives no text.
+    // The source gives no text.
     Source(ReadEnd),
-    /// The text has no program.
+    // The text has no program.
     Text(Front),
 }
 
-/// Reads what the words ask for, the text that is run, and its program.
+// Reads what the words ask for, the text that is run, and its program.
 pub fn read_job<S: Source>(alloc: Global, words: &[String], source: &mut S) -> Result<Begun, Stop>
     ensures job { IfOk result (IsJob S words.now S.left source.old source.new) }
     ensures stop { IfErr result (IsStop words.now S.left S.faults source.old source.new) }

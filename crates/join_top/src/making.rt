@@ -18,7 +18,7 @@ use site_runner::{Done, FreeTeam, Team, alone, one_schedule};
 use std::alloc::Global;
 use trace_history::Book;
 
-/// Makes the run of the program that is asked for.
+// Makes the run of the program that is asked for.
 pub fn make<G: Gate, T: Team + FreeTeam<G>>(
     alloc: Global,
     asked: &Asked,
@@ -48,7 +48,7 @@ pub fn one_run()
     schedules_of_rounds_are_one();
 }
 
-/// The run on one thread, from the program's book.
+// The run on one thread, from the program's book.
 fn on_one_thread(alloc: Global, asked: &Asked, program: &Program) -> Result<Done, Memory>
     ensures { IfOk result (IsRunBy by.Alone asked.now.workers asked.now.budget program.now) }
 {
@@ -76,7 +76,7 @@ pub fn begin(alloc: Global, program: &Program) -> Result<(Net, Book), Memory>
     }
 }
 
-/// The network of a program's code, before any event.
+// The network of a program's code, before any event.
 fn net_of(alloc: Global, program: &Program) -> Result<Net, Memory>
     ensures { IfOk result (IsBegun program.now) }
 {
@@ -87,7 +87,7 @@ fn net_of(alloc: Global, program: &Program) -> Result<Net, Memory>
     net
 }
 
-/// The run in rounds, from the beginning.
+// The run in rounds, from the beginning.
 fn in_rounds<T: Team>(
     alloc: Global,
     program: &Program,
@@ -106,7 +106,7 @@ fn in_rounds<T: Team>(
     team.rounds(alloc, net, book, workers, budget)
 }
 
-/// The run on free threads, from the beginning.
+// The run on free threads, from the beginning.
 fn on_free_threads<G, T: FreeTeam<G>>(
     alloc: Global,
     program: &Program,

@@ -9,8 +9,8 @@ use std::alloc::Global;
 use trace_history::Book;
 use trace_text::{Ending, log_bytes, push_all, push_ending, push_number, trace_bytes};
 
-/// What is printed of a run: of a ring its counts, and else its log where that is asked for, or its
-/// trace.
+// What is printed of a run: of a ring its counts, and else its log where that is asked for, or its
+// trace.
 pub fn printed(
     alloc: Global,
     asked: &Asked,
@@ -33,7 +33,7 @@ pub fn printed(
     }
 }
 
-/// How many events and observables there were, and how the run ended.
+// How many events and observables there were, and how the run ended.
 fn counts_text(alloc: Global, events: u64, observables: u64, ending: Ending) -> Result<Text, Memory>
     ensures { IfOk result (λ text. text ≡ counts_text events observables ending) }
 {

@@ -21,7 +21,7 @@ pub struct Kept {
     pub how: How,
 }
 
-/// A run, its text, and how it ended.
+// A run, its text, and how it ended.
 #[derive(Drop)]
 pub struct Ran {
     pub kept: Kept,
@@ -29,7 +29,7 @@ pub struct Ran {
     pub ending: Ending,
 }
 
-/// How a run ended, by whether nothing can happen any more.
+// How a run ended, by whether nothing can happen any more.
 fn ending_of(quiet: bool) -> Ending
     ensures { result ≡ ending_of quiet }
 {
@@ -40,7 +40,7 @@ fn ending_of(quiet: bool) -> Ending
     }
 }
 
-/// Runs the program of a source as it is asked for.
+// Runs the program of a source as it is asked for.
 pub fn run<G: Gate, T: Team + FreeTeam<G>>(
     alloc: Global,
     asked: &Asked,

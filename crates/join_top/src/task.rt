@@ -13,10 +13,10 @@ use join_words::{Asked, WordEnd, read_words};
 use ring_source::ring_text;
 use std::alloc::Global;
 
-/// The most bytes of a text.
+// The most bytes of a text.
 const MOST_BYTES: u32 = 1_048_576;
 
-/// What the words ask for. None where they are not of the line's form.
+// What the words ask for. None where they are not of the line's form.
 pub fn task(alloc: Global, words: &[String]) -> Result<Option<Asked>, Memory>
     ensures task { IfOk result (λ asked. asked ≡ task words.now) }
     ensures within { IfOk result (λ asked. IfSome asked IsWithin) }
@@ -29,7 +29,7 @@ pub fn task(alloc: Global, words: &[String]) -> Result<Option<Asked>, Memory>
     }
 }
 
-/// The text that is run: that of the ring of this size, or else what the source gives.
+// The text that is run: that of the ring of this size, or else what the source gives.
 pub fn text_run<S: Source>(
     alloc: Global,
     ring: Option<u32>,

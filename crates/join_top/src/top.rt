@@ -51,8 +51,8 @@ pub struct Ended {
     pub kept: Option<Kept>,
 }
 
-/// What the words want: something of a log, a source judged by its sorts, or something else or
-/// nothing; or memory ran out.
+// What the words want: something of a log, a source judged by its sorts, or something else or
+// nothing; or memory ran out.
 enum Wanted {
     Log(Ask),
     Sorts,
@@ -143,7 +143,7 @@ pub fn run_join<S: Source, K: Sink, E: Sink, G: Gate, T: Team + FreeTeam<G>>(
     }
 }
 
-/// What the words want, as far as there was memory to read them.
+// What the words want, as far as there was memory to read them.
 fn read_wanted(alloc: Global, words: &[String]) -> Wanted
     ensures { IsWanted words.now result }
 {
@@ -154,7 +154,7 @@ fn read_wanted(alloc: Global, words: &[String]) -> Wanted
     }
 }
 
-/// What a job wants.
+// What a job wants.
 fn wanted_of(job: Job) -> Wanted
     ensures { IsWantedOf job result }
 {
@@ -166,7 +166,7 @@ fn wanted_of(job: Job) -> Wanted
     }
 }
 
-/// The same where a run is wanted, or nothing. It reads the words once more.
+// The same where a run is wanted, or nothing. It reads the words once more.
 fn run_program<S: Source, K: Sink, E: Sink, G: Gate, T: Team + FreeTeam<G>>(
     alloc: Global,
     words: &[String],
@@ -207,7 +207,7 @@ fn run_program<S: Source, K: Sink, E: Sink, G: Gate, T: Team + FreeTeam<G>>(
     }
 }
 
-/// Runs a job, and writes the text of its run and the line that goes with its end.
+// Runs a job, and writes the text of its run and the line that goes with its end.
 fn run_job<K: Sink, E: Sink, G: Gate, T: Team + FreeTeam<G>>(
     alloc: Global,
     job: &Begun,
@@ -244,7 +244,7 @@ fn run_job<K: Sink, E: Sink, G: Gate, T: Team + FreeTeam<G>>(
     }
 }
 
-/// Writes the line that tells why there is no job.
+// Writes the line that tells why there is no job.
 fn tell_stop<E: Sink>(alloc: Global, err: &mut E, stop: Stop) -> Ended
     ensures kept { result.kept ≡ None }
     ensures status { StatusOf stop result.status }
@@ -263,7 +263,7 @@ fn tell_stop<E: Sink>(alloc: Global, err: &mut E, stop: Stop) -> Ended
     }
 }
 
-/// Writes the text of a run, and answers the status of its end.
+// Writes the text of a run, and answers the status of its end.
 fn write_text<K: Sink>(out: &mut K, ran: &Ran) -> u8
     ensures status { GoesWith result ran.now.ending }
     ensures written { IsWritten result ran.now.text (K.held out.old) (K.held out.new) }
@@ -278,7 +278,7 @@ fn write_text<K: Sink>(out: &mut K, ran: &Ran) -> u8
     }
 }
 
-/// Writes the line of a text that is too long, which takes no memory.
+// Writes the line of a text that is too long, which takes no memory.
 fn refuse_long<E: Sink>(err: &mut E) -> Ended
     ensures ended { result ≡ record { status = 1; kept = None } }
     ensures line { Gains E.held E.faults err.old err.new (line_of_refusal kind.Lex1 1048576) }
@@ -290,7 +290,7 @@ fn refuse_long<E: Sink>(err: &mut E) -> Ended
     }
 }
 
-/// Writes the line of a refusal.
+// Writes the line of a refusal.
 fn refuse<E: Sink>(alloc: Global, err: &mut E, kind: Kind, place: u32) -> Ended
     ensures kept { result.kept ≡ None }
     ensures status { (result.status ≡ 1) ⊎ (result.status ≡ 6) }
@@ -310,7 +310,7 @@ fn refuse<E: Sink>(alloc: Global, err: &mut E, kind: Kind, place: u32) -> Ended
     }
 }
 
-/// Writes the line that goes with a status.
+// Writes the line that goes with a status.
 fn end<E: Sink>(err: &mut E, status: u8, kept: Option<Kept>) -> Ended
     ensures ended { result ≡ record { status = status; kept = kept } }
     ensures line { Gains E.held E.faults err.old err.new (line_of status) }

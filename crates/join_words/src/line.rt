@@ -11,7 +11,7 @@ use clap::error::ErrorKind;
 use clap::{Arg, ArgAction, ArgMatches, Command, Error};
 use std::alloc::{AllocError, Global};
 
-/// The text of each part of a line that was given.
+// The text of each part of a line that was given.
 #[derive(Clone, Copy)]
 pub struct LineTexts<'a> {
     pub mode: Option<&'a str>,
@@ -22,7 +22,7 @@ pub struct LineTexts<'a> {
     pub log: bool,
 }
 
-/// An option that takes a value, read back by its name.
+// An option that takes a value, read back by its name.
 fn valued_option<'a>(alloc: Global, name: &'a str) -> Arg<'a>
     ensures rule { rule_of result ≡ optional name.entry.now }
     ensures local { result.global ≡ false }
@@ -30,7 +30,7 @@ fn valued_option<'a>(alloc: Global, name: &'a str) -> Arg<'a>
     Arg::new(alloc, name).long(name)
 }
 
-/// The flag of the log.
+// The flag of the log.
 fn log_flag<'a>(alloc: Global) -> Arg<'a>
     ensures rule { rule_of result ≡ flagged (codes "log") }
     ensures local { result.global ≡ false }
@@ -40,7 +40,7 @@ fn log_flag<'a>(alloc: Global) -> Arg<'a>
         .action(ArgAction::SetTrue)
 }
 
-/// A command without parts.
+// A command without parts.
 fn bare_command<'a>(alloc: Global) -> Command<'a>
     ensures { app_of result ≡ bare }
 {
@@ -49,7 +49,7 @@ fn bare_command<'a>(alloc: Global) -> Command<'a>
         .disable_help_flag(true)
 }
 
-/// A command of the two plain words.
+// A command of the two plain words.
 fn plain_command<'a>(alloc: Global) -> Result<Command<'a>, AllocError>
     ensures { IfOk result (λ command. app_of command ≡ plain_app) }
 {
@@ -58,7 +58,7 @@ fn plain_command<'a>(alloc: Global) -> Result<Command<'a>, AllocError>
         .arg(Arg::new(alloc, "ring"))
 }
 
-/// This command with the options that take a value.
+// This command with the options that take a value.
 fn with_options<'a>(alloc: Global, command: Command<'a>) -> Result<Command<'a>, AllocError>
     ensures { IfOk result (λ c. app_of c ≡ options_app (app_of command.entry)) }
 {
@@ -68,7 +68,7 @@ fn with_options<'a>(alloc: Global, command: Command<'a>) -> Result<Command<'a>, 
         .arg(valued_option(alloc, "by"))
 }
 
-/// The parts of a line: the first plain word, the second, the options and the flag.
+// The parts of a line: the first plain word, the second, the options and the flag.
 fn line_command<'a>(alloc: Global) -> Result<Command<'a>, AllocError>
     ensures { IfOk result (λ command. app_of command ≡ line_app) }
 {
@@ -86,7 +86,7 @@ fn end_of(error: &Error) -> WordEnd
     }
 }
 
-/// The words as texts, in their order.
+// The words as texts, in their order.
 pub fn texts_of<'a>(alloc: Global, words: &'a [String]) -> Result<Vec<&'a str>, AllocError>
     ensures same { IfOk result (λ texts.
         map (λ s. s.now) texts.items ≡ map string_bytes words.entry.now) }
@@ -99,7 +99,7 @@ pub fn texts_of<'a>(alloc: Global, words: &'a [String]) -> Result<Vec<&'a str>, 
     Ok(texts)
 }
 
-/// The texts of the line that these matches have.
+// The texts of the line that these matches have.
 fn line_texts<'a>(matches: &ArgMatches<'a>) -> LineTexts<'a>
     ensures { Shows (found_of matches.now) result }
 {
@@ -113,7 +113,7 @@ fn line_texts<'a>(matches: &ArgMatches<'a>) -> LineTexts<'a>
     }
 }
 
-/// The texts of the line that these words write. `Form` comes only where the words ask for nothing.
+// The texts of the line that these words write. `Form` comes only where the words ask for nothing.
 pub fn texts_given<'a>(alloc: Global, words: &'a [&'a str]) -> Result<LineTexts<'a>, WordEnd>
     requires { All IsUtf8 (map (λ s. s.now) words.now) }
     ensures { Gives (map (λ s. s.now) words.entry.now) result }

@@ -4,7 +4,7 @@ ghost use Rattle.std.specs.List.{list_all};
 ghost use Rattle.std.specs.Str.Parse.{digits_value};
 ghost use Rattle.join_words.specs.Asks.{is_digit, is_number, number_in, number_or};
 
-/// The most digits that a number has.
+// The most digits that a number has.
 const MOST_DIGITS: usize = 7;
 
 fn are_digits(bytes: &[u8]) -> bool
@@ -30,7 +30,7 @@ fn value_of_digits(digits: &[u8]) -> u32
     value
 }
 
-/// The number that this text writes, where it writes one from `low` to `high`.
+// The number that this text writes, where it writes one from `low` to `high`.
 pub fn number(text: &str, low: u32, high: u32) -> Option<u32>
     ensures number { result ≡ number_in low high text.now }
     ensures within { IfSome result (λ n. (low ≤ n) × (n ≤ high)) }
@@ -46,7 +46,7 @@ pub fn number(text: &str, low: u32, high: u32) -> Option<u32>
     }
 }
 
-/// The number that this text writes, as `number` has it, and `default` where there is no text.
+// The number that this text writes, as `number` has it, and `default` where there is no text.
 pub fn number_unless(text: Option<&str>, default: u32, low: u32, high: u32) -> Option<u32>
     requires { (low ≤ default) × (default ≤ high) }
     ensures number { result ≡ number_or default low high (option_map (λ s. s.now) text.entry) }

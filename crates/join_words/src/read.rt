@@ -10,19 +10,19 @@ use crate::line::{LineTexts, texts_given, texts_of};
 use crate::number::{number, number_unless};
 use std::alloc::Global;
 
-/// The budget of events where none is given.
+// The budget of events where none is given.
 const DEFAULT_BUDGET: u32 = 100_000;
 
-/// The largest budget of events.
+// The largest budget of events.
 const MOST_EVENTS: u32 = 4_000_000;
 
-/// The number of threads where none is given.
+// The number of threads where none is given.
 const DEFAULT_WORKERS: u32 = 4;
 
-/// The most threads.
+// The most threads.
 const MOST_WORKERS: u32 = 16;
 
-/// The most sites of a ring.
+// The most sites of a ring.
 const MOST_SITES: u32 = 64;
 
 fn named(text: &str) -> Option<By>
@@ -45,7 +45,7 @@ fn named_unless(text: Option<&str>) -> Option<By>
     }
 }
 
-/// What a line asks for whose mode is `gen`.
+// What a line asks for whose mode is `gen`.
 fn ring_asked(given: &LineTexts, budget: u32, workers: u32) -> Option<Asked>
     requires { AreNumbers budget workers }
     ensures asked { result ≡ with_gen (line_given given.now)
@@ -67,7 +67,7 @@ fn ring_asked(given: &LineTexts, budget: u32, workers: u32) -> Option<Asked>
     })
 }
 
-/// The command of this name that takes no size and no option.
+// The command of this name that takes no size and no option.
 fn bare_job(text: &str) -> Option<Job>
     ensures { result ≡ bare_job text.now }
 {
@@ -79,7 +79,7 @@ fn bare_job(text: &str) -> Option<Job>
     }
 }
 
-/// What a line asks for whose mode is such a command.
+// What a line asks for whose mode is such a command.
 fn bare_asked(given: &LineTexts, job: Job) -> Option<Asked>
     ensures asked { result ≡ bare (line_given given.now) job }
     ensures within { IfSome result IsWithin }
@@ -97,7 +97,7 @@ fn bare_asked(given: &LineTexts, job: Job) -> Option<Asked>
     })
 }
 
-/// What a line asks for whose mode is a run's.
+// What a line asks for whose mode is a run's.
 fn run_asked(given: &LineTexts, mode: &str, budget: u32, workers: u32) -> Option<Asked>
     requires { AreNumbers budget workers }
     ensures asked { result ≡ run_as (line_given given.now) mode.now budget workers }
@@ -117,7 +117,7 @@ fn run_asked(given: &LineTexts, mode: &str, budget: u32, workers: u32) -> Option
     })
 }
 
-/// What a line asks for that has another mode than `gen`.
+// What a line asks for that has another mode than `gen`.
 fn program_asked(given: &LineTexts, mode: &str, budget: u32, workers: u32) -> Option<Asked>
     requires { AreNumbers budget workers }
     ensures asked { result ≡ without_gen (line_given given.now)
@@ -133,7 +133,7 @@ fn program_asked(given: &LineTexts, mode: &str, budget: u32, workers: u32) -> Op
     }
 }
 
-/// What a line of these texts asks for.
+// What a line of these texts asks for.
 fn asked_of(given: &LineTexts) -> Option<Asked>
     ensures asked { result ≡ judged (line_given given.now) }
     ensures within { IfSome result IsWithin }

@@ -62,7 +62,7 @@ pub fn judge_log<S: Source, K: Sink, E: Sink>(
     judge(alloc, ask, source, out, err)
 }
 
-/// The same, as one of the ways in which it ends.
+// The same, as one of the ways in which it ends.
 fn judge<S: Source, K: Sink, E: Sink>(
     alloc: Global,
     ask: Ask,
@@ -84,7 +84,7 @@ fn judge<S: Source, K: Sink, E: Sink>(
     }
 }
 
-/// Writes what is told of a log, or the line that tells why there is nothing to tell.
+// Writes what is told of a log, or the line that tells why there is nothing to tell.
 fn tell_log<K: Sink, E: Sink>(
     alloc: Global,
     told: Result<Told, Front>,
@@ -102,7 +102,7 @@ fn tell_log<K: Sink, E: Sink>(
     }
 }
 
-/// Writes what is told, and answers the status that goes with it.
+// Writes what is told, and answers the status that goes with it.
 fn write_told<K: Sink, E: Sink>(out: &mut K, err: &mut E, told: &Told) -> u8
     ensures { Tells told.now.text told.now.status (K.held out.old) (K.held out.new)
         (Rose (K.faults out.old) (K.faults out.new))
@@ -114,7 +114,7 @@ fn write_told<K: Sink, E: Sink>(out: &mut K, err: &mut E, told: &Told) -> u8
     }
 }
 
-/// Writes the line that tells why there is no log.
+// Writes the line that tells why there is no log.
 fn tell_stop<E: Sink>(alloc: Global, err: &mut E, stop: LogStop) -> u8
     ensures { TellsStop stop (Gains E.held E.faults err.old err.new) result }
 {
@@ -127,7 +127,7 @@ fn tell_stop<E: Sink>(alloc: Global, err: &mut E, stop: LogStop) -> u8
     }
 }
 
-/// Writes the line of bytes that are too many, which takes no memory.
+// Writes the line of bytes that are too many, which takes no memory.
 fn too_long<E: Sink>(err: &mut E) -> u8
     ensures status { result ≡ 8 }
     ensures line { Gains E.held E.faults err.old err.new (codes "log 2 at 134217728\n") }
@@ -136,7 +136,7 @@ fn too_long<E: Sink>(err: &mut E) -> u8
     NO_LOG
 }
 
-/// Writes the line of bytes that are no log.
+// Writes the line of bytes that are no log.
 fn no_log<E: Sink>(alloc: Global, err: &mut E, place: u64) -> u8
     ensures { Refuses 8 (wrong_line place) (Gains E.held E.faults err.old err.new) result }
 {
@@ -149,7 +149,7 @@ fn no_log<E: Sink>(alloc: Global, err: &mut E, place: u64) -> u8
     }
 }
 
-/// The line of bytes that are no log.
+// The line of bytes that are no log.
 fn wrong_line(alloc: Global, place: u64) -> Result<Text, Memory>
     ensures { IfOk result (λ line. line ≡ wrong_line place) }
 {
@@ -160,7 +160,7 @@ fn wrong_line(alloc: Global, place: u64) -> Result<Text, Memory>
     Ok(line)
 }
 
-/// Writes the line of a refusal.
+// Writes the line of a refusal.
 fn refuse<E: Sink>(alloc: Global, err: &mut E, kind: Kind, place: u32) -> u8
     ensures { Refuses 1 (line_of_refusal kind place) (Gains E.held E.faults err.old err.new) result }
 {
@@ -173,7 +173,7 @@ fn refuse<E: Sink>(alloc: Global, err: &mut E, kind: Kind, place: u32) -> u8
     }
 }
 
-/// Writes the line that goes with a status.
+// Writes the line that goes with a status.
 fn end<E: Sink>(err: &mut E, status: u8) -> u8
     ensures status { result ≡ status }
     ensures line { Gains E.held E.faults err.old err.new (line_of status) }

@@ -11,18 +11,18 @@ use join_base::{ReadEnd, Source, read_all};
 use std::alloc::Global;
 use trace_text::{Log, LogEnd, into_log};
 
-/// The most bytes of a log.
+// The most bytes of a log.
 const MOST_BYTES: u32 = 134_217_728;
 
-/// Why there is no log.
+// Why there is no log.
 pub enum LogStop {
-    /// The source gives no bytes of a log.
+    // The source gives no bytes of a log.
     Source(ReadEnd),
-    /// The bytes are no log.
+    // The bytes are no log.
     Log(LogEnd),
 }
 
-/// The log that a source gives. Its bytes are let go before it is answered.
+// The log that a source gives. Its bytes are let go before it is answered.
 pub fn log_of<S: Source>(alloc: Global, source: &mut S) -> Result<Log, LogStop>
     ensures log { IfOk result (λ log. OnTold (S.left source.old) (Spells (parts log))) }
     ensures short { IfOk result (λ log. length log.events < 2 ^ 32 - 1) }
@@ -35,7 +35,7 @@ pub fn log_of<S: Source>(alloc: Global, source: &mut S) -> Result<Log, LogStop>
     }
 }
 
-/// The log that bytes spell. They are let go as they are read.
+// The log that bytes spell. They are let go as they are read.
 fn log_in(alloc: Global, bytes: Text) -> Result<Log, LogStop>
     ensures log { IfOk result (λ log. Spells (parts log) bytes) }
     ensures short { IfOk result (λ log. length log.events < 2 ^ 32 - 1) }

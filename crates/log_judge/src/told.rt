@@ -17,14 +17,14 @@ const YES: u8 = 0;
 
 const NO: u8 = 7;
 
-/// A text, and the status that goes with it.
+// A text, and the status that goes with it.
 #[derive(Drop)]
 pub struct Told {
     pub text: Text,
     pub status: u8,
 }
 
-/// What is told of a log, which is let go; or why its source has no program.
+// What is told of a log, which is let go; or why its source has no program.
 pub fn told_of(alloc: Global, ask: Ask, log: Log) -> Result<Told, Front>
     requires { length log.events < 2 ^ 32 - 1 }
     ensures told { IfOk result (λ told. IsJudgedAs ask (parts log) told.text told.status) }
@@ -35,7 +35,7 @@ pub fn told_of(alloc: Global, ask: Ask, log: Log) -> Result<Told, Front>
     Ok(tell(alloc, ask, &verdict)?)
 }
 
-/// The text that tells a verdict, and the status that goes with it.
+// The text that tells a verdict, and the status that goes with it.
 fn tell(alloc: Global, ask: Ask, verdict: &Verdict) -> Result<Told, Memory>
     ensures { IfOk result (λ told. IsTold ask verdict.now told.text told.status) }
 {
@@ -55,7 +55,7 @@ fn tell(alloc: Global, ask: Ask, verdict: &Verdict) -> Result<Told, Memory>
     }
 }
 
-/// The text that tells a yes: that, or why what the run left is left.
+// The text that tells a yes: that, or why what the run left is left.
 fn yes_text(alloc: Global, ask: Ask, book: &Book) -> Result<Text, Memory>
     ensures { IfOk result (IsYes ask book.now) }
 {
@@ -72,7 +72,7 @@ fn yes_text(alloc: Global, ask: Ask, book: &Book) -> Result<Text, Memory>
     }
 }
 
-/// The text that tells a no: what is wrong, and where.
+// The text that tells a no: what is wrong, and where.
 fn no_text(alloc: Global, what: &[u8], place: u64) -> Result<Text, Memory>
     ensures { IfOk result (λ text. text ≡ no_text what.now place) }
 {

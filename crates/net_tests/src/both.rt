@@ -9,10 +9,10 @@ use std::alloc::Global;
 use trace_history::{Book, Commit};
 use worked_programs::program_of;
 
-/// More events than any run of these tests has.
+// More events than any run of these tests has.
 const MOST_EVENTS: u32 = 10_000;
 
-/// The network of a program, a book of the same program, and how many sites and guards there are.
+// The network of a program, a book of the same program, and how many sites and guards there are.
 #[derive(Drop)]
 pub struct Both {
     pub net: Box<Net>,
@@ -21,8 +21,8 @@ pub struct Both {
     pub guards: u32,
 }
 
-/// What became of a choice: it was made, and the book made its event too, where it is one; it isn't
-/// enabled, or there are too many events; the book doesn't make its event; or there was no memory.
+// What became of a choice: it was made, and the book made its event too, where it is one; it isn't
+// enabled, or there are too many events; the book doesn't make its event; or there was no memory.
 #[derive(Clone, Copy, PartialEq, Eq)]
 pub enum Step {
     Made,
@@ -59,14 +59,14 @@ fn both_with(alloc: Global, program: &Program, code: &Code) -> Option<Both>
     })
 }
 
-/// The network of a text after its opening.
+// The network of a text after its opening.
 pub fn net_of(alloc: Global, text: &[u8]) -> Option<Box<Net>> {
     let program = program_of(alloc, text).ok()?;
     let code = Box::new(alloc, compile(alloc, &program).ok()?).ok()?;
     net_with(alloc, &program, &code)
 }
 
-/// The network and the book of a text, each after its opening.
+// The network and the book of a text, each after its opening.
 pub fn both_of(alloc: Global, text: &[u8]) -> Option<Both> {
     let program = program_of(alloc, text).ok()?;
     let code = Box::new(alloc, compile(alloc, &program).ok()?).ok()?;
@@ -101,7 +101,7 @@ fn same_outs(one: &[Out], other: &[Out]) -> bool {
 }
 
 impl Both {
-    /// Makes a choice, and its event in the book.
+    // Makes a choice, and its event in the book.
     pub fn make(&mut self, alloc: Global, choice: &Choice) -> Step {
         if self.net.events() >= MOST_EVENTS || !self.net.enabled(choice) {
             return Step::Not;
@@ -113,7 +113,7 @@ impl Both {
         }
     }
 
-    /// Delivers what is under way, the first packet first. No event comes of it.
+    // Delivers what is under way, the first packet first. No event comes of it.
     pub fn deliver_all(&mut self, alloc: Global) -> Step {
         for _ in 0..MOST_EVENTS {
             if self.net.flights() == 0 {
@@ -127,8 +127,8 @@ impl Both {
         Step::Not
     }
 
-    /// Whether the network and the book have the same trace, and the book is quiet exactly where
-    /// the network has no next choice.
+    // Whether the network and the book have the same trace, and the book is quiet exactly where
+    // the network has no next choice.
     pub fn agree(&self, alloc: Global) -> bool {
         match self.net.trace(alloc) {
             Ok(trace) => {

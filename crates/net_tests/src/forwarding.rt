@@ -5,12 +5,12 @@ use chem_model::{AtomId, Event, Loc, Name, Out, RuleId};
 use net_core::{Choice, Net, PlayStop, Played};
 use std::alloc::Global;
 
-/// The location's request to go has the number 6, and a message to the location is under way from
-/// the start.
+// The location's request to go has the number 6, and a message to the location is under way from
+// the start.
 const FORWARDED: &str = "observe out/1; \
     site a [ m[ k() => 0 and x(u) => out(u) : go(b, k) ] : 0 ] site b [ none : x(b) ]";
 
-/// The location's request to go has the number 4.
+// The location's request to go has the number 4.
 const MOVED: &str =
     "observe out/1; site a [ m[ k() => out(m) : go(b, k) ] : 0 ] site b [ none : 0 ]";
 
@@ -22,7 +22,7 @@ fn move_of(k: u64) -> Choice {
     Choice::Move { atom: atom(0, k) }
 }
 
-/// Whether these choices are made, one after another.
+// Whether these choices are made, one after another.
 fn make_all(alloc: Global, both: &mut Both, choices: &[Choice]) -> bool {
     for choice in choices {
         if both.make(alloc, choice) != Step::Made {
@@ -32,7 +32,7 @@ fn make_all(alloc: Global, both: &mut Both, choices: &[Choice]) -> bool {
     true
 }
 
-/// Whether there is a next choice, and it is made.
+// Whether there is a next choice, and it is made.
 fn make_next(alloc: Global, both: &mut Both) -> bool {
     match both.net.next() {
         Some(choice) => both.make(alloc, &choice) == Step::Made,
@@ -47,7 +47,7 @@ fn is_move(event: Option<&Event>, moved: AtomId) -> bool {
     }
 }
 
-/// Whether the rule of the first site with this number takes this one message.
+// Whether the rule of the first site with this number takes this one message.
 fn is_react(event: Option<&Event>, k: u64, taken: AtomId) -> bool {
     match event {
         Some(Event::React { rule, took }) => {
@@ -57,7 +57,7 @@ fn is_react(event: Option<&Event>, k: u64, taken: AtomId) -> bool {
     }
 }
 
-/// Whether these are the move and the two reactions that come of the packets.
+// Whether these are the move and the two reactions that come of the packets.
 fn are_forwarded(events: &[Event]) -> bool {
     events.len() == 3
         && is_move(events.first(), atom(0, 6))
@@ -65,9 +65,9 @@ fn are_forwarded(events: &[Event]) -> bool {
         && is_react(events.get(2), 5, atom(1, 1))
 }
 
-/// Whether one packet is under way after the opening, the three choices are made and two more that
-/// come next, the events are the right ones, and the network and the book agree where nothing is
-/// left.
+// Whether one packet is under way after the opening, the three choices are made and two more that
+// come next, the events are the right ones, and the network and the book agree where nothing is
+// left.
 fn forward(alloc: Global, both: &mut Both) -> bool {
     let deliver = Choice::Deliver { flight: 0 };
     both.net.flights() == 1
@@ -77,7 +77,7 @@ fn forward(alloc: Global, both: &mut Both) -> bool {
         && is_forwarded(alloc, both)
 }
 
-/// Whether the name of the second site was observed, and nothing else.
+// Whether the name of the second site was observed, and nothing else.
 fn is_observed(trace: &[Out]) -> bool {
     let second = Name::Place(Loc { site: 1, k: 0 });
     match trace {
@@ -100,14 +100,14 @@ fn forwarded(alloc: Global) -> bool {
     }
 }
 
-/// The first delivery forwards the packet to the site to which the location went, and the second
-/// puts it there.
+// The first delivery forwards the packet to the site to which the location went, and the second
+// puts it there.
 #[test]
 fn a_packet_is_forwarded_after_a_move(rt: HostRuntime) {
     assert!(rt; forwarded(rt.alloc()));
 }
 
-/// Plays a list of few choices, where there were few events.
+// Plays a list of few choices, where there were few events.
 fn play(alloc: Global, net: &mut Net, choices: &[Choice]) -> Option<Played> {
     if net.events() > 1000 || choices.len() > 1000 {
         return None;
@@ -115,8 +115,8 @@ fn play(alloc: Global, net: &mut Net, choices: &[Choice]) -> Option<Played> {
     Some(net.play(alloc, choices))
 }
 
-/// How many events come of a list of choices, how many of these are made, and how it stops, by a
-/// copy of what is answered.
+// How many events come of a list of choices, how many of these are made, and how it stops, by a
+// copy of what is answered.
 fn played(alloc: Global, choices: &[Choice]) -> Option<(usize, u64, PlayStop)> {
     let mut net = net_of(alloc, MOVED.as_bytes())?;
     let played = play(alloc, &mut net, choices)?;
@@ -133,26 +133,26 @@ fn a_request_is_met_once(rt: HostRuntime) {
     assert!(rt; twice == Some((1, 1, PlayStop::NotEnabled)));
 }
 
-/// What comes next once the location has moved.
+// What comes next once the location has moved.
 fn next_after_move(alloc: Global) -> Option<Choice> {
     let mut net = net_of(alloc, MOVED.as_bytes())?;
     let _played = play(alloc, &mut net, &[move_of(4)])?;
     net.next()
 }
 
-/// Whether these are the move and the reaction of what comes of it.
+// Whether these are the move and the reaction of what comes of it.
 fn are_moved(events: &[Event]) -> bool {
     events.len() == 2
         && is_move(events.first(), atom(0, 4))
         && is_react(events.get(1), 3, atom(1, 1))
 }
 
-/// Whether a list of choices is made, and its events are a move and that reaction.
+// Whether a list of choices is made, and its events are a move and that reaction.
 fn is_moved(played: &Played) -> bool {
     are_moved(played.events.as_slice()) && played.stop == PlayStop::All
 }
 
-/// Whether these two choices are made, and nothing comes next.
+// Whether these two choices are made, and nothing comes next.
 fn move_and(alloc: Global, net: &mut Net, then: Choice) -> bool {
     match play(alloc, net, &[move_of(4), then]) {
         Some(played) => is_moved(&played) && net.next().is_none(),

@@ -6,15 +6,15 @@ use net_core::Choice;
 use reducer::Pick;
 use std::alloc::Global;
 
-/// Groups with greater numbers react only where `next` says so.
+// Groups with greater numbers react only where `next` says so.
 const GROUPS: u32 = 8;
 
-/// Requests with greater numbers are made only where `next` says so.
+// Requests with greater numbers are made only where `next` says so.
 const ATOMS: u64 = 80;
 
-/// What a network makes next: what `next` says; the last packet under way, and else what `next`
-/// says; the last event of the first site that has one, and else what `next` says, so that packets
-/// wait; or a packet or an event of some site, by numbers that begin with a seed.
+// What a network makes next: what `next` says; the last packet under way, and else what `next`
+// says; the last event of the first site that has one, and else what `next` says, so that packets
+// wait; or a packet or an event of some site, by numbers that begin with a seed.
 #[derive(Clone, Copy, Debug)]
 pub enum Order {
     Next,
@@ -23,7 +23,7 @@ pub enum Order {
     Seeded(u32),
 }
 
-/// The choices that are tried, as far as they are enabled.
+// The choices that are tried, as far as they are enabled.
 type Choices = Vec<Choice>;
 
 fn keep(both: &Both, choices: &mut Choices, choice: Choice) -> Result<(), Memory> {
@@ -53,7 +53,7 @@ fn keep_requests(both: &Both, choices: &mut Choices, site: u32) -> Result<(), Me
     Ok(())
 }
 
-/// The reactions and the requests of a site that are enabled.
+// The reactions and the requests of a site that are enabled.
 fn events_of(alloc: Global, both: &Both, site: u32) -> Result<Choices, Memory> {
     let mut choices = Vec::new(alloc);
     keep_reactions(both, &mut choices, site)?;
@@ -61,7 +61,7 @@ fn events_of(alloc: Global, both: &Both, site: u32) -> Result<Choices, Memory> {
     Ok(choices)
 }
 
-/// These, and the packets under way.
+// These, and the packets under way.
 fn choices_of(alloc: Global, both: &Both, site: u32) -> Result<Choices, Memory> {
     let mut choices = events_of(alloc, both, site)?;
     for flight in 0..both.net.flights() {
@@ -92,7 +92,7 @@ fn last_packet(both: &Both) -> Option<Choice> {
     })
 }
 
-/// The last event of a site.
+// The last event of a site.
 fn last_event(alloc: Global, both: &Both, site: u32) -> Result<Option<Choice>, Memory> {
     let choices = events_of(alloc, both, site)?;
     Ok(choices.as_slice().last().copied())
@@ -108,7 +108,7 @@ fn packets_last(alloc: Global, both: &Both) -> Result<Option<Choice>, Memory> {
     Ok(both.net.next())
 }
 
-/// One of the choices of some site, or what `next` says.
+// One of the choices of some site, or what `next` says.
 fn at_random(alloc: Global, both: &Both, number: u32) -> Result<Option<Choice>, Memory> {
     if both.sites == 0 {
         return Ok(None);
@@ -122,7 +122,7 @@ fn at_random(alloc: Global, both: &Both, number: u32) -> Result<Option<Choice>, 
 }
 
 impl Order {
-    /// The next choice.
+    // The next choice.
     fn choice(self, alloc: Global, both: &Both) -> Result<Option<Choice>, Memory> {
         match self {
             Order::Next => Ok(both.net.next()),
@@ -132,7 +132,7 @@ impl Order {
         }
     }
 
-    /// The order from then on.
+    // The order from then on.
     fn then(self) -> Order {
         match self {
             Order::Seeded(seed) => Order::Seeded(following(seed)),
@@ -141,7 +141,7 @@ impl Order {
     }
 }
 
-/// Makes so many choices at most, or all that come.
+// Makes so many choices at most, or all that come.
 pub fn run(alloc: Global, both: &mut Both, order: Order, most: u32) -> Step {
     let mut order = order;
     for _ in 0..most {

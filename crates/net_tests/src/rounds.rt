@@ -13,10 +13,10 @@ const OPENS: &str = "site s [ x() => def m[ none : 0 ] in 0 : x() ]";
 const MOVES: &str =
     "observe out/1; site a [ m[ k() => out(m) : go(b, k) ] : 0 ] site b [ none : 0 ]";
 
-/// Four sites. After the move of `m` two messages are under way to it, to the site that it left,
-/// and one is to site `c`. The first round forwards the two, `k` reacts at site `b`, and site `c`
-/// makes five of its seven reactions. The second one puts the two messages, which react, and site
-/// `c` makes the others.
+// Four sites. After the move of `m` two messages are under way to it, to the site that it left,
+// and one is to site `c`. The first round forwards the two, `k` reacts at site `b`, and site `c`
+// makes five of its seven reactions. The second one puts the two messages, which react, and site
+// `c` makes the others.
 const MANY: &str = "observe out/1; \
     site a [ m[ k() => 0 and x(u) => out(u) : go(b, k) ] : 0 ] site b [ none : x(b) ] \
     site c [ p(u) => out(u) : p(c) | p(c) | p(c) | p(c) | p(c) | p(c) ] \
@@ -37,7 +37,7 @@ fn round<R: Threads + Sync>(
     Some((Box::new(alloc, net).ok()?, journal))
 }
 
-/// The rule of a reaction and the first message that it takes.
+// The rule of a reaction and the first message that it takes.
 fn reaction(event: &Event) -> Option<(RuleId, AtomId)> {
     match event {
         Event::React { rule, took } => match took.as_slice().first() {
@@ -48,12 +48,12 @@ fn reaction(event: &Event) -> Option<(RuleId, AtomId)> {
     }
 }
 
-/// Whether this is the reaction of the site's rule with the number 2, with its message.
+// Whether this is the reaction of the site's rule with the number 2, with its message.
 fn is_reaction(event: &Event, site: u32, k: u64) -> bool {
     reaction(event) == Some((RuleId { site, k: 2 }, AtomId { site, k }))
 }
 
-/// Whether these are the two reactions of one site and then the two of the other.
+// Whether these are the two reactions of one site and then the two of the other.
 fn are_by_site(events: &[Event]) -> bool {
     if events.len() != 4 {
         return false;
@@ -78,7 +78,7 @@ fn the_events_of_a_site_stand_together(rt: HostRuntime) {
     }
 }
 
-/// The reaction that opens a location at the first site.
+// The reaction that opens a location at the first site.
 fn opening_of(net: &Net) -> Option<Choice> {
     if net.sites() == 0 {
         return None;
@@ -86,7 +86,7 @@ fn opening_of(net: &Net) -> Option<Choice> {
     net.opening_at(0)
 }
 
-/// Whether the reaction that opens a location is one of this site, or there is none.
+// Whether the reaction that opens a location is one of this site, or there is none.
 fn opens_at(alloc: Global, text: &str, wanted: Option<u32>) -> bool {
     match net_of(alloc, text.as_bytes()) {
         Some(net) => is_opening(opening_of(&net), wanted),
@@ -102,7 +102,7 @@ fn is_opening(found: Option<Choice>, wanted: Option<u32>) -> bool {
     }
 }
 
-/// Whether a choice of a network without an event is the reaction of this one message.
+// Whether a choice of a network without an event is the reaction of this one message.
 fn is_made(alloc: Global, net: &mut Net, choice: &Choice) -> bool {
     if net.events() > 0 || !net.enabled(choice) {
         return false;
@@ -113,7 +113,7 @@ fn is_made(alloc: Global, net: &mut Net, choice: &Choice) -> bool {
     }
 }
 
-/// Whether the first site's opening reaction is made.
+// Whether the first site's opening reaction is made.
 fn make_opening(alloc: Global, net: &mut Net) -> bool {
     match opening_of(net) {
         Some(choice) => is_made(alloc, net, &choice),
@@ -135,7 +135,7 @@ fn a_reaction_that_opens_a_location(rt: HostRuntime) {
     assert!(rt; opened(rt.alloc()));
 }
 
-/// Whether the only choice is this move.
+// Whether the only choice is this move.
 fn are_move(choices: &[Choice], k: u64) -> bool {
     let atom = AtomId { site: 0, k };
     choices.len() == 1 && choices.first() == Some(&Choice::Move { atom })
@@ -164,7 +164,7 @@ fn with_number(all: u64, number: u64) -> u64 {
     all.wrapping_mul(1_000_003).wrapping_add(number)
 }
 
-/// A number in which the place of each event counts.
+// A number in which the place of each event counts.
 fn number_of(events: &[Event]) -> u64 {
     let mut all = 7;
     for event in events {
@@ -183,8 +183,8 @@ fn make_move(alloc: Global, net: &mut Net) {
     }
 }
 
-/// What a round leaves: its events, as a number, how many they are, and how many packets are under
-/// way.
+// What a round leaves: its events, as a number, how many they are, and how many packets are under
+// way.
 type Left = (u64, usize, u32);
 
 fn next_round<R: Threads + Sync>(
@@ -199,7 +199,7 @@ fn next_round<R: Threads + Sync>(
     Some((net, left))
 }
 
-/// What two rounds leave after the move, and how many observables there are then.
+// What two rounds leave after the move, and how many observables there are then.
 fn two_rounds<R: Threads + Sync>(
     rt: &R,
     alloc: Global,

@@ -6,7 +6,7 @@ use std::alloc::Global;
 use std::process::Abort;
 use worked_texts::{Case, runs_and_examples};
 
-/// So many choices are made at most.
+// So many choices are made at most.
 const CHOICES: u32 = 100;
 
 const ORDERS: [Order; 3] = [Order::Next, Order::LastPacket, Order::PacketsLast];
@@ -20,8 +20,8 @@ const SEEDS: [Order; 6] = [
     Order::Seeded(31_337),
 ];
 
-/// Whether each choice of an order and each delivery behind them is made, and the network and the
-/// book agree at the end.
+// Whether each choice of an order and each delivery behind them is made, and the network and the
+// book agree at the end.
 fn goes_through(alloc: Global, both: &mut Both, order: Order) -> bool {
     run(alloc, both, order, CHOICES) == Step::Made
         && both.deliver_all(alloc) == Step::Made
@@ -60,7 +60,7 @@ fn expect_all(rt: &impl Abort, alloc: Global, orders: &[Order]) {
     }
 }
 
-/// Each event of the network is one of the book, in whatever order; and the two end alike.
+// Each event of the network is one of the book, in whatever order; and the two end alike.
 #[test]
 fn worked_texts_in_each_order(rt: HostRuntime) {
     expect_all(&rt, rt.alloc(), &ORDERS);

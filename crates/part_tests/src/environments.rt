@@ -5,13 +5,13 @@ use std::alloc::Global;
 
 const ROOT: Name = Name::Place(Loc { site: 0, k: 0 });
 
-/// No names, and then the root.
+// No names, and then the root.
 fn one_more(alloc: Global) -> Result<Env, Memory> {
     let more = Items::from_slice(alloc, &[ROOT])?;
     extend(alloc, &Items::new(alloc), &more)
 }
 
-/// Whether it is the root alone, and a known name isn't looked for in it.
+// Whether it is the root alone, and a known name isn't looked for in it.
 fn has_the_root(env: &Env) -> bool {
     env.len() == 1
         && lookup(env, &Slot::Env(0)) == ROOT

@@ -12,7 +12,7 @@ const ROOT: Loc = Loc { site: 0, k: 0 };
 
 const HOME: Loc = Loc { site: 1, k: 4 };
 
-/// What the message 0.7 makes at the root of site 0, where these counts are declared.
+// What the message 0.7 makes at the root of site 0, where these counts are declared.
 fn run_of(alloc: Global, counts: &[u32], on: Name, args: &[Name]) -> Result<Run, Memory>
     requires few { length args.now ≤ 255 }
     requires plain { Each IsPlain args.now }
@@ -23,12 +23,12 @@ fn run_of(alloc: Global, counts: &[u32], on: Name, args: &[Name]) -> Result<Run,
     message(alloc, &counts, 0, &ROOT, on, args, 7)
 }
 
-/// Whether this is the next number, and there are so many posts and observables.
+// Whether this is the next number, and there are so many posts and observables.
 fn has_sizes(run: &Run, next: u64, posts: usize, outs: usize) -> bool {
     run.next == next && run.posts.len() == posts && run.outs.len() == outs
 }
 
-/// Whether it is the message 0.7 on this name, at its home.
+// Whether it is the message 0.7 on this name, at its home.
 fn is_post(post: Option<&Post>, on: Name) -> bool {
     match post {
         Some(Post::Message(waiting)) => {
@@ -40,8 +40,8 @@ fn is_post(post: Option<&Post>, on: Name) -> bool {
     }
 }
 
-/// Whether a message of one name on this name, which is declared so, leads to an observable and
-/// nothing else.
+// Whether a message of one name on this name, which is declared so, leads to an observable and
+// nothing else.
 fn is_observed(alloc: Global, on: Name) -> bool
     requires { HasCount on 1 }
 {
@@ -56,7 +56,7 @@ fn observed_with_the_declared_count(rt: HostRuntime) {
     assert!(rt; is_observed(rt.alloc(), Name::Seen(0)));
 }
 
-/// Whether a message on this name leads to a post and nothing else.
+// Whether a message on this name leads to a post and nothing else.
 fn is_posted(alloc: Global, on: Name) -> bool
     requires { HasCount on 0 }
 {

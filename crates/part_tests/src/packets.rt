@@ -8,7 +8,7 @@ use wire_packet::{
     DecodeEnd, Flight, Flights, GroupInst, Msg, Packet, Parcel, copy_flights, decode, encode,
 };
 
-/// The message 0.5 on the channel 0.1 of the location 0.0, with the location 1.0.
+// The message 0.5 on the channel 0.1 of the location 0.0, with the location 1.0.
 fn message() -> &'static [u8] {
     &[
         1, 0, 0, 0, 0, 0, 0, 0, 0, 0, 0, 0, 5, 2, 0, 0, 0, 0, 0, 0, 0, 0, 0, 0, 0, 1, 0, 0, 0, 0,
@@ -16,12 +16,12 @@ fn message() -> &'static [u8] {
     ]
 }
 
-/// Where the fields of the message begin.
+// Where the fields of the message begin.
 fn message_fields() -> &'static [usize] {
     &[0, 1, 5, 13, 14, 18, 26, 30, 38, 39, 40, 44]
 }
 
-/// The same message with the number 7 in place of the location.
+// The same message with the number 7 in place of the location.
 fn number_message() -> &'static [u8] {
     &[
         1, 0, 0, 0, 0, 0, 0, 0, 0, 0, 0, 0, 5, 2, 0, 0, 0, 0, 0, 0, 0, 0, 0, 0, 0, 1, 0, 0, 0, 0,
@@ -33,8 +33,8 @@ fn number_message_fields() -> &'static [usize] {
     &[0, 1, 5, 13, 14, 18, 26, 30, 38, 39, 40]
 }
 
-/// The location 0.1, where the message 0.4 waits: a sum of 7 and the location 0.0 for the first
-/// observed name.
+// The location 0.1, where the message 0.4 waits: a sum of 7 and the location 0.0 for the first
+// observed name.
 fn operation_parcel() -> &'static [u8] {
     &[
         2, 0, 0, 0, 0, 0, 0, 0, 0, 0, 0, 0, 1, 0, 0, 0, 0, 0, 0, 0, 1, 0, 0, 0, 0, 0, 0, 0, 0, 0,
@@ -49,7 +49,7 @@ fn operation_parcel_fields() -> &'static [usize] {
     ]
 }
 
-/// The location 0.1 with one group: level 1, the first channel 0.2 and the first rule 0.3.
+// The location 0.1 with one group: level 1, the first channel 0.2 and the first rule 0.3.
 fn small_parcel() -> &'static [u8] {
     &[
         2, 0, 0, 0, 0, 0, 0, 0, 0, 0, 0, 0, 1, 0, 0, 0, 1, 0, 0, 0, 1, 0, 0, 0, 0, 0, 0, 0, 0, 0,
@@ -61,8 +61,8 @@ fn small_parcel_fields() -> &'static [usize] {
     &[0, 1, 5, 13, 17, 21, 25, 33, 37, 45, 49, 53]
 }
 
-/// The location 1.7 with two groups, the waiting messages 0.9, 1.9 and 0.4, and a request of each
-/// kind: 0.3, 0.10 and 1.2.
+// The location 1.7 with two groups, the waiting messages 0.9, 1.9 and 0.4, and a request of each
+// kind: 0.3, 0.10 and 1.2.
 fn full_parcel() -> &'static [u8] {
     &[
         2, 0, 0, 0, 1, 0, 0, 0, 0, 0, 0, 0, 7, 0, 0, 0, 2, 0, 0, 0, 3, 0, 0, 0, 1, 0, 0, 0, 0, 0,
@@ -90,12 +90,12 @@ fn full_parcel_fields() -> &'static [usize] {
     ]
 }
 
-/// The answers for bytes that are a packet, and where memory runs out, where a place is asked for.
+// The answers for bytes that are a packet, and where memory runs out, where a place is asked for.
 const PACKET: u64 = 1_000_000;
 
 const NO_MEMORY: u64 = PACKET + 1;
 
-/// The place of the first wrong field.
+// The place of the first wrong field.
 fn place_of(alloc: Global, bytes: &[u8]) -> u64 {
     match decode(alloc, bytes) {
         Ok(_) => PACKET,
@@ -104,7 +104,7 @@ fn place_of(alloc: Global, bytes: &[u8]) -> u64 {
     }
 }
 
-/// The place, once the byte at this index is another.
+// The place, once the byte at this index is another.
 fn place_with(alloc: Global, bytes: &[u8], index: usize, byte: u8) -> u64 {
     match Items::from_slice(alloc, bytes) {
         Ok(mut changed) => {
@@ -115,14 +115,14 @@ fn place_with(alloc: Global, bytes: &[u8], index: usize, byte: u8) -> u64 {
     }
 }
 
-/// The bytes, and a byte more.
+// The bytes, and a byte more.
 fn longer(alloc: Global, bytes: &[u8]) -> Result<Text, Memory> {
     let mut longer = Items::from_slice(alloc, bytes)?;
     longer.push(0)?;
     Ok(longer)
 }
 
-/// The place, once a byte more follows.
+// The place, once a byte more follows.
 fn place_behind(alloc: Global, bytes: &[u8]) -> u64 {
     match longer(alloc, bytes) {
         Ok(longer) => place_of(alloc, longer.as_slice()),
@@ -130,13 +130,13 @@ fn place_behind(alloc: Global, bytes: &[u8]) -> u64 {
     }
 }
 
-/// The spelling of a copy of the packet.
+// The spelling of a copy of the packet.
 fn spelled(alloc: Global, packet: &Packet) -> Result<Text, Memory> {
     let copy = packet.copy(alloc)?;
     encode(alloc, &copy)
 }
 
-/// Whether these are the bytes of the packet.
+// Whether these are the bytes of the packet.
 fn has_bytes(alloc: Global, packet: &Packet, bytes: &[u8]) -> bool {
     match spelled(alloc, packet) {
         Ok(text) => text.as_slice() == bytes,
@@ -144,7 +144,7 @@ fn has_bytes(alloc: Global, packet: &Packet, bytes: &[u8]) -> bool {
     }
 }
 
-/// Whether the packet of these bytes has them as its spelling.
+// Whether the packet of these bytes has them as its spelling.
 fn is_again(alloc: Global, bytes: &[u8]) -> bool {
     match decode(alloc, bytes) {
         Ok(packet) => has_bytes(alloc, &packet, bytes),
@@ -152,7 +152,7 @@ fn is_again(alloc: Global, bytes: &[u8]) -> bool {
     }
 }
 
-/// The message of `message`, with this argument.
+// The message of `message`, with this argument.
 fn made_message(alloc: Global, arg: Name) -> Result<Packet, Memory>
     requires { IsPlain arg }
 {
@@ -170,7 +170,7 @@ fn made_message(alloc: Global, arg: Name) -> Result<Packet, Memory>
     }))
 }
 
-/// The parcel of `small_parcel`.
+// The parcel of `small_parcel`.
 fn made_parcel(alloc: Global) -> Result<Packet, Memory> {
     let loc = Loc { site: 0, k: 1 };
     let mut groups = Items::new(alloc);
@@ -189,7 +189,7 @@ fn made_parcel(alloc: Global) -> Result<Packet, Memory> {
     }))
 }
 
-/// Whether a packet is made, and has these bytes.
+// Whether a packet is made, and has these bytes.
 fn is_spelled(alloc: Global, made: Result<Packet, Memory>, bytes: &[u8]) -> bool {
     match made {
         Ok(packet) => has_bytes(alloc, &packet, bytes),
@@ -211,7 +211,7 @@ fn there_and_back(rt: HostRuntime) {
     assert!(rt; is_again(alloc, operation_parcel()));
 }
 
-/// That the bytes, cut at each place, are wrong at the field within which they end.
+// That the bytes, cut at each place, are wrong at the field within which they end.
 fn ends_within(rt: &impl Abort, alloc: Global, bytes: &[u8], fields: &[usize]) {
     let mut field = 0;
     for end in 0..bytes.len() {
@@ -232,8 +232,8 @@ fn cut_off(rt: HostRuntime) {
     ends_within(&rt, alloc, operation_parcel(), operation_parcel_fields());
 }
 
-/// A byte that is changed: its index, its new value, and the place of the field that is then wrong
-/// first.
+// A byte that is changed: its index, its new value, and the place of the field that is then wrong
+// first.
 type Change = (usize, u8, u64);
 
 fn message_changes() -> &'static [Change] {
@@ -322,13 +322,13 @@ fn with_changes(rt: &impl Abort, alloc: Global, bytes: &[u8], changes: &[Change]
     }
 }
 
-/// That the bytes are wrong at this place.
+// That the bytes are wrong at this place.
 fn expect_place(rt: &impl Abort, alloc: Global, bytes: &[u8], place: u64) {
     let found = place_of(alloc, bytes);
     assert!(rt; found == place, "{found} in place of {place}");
 }
 
-/// That the bytes, with one more behind them, are wrong at this place.
+// That the bytes, with one more behind them, are wrong at this place.
 fn expect_behind(rt: &impl Abort, alloc: Global, bytes: &[u8], place: u64) {
     let found = place_behind(alloc, bytes);
     assert!(rt; found == place, "{found} in place of {place}");
@@ -348,7 +348,7 @@ fn wrong_fields(rt: HostRuntime) {
     expect_place(&rt, alloc, &[2, 0, 0, 0, 0], 5);
 }
 
-/// A parcel without a group that claims lists of some length.
+// A parcel without a group that claims lists of some length.
 fn claims() -> &'static [(&'static [u8], u64)] {
     &[
         // 1,000,000 groups
@@ -389,13 +389,13 @@ fn one_flight(alloc: Global) -> Result<Flights, Memory> {
     Ok(flights)
 }
 
-/// A copy of a list of one flight.
+// A copy of a list of one flight.
 fn copied_flights(alloc: Global) -> Result<Flights, Memory> {
     let flights = one_flight(alloc)?;
     copy_flights(alloc, &flights)
 }
 
-/// Whether it is one flight with its bytes and its target.
+// Whether it is one flight with its bytes and its target.
 fn are_the_flights(flights: &[Flight]) -> bool {
     match flights {
         [one] => one.target == 3 && one.bytes.as_slice() == message(),

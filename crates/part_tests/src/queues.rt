@@ -6,35 +6,35 @@ use std::process::Abort;
 
 type Numbers = Groups<u32, u64>;
 
-/// What is done to groups of queues, or what they are to be. A group goes by its index, a queue by
-/// its group and its number there.
+// What is done to groups of queues, or what they are to be. A group goes by its index, a queue by
+// its group and its number there.
 #[derive(Drop)]
 enum Step {
-    /// Another group: what is told of it, and how many queues it has.
+    // Another group: what is told of it, and how many queues it has.
     Add(u32, u32),
-    /// The same, in room that was made before.
+    // The same, in room that was made before.
     AddReserved(u32, u32),
-    /// Room for so many messages.
+    // Room for so many messages.
     Reserve(usize),
-    /// That there are so many groups.
+    // That there are so many groups.
     Count(usize),
-    /// That this is told of a group, and how many queues it has.
+    // That this is told of a group, and how many queues it has.
     Told(usize, u32, u32),
     Remove(usize),
-    /// The groups of which an odd number is told go.
+    // The groups of which an odd number is told go.
     RemoveOdd,
-    /// Another message in a queue.
+    // Another message in a queue.
     Put(usize, u32, u64),
-    /// That this message is taken from a queue.
+    // That this message is taken from a queue.
     Take(usize, u32, u64),
-    /// That a queue holds these messages, the oldest first.
+    // That a queue holds these messages, the oldest first.
     Holds(usize, u32, &'static [u64]),
     Clear(usize, u32),
-    /// Whether each queue of a group that the mask names holds a message.
+    // Whether each queue of a group that the mask names holds a message.
     Covers(usize, &'static [u64], bool),
 }
 
-/// Adds a group in room that is made first.
+// Adds a group in room that is made first.
 fn add_reserved(
     alloc: Global,
     groups: &mut Numbers,
@@ -46,12 +46,12 @@ fn add_reserved(
     Ok(true)
 }
 
-/// Whether this is told of a group, and it has so many queues.
+// Whether this is told of a group, and it has so many queues.
 fn tells(groups: &Numbers, group: usize, told: u32, width: u32) -> bool {
     group < groups.len() && *groups.told(group) == told && groups.width(group) == width
 }
 
-/// Removes a group, where it is there.
+// Removes a group, where it is there.
 fn remove(groups: &mut Numbers, group: usize) -> bool {
     let is_there = group < groups.len();
     if is_there {
@@ -73,13 +73,13 @@ impl Selects<u32> for Odd {
     }
 }
 
-/// Drops the groups of which an odd number is told.
+// Drops the groups of which an odd number is told.
 fn remove_odd(groups: &mut Numbers) -> bool {
     groups.remove_where(&Odd);
     true
 }
 
-/// Puts a message into a queue, where it is there.
+// Puts a message into a queue, where it is there.
 fn put(groups: &mut Numbers, group: usize, chan: u32, message: u64) -> Result<bool, Memory> {
     groups.reserve(1)?;
     let is_there = group < groups.len() && chan < groups.width(group);
@@ -89,7 +89,7 @@ fn put(groups: &mut Numbers, group: usize, chan: u32, message: u64) -> Result<bo
     Ok(is_there)
 }
 
-/// Whether this is the message that is taken from a queue.
+// Whether this is the message that is taken from a queue.
 fn takes(groups: &mut Numbers, group: usize, chan: u32, want: u64) -> bool {
     group < groups.len()
         && chan < groups.width(group)
@@ -97,7 +97,7 @@ fn takes(groups: &mut Numbers, group: usize, chan: u32, want: u64) -> bool {
         && groups.take_front(group, chan) == want
 }
 
-/// Whether a queue holds these messages, the oldest first.
+// Whether a queue holds these messages, the oldest first.
 fn holds(groups: &Numbers, group: usize, chan: u32, want: &[u64]) -> bool {
     group < groups.len()
         && chan < groups.width(group)
@@ -105,7 +105,7 @@ fn holds(groups: &Numbers, group: usize, chan: u32, want: &[u64]) -> bool {
         && groups.queue(group, chan).eq(want)
 }
 
-/// Clears a queue, where it is there.
+// Clears a queue, where it is there.
 fn clear(groups: &mut Numbers, group: usize, chan: u32) -> bool {
     let is_there = group < groups.len() && chan < groups.width(group);
     if is_there {
@@ -114,14 +114,14 @@ fn clear(groups: &mut Numbers, group: usize, chan: u32) -> bool {
     is_there
 }
 
-/// Whether each queue that the mask names holds a message, or not, as it is wanted.
+// Whether each queue that the mask names holds a message, or not, as it is wanted.
 fn covers(groups: &Numbers, group: usize, mask: &[u64], want: bool) -> bool {
     group < groups.len()
         && mask.len() == (groups.width(group) as usize).div_ceil(64)
         && groups.covers(group, mask) == want
 }
 
-/// Takes a step. Whether all is as the step says.
+// Takes a step. Whether all is as the step says.
 fn is_taken(alloc: Global, groups: &mut Numbers, step: &Step) -> Result<bool, Memory> {
     match step {
         Step::Add(told, width) => groups.add(alloc, *told, *width).map(|()| true),
@@ -139,7 +139,7 @@ fn is_taken(alloc: Global, groups: &mut Numbers, step: &Step) -> Result<bool, Me
     }
 }
 
-/// That all is as each of these steps says, from no group on.
+// That all is as each of these steps says, from no group on.
 fn expect_steps(rt: &impl Abort, alloc: Global, steps: &[Step]) {
     let mut groups = Groups::new(alloc);
     for (index, step) in steps.iter().enumerate() {
@@ -148,7 +148,7 @@ fn expect_steps(rt: &impl Abort, alloc: Global, steps: &[Step]) {
     }
 }
 
-/// A group of two queues, and one of 65, with three messages in each of three queues.
+// A group of two queues, and one of 65, with three messages in each of three queues.
 const TWO_GROUPS: &[Step] = &[
     Step::Add(7, 2),
     Step::AddReserved(8, 65),
@@ -188,7 +188,7 @@ fn messages_are_taken_in_order(rt: HostRuntime) {
     expect_steps(&rt, rt.alloc(), TWO_GROUPS);
 }
 
-/// Three groups of two queues, with a message in each.
+// Three groups of two queues, with a message in each.
 const THREE_GROUPS: &[Step] = &[
     Step::Add(0, 2),
     Step::Add(1, 2),
@@ -216,7 +216,7 @@ fn a_group_in_the_middle_is_removed(rt: HostRuntime) {
     expect_steps(&rt, rt.alloc(), THREE_GROUPS);
 }
 
-/// Five groups of one queue, with two messages in each.
+// Five groups of one queue, with two messages in each.
 const FIVE_GROUPS: &[Step] = &[
     Step::Add(0, 1),
     Step::Put(0, 0, 10),

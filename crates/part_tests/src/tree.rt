@@ -14,38 +14,38 @@ const THERE: Loc = Loc { site: 1, k: 0 };
 
 const BORN: Loc = Loc { site: 0, k: 1 };
 
-/// What is done to a tree, or what it is to be.
+// What is done to a tree, or what it is to be.
 #[derive(Drop)]
 enum Step {
-    /// Whether the numbers of a site are free from this one on.
+    // Whether the numbers of a site are free from this one on.
     Fresh(u32, u64, bool),
-    /// The root of a location.
+    // The root of a location.
     Root(Loc, u32),
-    /// Whether a location is alive.
+    // Whether a location is alive.
     Alive(Loc, bool),
-    /// Whether a location can move to another.
+    // Whether a location can move to another.
     CanMove(Loc, Loc, bool),
-    /// Whether a location can fall with another.
+    // Whether a location can fall with another.
     CanFall(Loc, Loc, bool),
-    /// A location falls with another.
+    // A location falls with another.
     Fall(Loc, Loc),
-    /// A location moves to another.
+    // A location moves to another.
     Move(Loc, Loc),
-    /// A location dies.
+    // A location dies.
     Kill(Loc),
 }
 
-/// Whether a location can move to another, or not, as it is wanted.
+// Whether a location can move to another, or not, as it is wanted.
 fn can_move(tree: &LocTree, loc: &Loc, target: &Loc, want: bool) -> bool {
     tree.holds(loc) && tree.holds(target) && tree.can_move(loc, target) == want
 }
 
-/// Whether a location can fall with another, or not, as it is wanted.
+// Whether a location can fall with another, or not, as it is wanted.
 fn can_fall(tree: &LocTree, loc: &Loc, target: &Loc, want: bool) -> bool {
     tree.holds(loc) && tree.holds(target) && tree.can_fall(loc, target) == want
 }
 
-/// A location falls with another, where it can.
+// A location falls with another, where it can.
 fn falls(tree: &mut LocTree, loc: &Loc, target: &Loc) -> bool {
     let is_possible = tree.holds(loc) && tree.holds(target) && tree.can_fall(loc, target);
     if is_possible {
@@ -54,7 +54,7 @@ fn falls(tree: &mut LocTree, loc: &Loc, target: &Loc) -> bool {
     is_possible
 }
 
-/// Moves a location to another, where it can.
+// Moves a location to another, where it can.
 fn moves(tree: &mut LocTree, loc: &Loc, target: &Loc) -> bool {
     let is_possible = tree.holds(loc) && tree.holds(target) && tree.can_move(loc, target);
     if is_possible {
@@ -63,7 +63,7 @@ fn moves(tree: &mut LocTree, loc: &Loc, target: &Loc) -> bool {
     is_possible
 }
 
-/// Kills a location, where it is there.
+// Kills a location, where it is there.
 fn dies(tree: &mut LocTree, loc: &Loc) -> bool {
     let is_there = tree.holds(loc);
     if is_there {
@@ -72,7 +72,7 @@ fn dies(tree: &mut LocTree, loc: &Loc) -> bool {
     is_there
 }
 
-/// Takes a step. Whether all is as the step says.
+// Takes a step. Whether all is as the step says.
 fn is_taken(tree: &mut LocTree, step: &Step) -> bool {
     match step {
         Step::Fresh(site, from, want) => tree.fresh(*site, *from) == *want,
@@ -86,14 +86,14 @@ fn is_taken(tree: &mut LocTree, step: &Step) -> bool {
     }
 }
 
-/// That all is as each of these steps says.
+// That all is as each of these steps says.
 fn expect_steps(rt: &impl Abort, tree: &mut LocTree, steps: &[Step]) {
     for (index, step) in steps.iter().enumerate() {
         assert!(rt; is_taken(tree, step), "step {index}");
     }
 }
 
-/// The location 0.1 is born under the first root. Whether it is new.
+// The location 0.1 is born under the first root. Whether it is new.
 fn is_born(alloc: Global, tree: &mut LocTree) -> Result<bool, Memory>
     requires { 0 < tree.old.roots }
 {
@@ -105,7 +105,7 @@ fn is_born(alloc: Global, tree: &mut LocTree) -> Result<bool, Memory>
     Ok(is_new)
 }
 
-/// What follows the birth.
+// What follows the birth.
 const LIFE: &[Step] = &[
     Step::Fresh(0, 1, false),
     Step::Fresh(0, 2, true),
@@ -124,7 +124,7 @@ const LIFE: &[Step] = &[
     Step::CanMove(BORN, HERE, false),
 ];
 
-/// What follows the birth where the second root dies before the location moves.
+// What follows the birth where the second root dies before the location moves.
 const FALL: &[Step] = &[
     Step::CanFall(BORN, THERE, false),
     Step::Kill(THERE),
@@ -140,7 +140,7 @@ const FALL: &[Step] = &[
     Step::CanFall(BORN, THERE, false),
 ];
 
-/// The location is born, and then lives as these steps say.
+// The location is born, and then lives as these steps say.
 fn live(rt: &impl Abort, alloc: Global, tree: &mut LocTree, steps: &[Step])
     requires { 0 < tree.old.roots }
 {

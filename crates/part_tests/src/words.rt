@@ -4,18 +4,18 @@ use status_words::Status;
 use std::alloc::Global;
 use std::process::Abort;
 
-/// What is done to a set, or what it is to be.
+// What is done to a set, or what it is to be.
 #[derive(Drop)]
 enum Step {
     Set(u32),
     Clear(u32),
-    /// That it may hold so many numbers.
+    // That it may hold so many numbers.
     Bits(u32),
-    /// Whether it holds each number of the mask.
+    // Whether it holds each number of the mask.
     Covers(&'static [u64], bool),
 }
 
-/// Puts a number into the set, where it may hold it.
+// Puts a number into the set, where it may hold it.
 fn set(status: &mut Status, bit: u32) -> bool {
     let is_bit = bit < status.bits();
     if is_bit {
@@ -24,7 +24,7 @@ fn set(status: &mut Status, bit: u32) -> bool {
     is_bit
 }
 
-/// Takes a number out of the set, where it may hold it.
+// Takes a number out of the set, where it may hold it.
 fn clear(status: &mut Status, bit: u32) -> bool {
     let is_bit = bit < status.bits();
     if is_bit {
@@ -33,12 +33,12 @@ fn clear(status: &mut Status, bit: u32) -> bool {
     is_bit
 }
 
-/// Whether the set holds each number of the mask, or not, as it is wanted.
+// Whether the set holds each number of the mask, or not, as it is wanted.
 fn covers(status: &Status, mask: &[u64], want: bool) -> bool {
     mask.len() == (status.bits() as usize).div_ceil(64) && status.covers(mask) == want
 }
 
-/// Takes a step. Whether all is as the step says.
+// Takes a step. Whether all is as the step says.
 fn is_taken(status: &mut Status, step: &Step) -> bool {
     match step {
         Step::Set(bit) => set(status, *bit),
@@ -48,7 +48,7 @@ fn is_taken(status: &mut Status, step: &Step) -> bool {
     }
 }
 
-/// That all is as each of these steps says.
+// That all is as each of these steps says.
 fn expect_each(rt: &impl Abort, status: &mut Status, steps: &[Step]) {
     for (index, step) in steps.iter().enumerate() {
         let taken = is_taken(status, step);
@@ -56,7 +56,7 @@ fn expect_each(rt: &impl Abort, status: &mut Status, steps: &[Step]) {
     }
 }
 
-/// That all is as each of these steps says, from an empty set on that may hold so many numbers.
+// That all is as each of these steps says, from an empty set on that may hold so many numbers.
 fn expect_steps(rt: &impl Abort, alloc: Global, bits: u32, steps: &[Step]) {
     match Status::with_bits(alloc, bits) {
         Ok(mut status) => {

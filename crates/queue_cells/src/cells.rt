@@ -6,16 +6,16 @@ ghost use Rattle.queue_cells.specs.inside.Walk.{IsQueue, uses, walked, leading, 
 
 use slab::Slab;
 
-/// A message, and the key of the cell behind it. What the last cell of a queue leads to is never
-/// read.
+// A message, and the key of the cell behind it. What the last cell of a queue leads to is never
+// read.
 #[derive(Drop)]
 pub(crate) struct Cell<T> {
     pub(crate) message: T,
     pub(crate) next: usize,
 }
 
-/// Where a queue begins and ends, and how many messages it has. Without one, head and tail are
-/// never read.
+// Where a queue begins and ends, and how many messages it has. Without one, head and tail are
+// never read.
 #[derive(Clone, Copy)]
 pub(crate) struct Ends {
     pub(crate) head: usize,

@@ -9,7 +9,7 @@ use status_words::Status;
 use std::alloc::Global;
 use std::marker::Model;
 
-/// What is told of a group, the ends of its queues, and which of them hold a message.
+// What is told of a group, the ends of its queues, and which of them hold a message.
 #[derive(Drop)]
 pub(crate) struct Row<G> {
     pub(crate) told: G,

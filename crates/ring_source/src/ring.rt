@@ -7,7 +7,7 @@ use chem_model::{Items, Memory, Text};
 use std::alloc::Global;
 use trace_text::{push_all, push_number};
 
-/// How many messages each site has.
+// How many messages each site has.
 const MESSAGES: u32 = 8;
 
 /// The text of the ring of n sites, of which there are 1 to 64.
@@ -27,7 +27,7 @@ pub fn ring_text(alloc: Global, n: u32) -> Result<Text, Memory>
     Ok(text)
 }
 
-/// Appends the line of site i.
+// Appends the line of site i.
 fn push_site(text: &mut Text, n: u32, i: u32) -> Result<(), Memory>
     requires { (1 ≤ n) × (n ≤ 64) }
     ensures { OnOk result (text.new ≡ text.old ++ site_text n i) }
@@ -41,7 +41,7 @@ fn push_site(text: &mut Text, n: u32, i: u32) -> Result<(), Memory>
     push_all(text, b" ]\n")
 }
 
-/// Appends the agent at the first site, and nothing at the others.
+// Appends the agent at the first site, and nothing at the others.
 fn push_agent_at(text: &mut Text, n: u32, i: u32) -> Result<(), Memory>
     requires { (1 ≤ n) × (n ≤ 64) }
     ensures { OnOk result (text.new ≡ text.old ++ agent_at n i) }
@@ -49,7 +49,7 @@ fn push_agent_at(text: &mut Text, n: u32, i: u32) -> Result<(), Memory>
     if i == 0 { push_agent(text, n) } else { Ok(()) }
 }
 
-/// Appends the agent: its rule at each site, and its first move.
+// Appends the agent: its rule at each site, and its first move.
 fn push_agent(text: &mut Text, n: u32) -> Result<(), Memory>
     requires { (1 ≤ n) × (n ≤ 64) }
     ensures { OnOk result (text.new ≡ text.old ++ agent_text n) }
@@ -61,7 +61,7 @@ fn push_agent(text: &mut Text, n: u32) -> Result<(), Memory>
     push_all(text, b" ]")
 }
 
-/// Appends the agent's rule at each site but the first.
+// Appends the agent's rule at each site but the first.
 fn push_rules(text: &mut Text, n: u32) -> Result<(), Memory>
     requires { (1 ≤ n) × (n ≤ 64) }
     ensures { OnOk result (text.new ≡ text.old ++ rules_text n) }
@@ -72,7 +72,7 @@ fn push_rules(text: &mut Text, n: u32) -> Result<(), Memory>
     Ok(())
 }
 
-/// Appends the agent's rule at site j: it emits that site, and goes to the next one.
+// Appends the agent's rule at site j: it emits that site, and goes to the next one.
 fn push_rule(text: &mut Text, n: u32, j: u32) -> Result<(), Memory>
     requires { (j < n) × (n ≤ 64) }
     ensures { OnOk result (text.new ≡ text.old ++ rule_text n j) }
@@ -83,7 +83,7 @@ fn push_rule(text: &mut Text, n: u32, j: u32) -> Result<(), Memory>
     push_go(text, (j + 1) % n)
 }
 
-/// Appends the move to site q, where the agent's rule of that site goes on.
+// Appends the move to site q, where the agent's rule of that site goes on.
 fn push_go(text: &mut Text, q: u32) -> Result<(), Memory>
     ensures { OnOk result (text.new ≡ text.old ++ go_text q) }
 {
@@ -92,7 +92,7 @@ fn push_go(text: &mut Text, q: u32) -> Result<(), Memory>
     push_all(text, b")")
 }
 
-/// Appends the messages of site i.
+// Appends the messages of site i.
 fn push_messages(text: &mut Text, i: u32) -> Result<(), Memory>
     ensures { OnOk result (text.new ≡ text.old ++ messages_text i) }
 {
@@ -104,7 +104,7 @@ fn push_messages(text: &mut Text, i: u32) -> Result<(), Memory>
     Ok(())
 }
 
-/// Appends one message of site i.
+// Appends one message of site i.
 fn push_message(text: &mut Text, i: u32) -> Result<(), Memory>
     ensures { OnOk result (text.new ≡ text.old ++ message_text i) }
 {
@@ -112,7 +112,7 @@ fn push_message(text: &mut Text, i: u32) -> Result<(), Memory>
     push_all(text, b"()")
 }
 
-/// Appends a literal, and a number behind it.
+// Appends a literal, and a number behind it.
 fn push_numbered(text: &mut Text, literal: &[u8], number: u32) -> Result<(), Memory>
     ensures { OnOk result (text.new ≡ text.old ++ literal.now ++ decimal number) }
 {

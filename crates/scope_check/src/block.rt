@@ -9,7 +9,7 @@ use join_parse::{DefNode, DefTree, DefTrees, PatTree, PlaceTree, SeenTree, Word}
 use scope_names::Sort;
 use std::marker::Model;
 
-/// An occurrence that defines, and what it makes of its spelling.
+// An occurrence that defines, and what it makes of its spelling.
 #[derive(Drop)]
 pub struct Defining<'a> {
     pub word: &'a Word,
@@ -25,7 +25,7 @@ impl<'a> Model for Defining<'a> {
     ghost view = { λ d. (d.word.now, d.sort) };
 }
 
-/// The channels of a join pattern at a location.
+// The channels of a join pattern at a location.
 fn channels<'a>(list: &mut Vec<Defining<'a>>, at: u32, pats: &'a [PatTree]) -> Result<(), Memory>
     ensures { OnOk result (list.new.items ≡ list.old.items ++ channels_at at pats.now) }
 {
@@ -39,7 +39,7 @@ fn channels<'a>(list: &mut Vec<Defining<'a>>, at: u32, pats: &'a [PatTree]) -> R
     Ok(())
 }
 
-/// The names of a list of definitions at a location, and the number of the block's next place.
+// The names of a list of definitions at a location, and the number of the block's next place.
 #[cycle(block)]
 fn level<'a>(
     list: &mut Vec<Defining<'a>>,
@@ -72,8 +72,8 @@ fn one<'a>(list: &mut Vec<Defining<'a>>, at: u32, place: u32, d: &'a DefTree) ->
     }
 }
 
-/// The name of a place, and those of its definitions. A block of 2^32 places is refused as want of
-/// memory, as a list of that length is.
+// The name of a place, and those of its definitions. A block of 2^32 places is refused as want of
+// memory, as a list of that length is.
 #[cycle(block)]
 fn location<'a>(
     list: &mut Vec<Defining<'a>>,
@@ -92,7 +92,7 @@ fn location<'a>(
     level(list, place, inner, &tree.defs)
 }
 
-/// The names of the block of a `def`.
+// The names of the block of a `def`.
 pub fn block<'a>(list: &mut Vec<Defining<'a>>, defs: &'a DefTrees) -> Result<(), Memory>
     ensures { OnOk result
         (list.new.items ≡ list.old.items ++ defining 0 1 (source_definitions defs.now)) }
@@ -101,7 +101,7 @@ pub fn block<'a>(list: &mut Vec<Defining<'a>>, defs: &'a DefTrees) -> Result<(),
     Ok(())
 }
 
-/// The observed names.
+// The observed names.
 pub fn observed<'a>(list: &mut Vec<Defining<'a>>, seen: &'a [SeenTree]) -> Result<(), Memory>
     ensures { OnOk result (list.new.items ≡ list.old.items ++ observed_from 0 seen.now) }
 {
@@ -119,7 +119,7 @@ pub fn observed<'a>(list: &mut Vec<Defining<'a>>, seen: &'a [SeenTree]) -> Resul
     Ok(())
 }
 
-/// The names that sites define, in the outermost block.
+// The names that sites define, in the outermost block.
 pub fn sites<'a>(list: &mut Vec<Defining<'a>>, trees: &'a [PlaceTree]) -> Result<(), Memory>
     ensures { OnOk result (list.new.items ≡ list.old.items ++ defining 0 1 (sites_of trees.now)) }
 {

@@ -25,7 +25,7 @@ use join_parse::{PlaceTree, SeenTree, Tree};
 use scope_names::{Env, Scope};
 use std::alloc::Global;
 
-/// How many sites a text of a version may have.
+// How many sites a text of a version may have.
 fn sites_of_version(version: u32) -> usize
     ensures { result ≡ most_sites version }
 {
@@ -35,7 +35,7 @@ fn sites_of_version(version: u32) -> usize
     }
 }
 
-/// Notes the sites above the limit.
+// Notes the sites above the limit.
 fn above(limit: usize, sites: &[PlaceTree], least: &mut Option<Fault>)
     ensures { least.new ≡ first_of least.old (many (drop limit sites.now)) }
 {
@@ -50,7 +50,7 @@ fn above(limit: usize, sites: &[PlaceTree], least: &mut Option<Fault>)
     }
 }
 
-/// The names of the outermost block.
+// The names of the outermost block.
 fn names<'a>(
     alloc: Global,
     seen: &'a [SeenTree],
@@ -65,7 +65,7 @@ fn names<'a>(
     Ok(list)
 }
 
-/// The faults of all definitions within sites.
+// The faults of all definitions within sites.
 fn within(alloc: Global, trees: &[PlaceTree], least: &mut Option<Fault>) -> Result<(), Memory>
     ensures { OnOk result (least.new ≡ first_of least.old (level_faults (sites_of trees.now))) }
 {
@@ -75,8 +75,8 @@ fn within(alloc: Global, trees: &[PlaceTree], least: &mut Option<Fault>) -> Resu
     Ok(())
 }
 
-/// The tables of all scopes, the outermost one first, the spellings of all binders in the order of
-/// their numbers, and the number of those that the sites define.
+// The tables of all scopes, the outermost one first, the spellings of all binders in the order of
+// their numbers, and the number of those that the sites define.
 #[derive(Drop)]
 struct Tables<'a> {
     scopes: Vec<Scope<'a>>,
@@ -84,7 +84,7 @@ struct Tables<'a> {
     tops: u32,
 }
 
-/// Fills empty tables, but for that of the outermost scope, which is kept apart.
+// Fills empty tables, but for that of the outermost scope, which is kept apart.
 fn number<'a>(
     alloc: Global,
     own: &mut Scope<'a>,
@@ -137,7 +137,7 @@ fn numbered<'a>(
     }
 }
 
-/// The terms of all sites.
+// The terms of all sites.
 fn terms(
     alloc: Global,
     scopes: &[Scope<'_>],
@@ -158,7 +158,7 @@ fn terms(
     Ok(list)
 }
 
-/// The declarations of observed names.
+// The declarations of observed names.
 fn declarations(alloc: Global, trees: &[SeenTree]) -> Result<SeenDecls, Memory>
     ensures { IfOk result (λ list. list ≡ seen_decls trees.now) }
 {
@@ -173,7 +173,7 @@ fn declarations(alloc: Global, trees: &[SeenTree]) -> Result<SeenDecls, Memory>
     Ok(list)
 }
 
-/// The first fault of the definitions, and of the sites above the limit.
+// The first fault of the definitions, and of the sites above the limit.
 fn first_declared(
     alloc: Global,
     version: u32,
@@ -191,7 +191,7 @@ fn first_declared(
     Ok(least)
 }
 
-/// The program that a tree with these names in its outermost block stands for, or its first fault.
+// The program that a tree with these names in its outermost block stands for, or its first fault.
 fn program_with<'a>(alloc: Global, names: &[Defining<'a>], tree: &'a Tree) -> Result<Program, Front>
     requires { names.now ≡ outermost_names tree.now }
     ensures program { IfOk result (IsProgramOf tree.now) }
@@ -219,7 +219,7 @@ fn program_with<'a>(alloc: Global, names: &[Defining<'a>], tree: &'a Tree) -> Re
     })
 }
 
-/// The program that a tree stands for, or its first fault.
+// The program that a tree stands for, or its first fault.
 fn program_of(alloc: Global, tree: &Tree) -> Result<Program, Front>
     ensures program { IfOk result (IsProgramOf tree.now) }
     ensures fault { IfErr result (IsRefusedAs tree.now) }

@@ -34,7 +34,7 @@ fn note_at(least: &mut Option<Fault>, kind: Kind, word: &Word)
     );
 }
 
-/// A defining occurrence after the first one of its spelling.
+// A defining occurrence after the first one of its spelling.
 fn clash(first: Sort, word: &Word, later: Sort, least: &mut Option<Fault>)
     ensures { least.new ≡ first_of least.old (clash_of first word.now later) }
 {
@@ -57,7 +57,7 @@ fn clash(first: Sort, word: &Word, later: Sort, least: &mut Option<Fault>)
     }
 }
 
-/// Adds a spelling that isn't there yet.
+// Adds a spelling that isn't there yet.
 fn keep<'a>(so_far: &mut Scope<'a>, word: &'a Word, sort: Sort) -> Result<(), Memory>
     ensures { OnOk result (so_far.new ≡ remember so_far.old word.now sort) }
 {
@@ -77,7 +77,7 @@ fn clash_with_first(so_far: &Scope<'_>, word: &Word, later: Sort, least: &mut Op
     }
 }
 
-/// The faults of a block's names.
+// The faults of a block's names.
 pub fn clashes(
     alloc: Global,
     names: &[Defining<'_>],
@@ -91,7 +91,7 @@ pub fn clashes(
     result
 }
 
-/// The faults of a block's names that stand behind others.
+// The faults of a block's names that stand behind others.
 fn clashes_after<'a>(
     so_far: &mut Scope<'a>,
     names: &[Defining<'a>],
@@ -116,7 +116,7 @@ fn repeat(so_far: &Scope<'_>, kind: Kind, word: &Word, least: &mut Option<Fault>
     }
 }
 
-/// The words with the spelling of an earlier one.
+// The words with the spelling of an earlier one.
 fn repeats<'a>(
     so_far: &mut Scope<'a>,
     words: &'a [Word],
@@ -146,7 +146,7 @@ fn repeated_channels(
     result
 }
 
-/// The channels with the spelling of an earlier one.
+// The channels with the spelling of an earlier one.
 fn channels_after<'a>(
     so_far: &mut Scope<'a>,
     pats: &'a [PatTree],
@@ -174,7 +174,7 @@ fn repeated_parameters(
     result
 }
 
-/// The parameters with the spelling of an earlier one.
+// The parameters with the spelling of an earlier one.
 fn parameters_after<'a>(
     so_far: &mut Scope<'a>,
     pats: &'a [PatTree],
@@ -188,7 +188,7 @@ fn parameters_after<'a>(
     Ok(())
 }
 
-/// The faults of a join pattern.
+// The faults of a join pattern.
 fn join(alloc: Global, pats: &[PatTree], least: &mut Option<Fault>) -> Result<(), Memory>
     ensures { OnOk result (least.new ≡ first_of least.old (pattern_faults pats.now)) }
 {
@@ -197,7 +197,7 @@ fn join(alloc: Global, pats: &[PatTree], least: &mut Option<Fault>) -> Result<()
     Ok(())
 }
 
-/// The faults of the names of a `def`.
+// The faults of the names of a `def`.
 #[tactic(auto, using(crate::proofs::Declares::all_clashes))]
 fn block_faults(alloc: Global, defs: &DefTrees, least: &mut Option<Fault>) -> Result<(), Memory>
     ensures { OnOk result
@@ -209,7 +209,7 @@ fn block_faults(alloc: Global, defs: &DefTrees, least: &mut Option<Fault>) -> Re
     Ok(())
 }
 
-/// The faults of all definitions in a process.
+// The faults of all definitions in a process.
 #[cycle(declared)]
 fn process(alloc: Global, p: &ProcTree, least: &mut Option<Fault>) -> Result<(), Memory>
     ensures { OnOk result (least.new ≡ first_of least.old (process_faults p.now)) }

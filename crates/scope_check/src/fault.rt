@@ -12,14 +12,14 @@ pub struct Fault {
     pub place: u32,
 }
 
-/// Where the kind stands among all kinds.
+// Where the kind stands among all kinds.
 fn rank(kind: Kind) -> u8
     ensures { result ≡ rank_of kind }
 {
     kind as u8
 }
 
-/// Keeps the sooner of two faults.
+// Keeps the sooner of two faults.
 pub fn note(least: &mut Option<Fault>, fault: Fault)
     ensures { least.new ≡ sooner least.old fault }
 {

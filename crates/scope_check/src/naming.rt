@@ -18,7 +18,7 @@ use join_parse::{
 use scope_names::{Entry, Scope, Sort};
 use std::alloc::Global;
 
-/// The number of a word that isn't in its table yet: the next one. An observed name has none.
+// The number of a word that isn't in its table yet: the next one. An observed name has none.
 fn binder_for(alloc: Global, spell: &mut Texts, word: &Word, sort: Sort) -> Result<u32, Memory>
     ensures binder { IfOk result (λ n. n ≡ numbered_as sort (length spell.old)) }
     ensures spell { OnOk result (spell.new ≡ spells_as sort spell.old word.now.text) }
@@ -34,7 +34,7 @@ fn binder_for(alloc: Global, spell: &mut Texts, word: &Word, sort: Sort) -> Resu
     }
 }
 
-/// A word that isn't in the table yet takes the next number.
+// A word that isn't in the table yet takes the next number.
 fn name_one<'a>(
     alloc: Global,
     table: &mut Scope<'a>,
@@ -53,7 +53,7 @@ fn name_one<'a>(
     Ok(())
 }
 
-/// The names of a block.
+// The names of a block.
 pub fn name_all<'a>(
     alloc: Global,
     table: &mut Scope<'a>,
@@ -84,7 +84,7 @@ fn name_words<'a>(
     Ok(())
 }
 
-/// The channels of a join pattern at a location, and its parameters.
+// The channels of a join pattern at a location, and its parameters.
 fn name_patterns<'a>(
     alloc: Global,
     own: &mut Scope<'a>,
@@ -108,7 +108,7 @@ fn name_patterns<'a>(
     Ok(())
 }
 
-/// The channels of a join pattern at a location, and the scope of its parameters.
+// The channels of a join pattern at a location, and the scope of its parameters.
 fn name_join<'a>(
     alloc: Global,
     scopes: &mut Vec<Scope<'a>>,
@@ -137,7 +137,7 @@ fn name_join<'a>(
     }
 }
 
-/// The place that is kept for a scope, behind the others.
+// The place that is kept for a scope, behind the others.
 pub fn keep_place<'a>(alloc: Global, scopes: &mut Vec<Scope<'a>>) -> Result<usize, Memory>
     ensures place { IfOk result (λ slot. slot ≡ length scopes.old.items) }
     ensures kept { OnOk result (scopes.new.items ≡ scopes.old.items ++ [] ∷ []) }
@@ -147,7 +147,7 @@ pub fn keep_place<'a>(alloc: Global, scopes: &mut Vec<Scope<'a>>) -> Result<usiz
     Ok(slot)
 }
 
-/// Puts a scope in the place that was kept for it.
+// Puts a scope in the place that was kept for it.
 pub fn fill<'a>(scopes: &mut Vec<Scope<'a>>, slot: usize, scope: Scope<'a>) -> Result<(), Memory>
     requires { slot < length scopes.old.items }
     ensures { OnOk result (scopes.new.items ≡ set scopes.old.items slot scope.entry) }
@@ -159,7 +159,7 @@ pub fn fill<'a>(scopes: &mut Vec<Scope<'a>>, slot: usize, scope: Scope<'a>) -> R
     Ok(())
 }
 
-/// The scopes of a process.
+// The scopes of a process.
 #[cycle(naming)]
 pub fn walk<'a>(
     alloc: Global,
@@ -197,7 +197,7 @@ pub fn walk<'a>(
     }
 }
 
-/// The scopes of a list of processes.
+// The scopes of a list of processes.
 #[cycle(naming)]
 pub fn walk_all<'a>(
     alloc: Global,
@@ -215,7 +215,7 @@ pub fn walk_all<'a>(
     Ok(())
 }
 
-/// A definition's words, and the scopes within.
+// A definition's words, and the scopes within.
 #[cycle(naming)]
 fn walk_one<'a>(
     alloc: Global,
@@ -242,8 +242,8 @@ fn walk_one<'a>(
     }
 }
 
-/// A place's words, and the scopes within. A block of 2^32 places is refused as want of memory, as
-/// a list of that length is.
+// A place's words, and the scopes within. A block of 2^32 places is refused as want of memory, as
+// a list of that length is.
 #[cycle(naming)]
 fn walk_place<'a>(
     alloc: Global,
@@ -268,7 +268,7 @@ fn walk_place<'a>(
     Ok(end)
 }
 
-/// A level's words, and the scopes within.
+// A level's words, and the scopes within.
 #[cycle(naming)]
 fn walk_level<'a>(
     alloc: Global,
@@ -295,7 +295,7 @@ fn walk_level<'a>(
     Ok(end)
 }
 
-/// The scopes of all sites, whose names stand in `own` already.
+// The scopes of all sites, whose names stand in `own` already.
 pub fn walk_sites<'a>(
     alloc: Global,
     scopes: &mut Vec<Scope<'a>>,

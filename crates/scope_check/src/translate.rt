@@ -19,7 +19,7 @@ use join_parse::{DefNode, DefTree, DefTrees, PlaceTree, ProcNode, ProcTree, Proc
 use scope_names::{Env, Scope};
 use std::alloc::Global;
 
-/// The term of a process, and the number of the next scope.
+// The term of a process, and the number of the next scope.
 #[cycle(translate)]
 pub fn process(
     alloc: Global,
@@ -77,7 +77,7 @@ pub fn process(
     }
 }
 
-/// The one process of a list that has no other.
+// The one process of a list that has no other.
 fn only(list: &ProcTrees) -> Option<&ProcTree>
     ensures some { IfSome result (λ p. list.now ≡ p.now ∷ []) }
     ensures none { IfNone result (length list.now ≢ 1) }
@@ -88,7 +88,7 @@ fn only(list: &ProcTrees) -> Option<&ProcTree>
     }
 }
 
-/// The term of a list of processes.
+// The term of a list of processes.
 #[cycle(translate)]
 pub fn body(
     alloc: Global,
@@ -118,7 +118,7 @@ pub fn body(
     Ok((Proc::par(members), end))
 }
 
-/// The term of a definition in its block.
+// The term of a definition in its block.
 #[cycle(translate)]
 fn definition(
     alloc: Global,
@@ -152,7 +152,7 @@ fn definition(
     }
 }
 
-/// The terms of a place's definitions and of its process.
+// The terms of a place's definitions and of its process.
 #[cycle(translate)]
 fn inner(
     alloc: Global,
@@ -178,7 +178,7 @@ fn inner(
     Ok((defs, term, end))
 }
 
-/// The terms of a level's definitions.
+// The terms of a level's definitions.
 #[cycle(translate)]
 fn level(
     alloc: Global,
@@ -206,7 +206,7 @@ fn level(
     Ok((defs, end))
 }
 
-/// The terms of the sites.
+// The terms of the sites.
 pub fn sites(
     alloc: Global,
     scopes: &[Scope<'_>],

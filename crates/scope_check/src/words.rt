@@ -20,7 +20,7 @@ const ADD: u32 = 0;
 
 const SAME: u32 = 1;
 
-/// What a resolved word stands for.
+// What a resolved word stands for.
 fn reference(entry: Option<Entry>) -> Ref
     ensures { result ≡ ref_by entry }
 {
@@ -33,7 +33,7 @@ fn reference(entry: Option<Entry>) -> Ref
     }
 }
 
-/// A word as a message's name.
+// A word as a message's name.
 pub fn called(env: &Env<'_>, word: &Word, given: usize, least: &mut Option<Fault>) -> Ref
     ensures value { result ≡ ref_by (in_env word.now.text env.now) }
     ensures faults { least.new
@@ -73,7 +73,7 @@ pub fn called(env: &Env<'_>, word: &Word, given: usize, least: &mut Option<Fault
     reference(entry)
 }
 
-/// A word as the first name of `go` or `fail`.
+// A word as the first name of `go` or `fail`.
 pub fn headed(env: &Env<'_>, word: &Word, least: &mut Option<Fault>) -> Ref
     ensures value { result ≡ ref_by (in_env word.now.text env.now) }
     ensures faults { least.new
@@ -120,7 +120,7 @@ fn sent(env: &Env<'_>, word: &Word, least: &mut Option<Fault>) -> Ref
     reference(entry)
 }
 
-/// An argument: what its word is resolved to, or its number.
+// An argument: what its word is resolved to, or its number.
 fn argument(env: &Env<'_>, arg: &Arg, least: &mut Option<Fault>) -> Ref
     ensures value { result ≡ arg_in env.now arg.now }
     ensures faults { least.new ≡ first_of least.old (arg_faults env.now arg.now) }
@@ -131,7 +131,7 @@ fn argument(env: &Env<'_>, arg: &Arg, least: &mut Option<Fault>) -> Ref
     }
 }
 
-/// The arguments of a message.
+// The arguments of a message.
 pub fn all_sent(
     alloc: Global,
     env: &Env<'_>,
@@ -148,8 +148,8 @@ pub fn all_sent(
     Ok(refs)
 }
 
-/// `add`, as a message on the operation. Its last name is used as the name of a message with one
-/// argument.
+// `add`, as a message on the operation. Its last name is used as the name of a message with one
+// argument.
 pub fn added(
     alloc: Global,
     env: &Env<'_>,
@@ -169,8 +169,8 @@ pub fn added(
     Ok(Proc::msg(Ref::Known(Name::Op(ADD)), args))
 }
 
-/// `same`, as a message on the operation. Its last two names are used as the names of messages
-/// without arguments.
+// `same`, as a message on the operation. Its last two names are used as the names of messages
+// without arguments.
 pub fn compared(
     alloc: Global,
     env: &Env<'_>,
@@ -193,7 +193,7 @@ pub fn compared(
     Ok(Proc::msg(Ref::Known(Name::Op(SAME)), args))
 }
 
-/// The number of a word in its scope.
+// The number of a word in its scope.
 pub fn binder_of(scope: &Scope<'_>, word: &Word) -> u32
     ensures { result ≡ binder_in scope.now word.now }
 {
@@ -213,7 +213,7 @@ fn binders_of(alloc: Global, scope: &Scope<'_>, words: &[Word]) -> Result<Nums, 
     Ok(numbers)
 }
 
-/// A join pattern.
+// A join pattern.
 pub fn patterns_of(
     alloc: Global,
     own: &Scope<'_>,

@@ -90,7 +90,7 @@ pub fn choose(site: &Site, program: &Program, code: &Code, tree: &LocTree) -> Ch
     }
 }
 
-/// Whether the pick that the site chose opens no location.
+// Whether the pick that the site chose opens no location.
 pub(crate) fn opens_none(site: &Site, code: &Code, tree: &LocTree, pick: &Pick) -> bool
     requires { ChoosesPick code.now tree.now site.now pick.now }
     ensures { IsTrue result ↔ OpensNone code.now site.now pick.now }
@@ -99,8 +99,8 @@ pub(crate) fn opens_none(site: &Site, code: &Code, tree: &LocTree, pick: &Pick) 
     births(code, site, pick) == 0
 }
 
-/// Where the request is one to go to a location of the tree, the number of the site that hosts
-/// that.
+// Where the request is one to go to a location of the tree, the number of the site that hosts
+// that.
 pub(crate) fn leads_to(site: &Site, tree: &LocTree, atom: &AtomId) -> Option<u32>
     ensures some { IfSome result (LeadsTo tree.now site.now atom.now) }
     ensures goes { IfSome result (λ _. IsToGo atom.now site.now) }

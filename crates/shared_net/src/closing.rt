@@ -28,14 +28,14 @@ pub enum Closed {
     Differs(Report),
 }
 
-/// The rows of a report, and why they don't agree with the book.
+// The rows of a report, and why they don't agree with the book.
 #[derive(Drop)]
 pub(crate) struct Settled {
     rows: WorkedList,
     differs: Option<Differs>,
 }
 
-/// What the passes hold, and how that compares with the book.
+// What the passes hold, and how that compares with the book.
 pub(crate) fn settle<L: Run>(
     alloc: Global,
     locked: &Locked<L>,
@@ -52,7 +52,7 @@ pub(crate) fn settle<L: Run>(
     Ok(Settled { rows, differs })
 }
 
-/// What each pass holds.
+// What each pass holds.
 fn rows<L: Run>(alloc: Global, passes: &Passes<L>) -> Result<WorkedList, Memory>
     ensures rows { IfOk result (λ rows. rows ≡ map row_of passes.now) }
     ensures rise { OnOk result (Each (λ p. Rise 0 p.budget p.receipts) passes.now) }
@@ -70,8 +70,8 @@ fn rows<L: Run>(alloc: Global, passes: &Passes<L>) -> Result<WorkedList, Memory>
     Ok(rows)
 }
 
-/// The end of a run: its book, where the receipts of all its passes agree with it, and a report of
-/// what each pass held. No memory is wanted for it.
+// The end of a run: its book, where the receipts of all its passes agree with it, and a report of
+// what each pass held. No memory is wanted for it.
 pub(crate) fn finish<L: Run>(locked: Locked<L>, passes: Passes<L>, settled: Settled) -> Closed
     requires whole { length passes ≡ L.parts }
     requires some { 0 < length passes }

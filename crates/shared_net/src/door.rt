@@ -23,9 +23,9 @@ use std::hint::spin_loop;
 use std::sync::{Mutex, MutexGuard, Wait};
 use std::thread::yield_now;
 
-/// What stands behind the book's lock, as far as a turn knows it: the calls that commit an event, by
-/// what they do to the pass and what they send. Only the locked book is one. A turn is written over
-/// any, so that its proof names no type with the run's parameter beside the pass.
+// What stands behind the book's lock, as far as a turn knows it: the calls that commit an event, by
+// what they do to the pass and what they send. Only the locked book is one. A turn is written over
+// any, so that its proof names no type with the run's parameter beside the pass.
 pub(crate) trait Desk<L: Run> {
     // Proposes an event that the site, whose lock is held, has ready.
     fn offer(&mut self, alloc: Global, pass: &mut Pass<L>, event: &Event) -> Result<Turn, Memory>

@@ -2,7 +2,7 @@
 use crate::gate::{Gate, Phase};
 use std::sync::atomic::{AtomicBool, Ordering};
 
-/// How often a worker looks for the other before it gives up.
+// How often a worker looks for the other before it gives up.
 const LOOKS: u32 = 200_000_000;
 
 /// Holds each of the workers 1 and 2 at its first `Held` until the other has come to a `Held`, for
@@ -30,7 +30,7 @@ impl HoldGate {
         !both_came || self.looks_ran_out.load(Ordering::SeqCst)
     }
 
-    /// Says that one of the two has come. At its first time it looks for the other.
+    // Says that one of the two has come. At its first time it looks for the other.
     fn meet(&self, came: &AtomicBool, other_came: &AtomicBool) {
         if came.swap(true, Ordering::SeqCst) {
             return;

@@ -48,7 +48,7 @@ pub fn compare<L: Run>(
     Ok(None)
 }
 
-/// Looks at the receipts of one worker, in order, and stops at the first that isn't fresh.
+// Looks at the receipts of one worker, in order, and stops at the first that isn't fresh.
 fn look_all(
     alloc: Global,
     journal: &[Event],
@@ -67,7 +67,7 @@ fn look_all(
     Ok(None)
 }
 
-/// Looks at one receipt.
+// Looks at one receipt.
 fn look(
     alloc: Global,
     journal: &[Event],
@@ -100,7 +100,7 @@ fn look(
     }
 }
 
-/// The worker whose receipt filled the slot of a place.
+// The worker whose receipt filled the slot of a place.
 fn slot(slots: &[Option<u32>], place: u64) -> Option<u32>
     ensures { result ≡ slot_at slots.now place }
 {
@@ -110,7 +110,7 @@ fn slot(slots: &[Option<u32>], place: u64) -> Option<u32>
     }
 }
 
-/// Fills the slots of one worker's receipts.
+// Fills the slots of one worker's receipts.
 fn mark(slots: &mut Vec<Option<u32>>, number: u32, receipts: &[Receipt])
     requires { Each (λ r. r.place < length slots.old.items) receipts.now }
     ensures marks { Marks slots.old.items number receipts.now slots.new.items }
@@ -121,7 +121,7 @@ fn mark(slots: &mut Vec<Option<u32>>, number: u32, receipts: &[Receipt])
     }
 }
 
-/// Whether two events are equal.
+// Whether two events are equal.
 fn same_event(event: &Event, other: &Event) -> bool
     ensures { IsTrue result ↔ (event.now ≡ other.now) }
 {
@@ -140,7 +140,7 @@ fn same_event(event: &Event, other: &Event) -> bool
     }
 }
 
-/// Whether two lists of atoms are equal.
+// Whether two lists of atoms are equal.
 fn same_atoms(atoms: &[AtomId], others: &[AtomId]) -> bool
     ensures { IsTrue result ↔ (atoms.now ≡ others.now) }
 {

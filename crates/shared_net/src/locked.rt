@@ -28,7 +28,7 @@ pub struct Locked<L: Run> {
     ghost same: { book.program ≡ L.program } by { Coded-set program_code _ _ },
 }
 
-/// So many new passes, numbered from 1, each with its part of the ledger.
+// So many new passes, numbered from 1, each with its part of the ledger.
 fn pass_each<L: Run>(
     alloc: Global,
     whole: Share<L>,
@@ -48,8 +48,8 @@ fn pass_each<L: Run>(
     Ok(Passes::from_vec(list))
 }
 
-/// A book that is to stand behind a lock, and so many new passes, numbered from 1. The blank ledger
-/// has a part for each.
+// A book that is to stand behind a lock, and so many new passes, numbered from 1. The blank ledger
+// has a part for each.
 pub(crate) fn open<L: Run>(
     alloc: Global,
     blank: Blank,
@@ -76,7 +76,7 @@ pub(crate) fn open<L: Run>(
 }
 
 impl<L: Run> Locked<L> {
-    /// A book and what counts its events.
+    // A book and what counts its events.
     pub(crate) fn new(book: Book, count: ledger::Book<L>) -> Locked<L>
         requires program { book.program ≡ L.program }
         requires counted { count.total ≡ length book.journal }
@@ -92,22 +92,22 @@ impl<L: Run> Locked<L> {
         &self.book
     }
 
-    /// Whether the journal has as many events as the pass's budget, or more.
+    // Whether the journal has as many events as the pass's budget, or more.
     pub(crate) fn is_full(&self, pass: &Pass<L>) -> bool
         ensures { IsTrue result ↔ IsFull self.now.book pass.now }
     {
         self.book.journal().len() >= pass.budget as usize
     }
 
-    /// Whether the pass has a receipt, and the journal is no longer than the place of the last one.
+    // Whether the pass has a receipt, and the journal is no longer than the place of the last one.
     pub(crate) fn is_behind(&self, pass: &Pass<L>) -> bool
         ensures { IsTrue result ↔ IsBehind self.now.book pass.now }
     {
         (self.book.journal().len() as u64) < pass.next
     }
 
-    /// Makes an event where it is possible, and writes its receipt into the pass. Where it isn't
-    /// possible, and on want of memory, nothing changes.
+    // Makes an event where it is possible, and writes its receipt into the pass. Where it isn't
+    // possible, and on want of memory, nothing changes.
     fn commit(&mut self, alloc: Global, pass: &mut Pass<L>, event: &Event) -> Result<Commit, Memory>
         requires { HasRoom self.old.book pass.old }
         ensures made { IfOk result (λ c. Commits self.old.book event.now c self.new.book) }
@@ -136,9 +136,9 @@ impl<L: Run> Locked<L> {
         }
     }
 
-    /// Makes an event where the budget leaves one, the journal is past the pass's receipts, and the
-    /// event is possible, and writes its receipt into the pass. In all else, and on want of memory,
-    /// nothing changes.
+    // Makes an event where the budget leaves one, the journal is past the pass's receipts, and the
+    // event is possible, and writes its receipt into the pass. In all else, and on want of memory,
+    // nothing changes.
     pub(crate) fn propose(
         &mut self,
         alloc: Global,
@@ -163,7 +163,7 @@ impl<L: Run> Locked<L> {
         }
     }
 
-    /// The book, which has as many events as all passes together have in the ledger.
+    // The book, which has as many events as all passes together have in the ledger.
     pub(crate) fn into_book(self, all: Share<L>) -> Book
         requires { all.parts ≡ L.parts }
         ensures book { result ≡ self.book }

@@ -8,7 +8,7 @@ use std::alloc::Global;
 use std::marker::Model;
 use std::mem;
 
-/// The mail of a site, seen as its texts. Each is the spelling of a packet with a message.
+// The mail of a site, seen as its texts. Each is the spelling of a packet with a message.
 #[derive(Drop)]
 pub(crate) struct Mailbox {
     texts: Texts,
@@ -37,7 +37,7 @@ impl Mailbox {
         Mailbox { texts }
     }
 
-    /// Adds a text behind the others.
+    // Adds a text behind the others.
     #[tactic(auto, using(crate::proofs::Posting::one_more))]
     pub(crate) fn put(&mut self, text: Text) -> Result<(), Memory>
         requires { IsMessageText text }
@@ -47,7 +47,7 @@ impl Mailbox {
         self.texts.push(text)
     }
 
-    /// Takes all texts out.
+    // Takes all texts out.
     pub(crate) fn empty(&mut self, alloc: Global) -> Texts
         ensures texts { result ≡ self.old }
         ensures spelled { Each IsMessageText result }

@@ -26,26 +26,26 @@ use std::marker::Model;
 use std::sync::ledger::Blank;
 use std::sync::{Mutex, RwLock};
 
-/// The tree behind its lock.
+// The tree behind its lock.
 #[derive(Drop)]
 pub(crate) struct LockedTree {
     pub(crate) lock: RwLock<LocTree>,
 }
 
-/// The sites by their numbers, each behind a lock of its own.
+// The sites by their numbers, each behind a lock of its own.
 #[derive(Drop)]
 pub(crate) struct LockedSites {
     pub(crate) list: Vec<Mutex<Site>>,
 }
 
-/// The mailboxes of the sites by their numbers, each behind a lock of its own.
+// The mailboxes of the sites by their numbers, each behind a lock of its own.
 #[derive(Drop)]
 pub(crate) struct LockedMail {
     pub(crate) list: Vec<Mutex<Mailbox>>,
 }
 
-/// All of a network but its book. It has no type parameter, so that threads may share it whatever
-/// the run is.
+// All of a network but its book. It has no type parameter, so that threads may share it whatever
+// the run is.
 #[derive(Drop)]
 pub(crate) struct Parts {
     pub(crate) program: Program,
@@ -319,7 +319,7 @@ impl<L: Run> SharedNet<L> {
 }
 
 impl Parts {
-    /// How many sites there are.
+    // How many sites there are.
     pub(crate) fn count(&self) -> u32
         ensures count { result ≡ self.now.sites }
         ensures some { IsCountOfSites result }

@@ -52,7 +52,7 @@ impl<L: Run> Model for Pass<L> {
 }
 
 impl<L: Run> Pass<L> {
-    /// A pass with which no turn was made.
+    // A pass with which no turn was made.
     pub(crate) fn new(alloc: Global, number: u32, budget: u32, share: Share<L>) -> Pass<L>
         requires part { share.parts ≡ 1 }
         requires nothing { share.amount ≡ 0 }
@@ -99,7 +99,7 @@ impl<L: Run> Pass<L> {
         self.full
     }
 
-    /// The number of the turn that begins, from 0.
+    // The number of the turn that begins, from 0.
     pub(crate) fn begin(&mut self) -> u64
         ensures { self.new ≡ self.old }
     {
@@ -108,7 +108,7 @@ impl<L: Run> Pass<L> {
         turn
     }
 
-    /// Notes what a turn came to. Its receipt was written where it was made.
+    // Notes what a turn came to. Its receipt was written where it was made.
     pub(crate) fn note(&mut self, turn: Turn)
         ensures { self.new ≡ noted turn self.old }
     {
@@ -119,7 +119,7 @@ impl<L: Run> Pass<L> {
         }
     }
 
-    /// Its part of the ledger.
+    // Its part of the ledger.
     fn into_share(self) -> Share<L>
         ensures part { result.parts ≡ 1 }
         ensures amount { result.amount ≡ length self.receipts }
@@ -180,7 +180,7 @@ impl<L: Run> Passes<L> {
         self.list.as_mut_slice()
     }
 
-    /// The parts of the ledger of all passes in one.
+    // The parts of the ledger of all passes in one.
     pub(crate) fn into_share(self) -> Share<L>
         requires { 0 < length self }
         ensures parts { result.parts ≡ length self }

@@ -15,7 +15,7 @@ use std::sync::{Mutex, Wait};
 use std::thread;
 use std::thread::Threads;
 
-/// At most so many threads work at once.
+// At most so many threads work at once.
 const THREADS: usize = 16;
 
 impl Parts {

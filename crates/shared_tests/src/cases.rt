@@ -6,24 +6,24 @@ use crate::passes::Ended;
 use crate::texts::{FIRST, MOVED, SENT, WITHIN};
 use shared_net::Turn;
 
-/// A text, its budget, and the sites of the turns with what each turn answers.
+// A text, its budget, and the sites of the turns with what each turn answers.
 pub struct Case {
     pub text: &'static str,
     pub budget: u32,
     pub steps: &'static [(u32, Turn)],
-    /// How many events are made.
+    // How many events are made.
     pub events: u32,
-    /// So many turns at the end found nothing.
+    // So many turns at the end found nothing.
     pub idle: u32,
-    /// Whether a turn found the budget used.
+    // Whether a turn found the budget used.
     pub full: bool,
-    /// How often the gate was passed before an event or a refusal, and in which turn last.
+    // How often the gate was passed before an event or a refusal, and in which turn last.
     pub held: u32,
     pub last: u64,
 }
 
 impl Case {
-    /// What the run comes to: each event has its receipt.
+    // What the run comes to: each event has its receipt.
     pub fn ended(&self) -> Ended {
         Ended {
             events: self.events as usize,
@@ -34,7 +34,7 @@ impl Case {
         }
     }
 
-    /// Who passes the gate: the first worker, before each proposal and after each event.
+    // Who passes the gate: the first worker, before each proposal and after each event.
     pub fn passed(&self) -> Passed {
         Passed {
             held: self.held,
@@ -48,7 +48,7 @@ impl Case {
 const HALTED: &str = "observe out/0; site a [ none : halt() ] \
     site b [ d() => x() : fail(a, d) ] site c [ x() => out() : 0 ]";
 
-/// The first reaction opens a location, with a message in it.
+// The first reaction opens a location, with a message in it.
 const OPENED: &str = "observe out/1; site s [ x() => def m[ k() => out(m) : k() ] in 0 : x() ]";
 
 const CASES: &[Case] = &[

@@ -3,7 +3,7 @@
 use shared_net::{Gate, Phase};
 use std::sync::atomic::{AtomicU32, AtomicU64, Ordering};
 
-/// How often a gate was passed at each of the two moments, and by whom at the last `Held`.
+// How often a gate was passed at each of the two moments, and by whom at the last `Held`.
 #[derive(Clone, Copy, PartialEq, Eq, Debug)]
 pub struct Passed {
     pub held: u32,

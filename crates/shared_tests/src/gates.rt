@@ -13,7 +13,7 @@ use std::sync::ledger::Blank;
 use std::thread::Threads;
 use worked_programs::program_of;
 
-/// Two sites of ten messages each.
+// Two sites of ten messages each.
 const TWENTY: &str = "site s [ x() => 0 : \
     x() | x() | x() | x() | x() | x() | x() | x() | x() | x() ] \
     site t [ y() => 0 : \
@@ -23,7 +23,7 @@ const BUDGET: u32 = 20;
 
 // ---- two workers on threads
 
-/// Whether one of two workers gave up, and how their run ended.
+// Whether one of two workers gave up, and how their run ended.
 fn run_both<L: Run + Send + Sync, R: Threads + Wait + Sync>(
     rt: &R,
     alloc: Global,
@@ -50,7 +50,7 @@ fn on_threads<R: Threads + Wait + Sync>(
     Ok(run_both::<Brand, R>(rt, alloc, &program, Blank::new(2))?)
 }
 
-/// Both are inside a turn at once, and all events have receipts, some of each worker.
+// Both are inside a turn at once, and all events have receipts, some of each worker.
 #[test]
 fn two_are_inside_at_once(rt: HostRuntime) {
     let ended = Ended {
@@ -65,8 +65,8 @@ fn two_are_inside_at_once(rt: HostRuntime) {
 
 // ---- the same two workers on one thread
 
-/// Whether one of two workers gave up whose turns come one after the other, what these answered,
-/// and how their run ended.
+// Whether one of two workers gave up whose turns come one after the other, what these answered,
+// and how their run ended.
 fn run_in_turn<L: Run, R: Wait>(
     rt: &R,
     alloc: Global,
@@ -98,7 +98,7 @@ fn in_turn<R: Wait>(
     Ok(run_in_turn::<Brand, R>(rt, alloc, &program, Blank::new(2))?)
 }
 
-/// The first one looks for the other in vain.
+// The first one looks for the other in vain.
 #[test]
 fn one_thread_gives_up(rt: HostRuntime) {
     let turns = [Some(Turn::Did(0)), Some(Turn::Did(1))];

@@ -9,16 +9,16 @@ use std::alloc::Global;
 use std::sync::Wait;
 use std::thread::Threads;
 
-/// What a run came to whose receipts agree with its book.
+// What a run came to whose receipts agree with its book.
 #[derive(Clone, Copy, PartialEq, Eq, Debug)]
 pub struct Ended {
     pub events: usize,
     pub receipts: usize,
-    /// Whether each worker made an event.
+    // Whether each worker made an event.
     pub each: bool,
-    /// The last turns of the first worker, so many, found nothing.
+    // The last turns of the first worker, so many, found nothing.
     pub idle: u32,
-    /// Whether one of its turns found the budget used.
+    // Whether one of its turns found the budget used.
     pub full: bool,
 }
 
@@ -54,8 +54,8 @@ fn turn_of<L: Run, G: Gate, R: Wait>(
     one_turn(rt, alloc, net, &mut passes[worker], site, gate)
 }
 
-/// A turn of one of the workers, counted from 0, at a site. None where there is no such worker or
-/// site, or on want of memory.
+// A turn of one of the workers, counted from 0, at a site. None where there is no such worker or
+// site, or on want of memory.
 pub fn turn_at<L: Run, G: Gate, R: Wait>(
     rt: &R,
     alloc: Global,
@@ -73,7 +73,7 @@ pub fn turn_at<L: Run, G: Gate, R: Wait>(
     turn_of(rt, alloc, net, passes.as_mut_slice(), worker, site, gate).ok()
 }
 
-/// All workers at once, until they stop.
+// All workers at once, until they stop.
 pub fn work<L: Run + Send + Sync, G: Gate, R: Threads + Wait + Sync>(
     rt: &R,
     alloc: Global,
@@ -119,8 +119,8 @@ fn end_of(alloc: Global, closed: &Closed) -> Option<Ended> {
     }
 }
 
-/// Ends the run of these passes, which were started with their network. None where the receipts
-/// don't agree with the book, or on want of memory.
+// Ends the run of these passes, which were started with their network. None where the receipts
+// don't agree with the book, or on want of memory.
 pub fn close_all<L: Run>(alloc: Global, net: SharedNet<L>, passes: Passes<L>) -> Option<Ended>
     requires some { 0 < L.parts }
     requires owners { HaveSameOwners (new_passes net.budget 1 L.parts) passes }

@@ -14,13 +14,13 @@ use site_solution::Site;
 use std::alloc::Global;
 use wire_packet::{Ask, Msg, Packet, encode};
 
-/// What a call that makes an event answered.
+// What a call that makes an event answered.
 #[derive(Clone, Copy, PartialEq, Eq, Debug)]
 pub struct Told {
     pub turn: Turn,
-    /// How many messages were sent, how many were observed, and how many locations were born.
+    // How many messages were sent, how many were observed, and how many locations were born.
     pub sizes: [usize; 3],
-    /// The first argument of the first message that was observed.
+    // The first argument of the first message that was observed.
     pub observed: Option<Name>,
 }
 
@@ -49,7 +49,7 @@ fn told_of(made: &Made) -> Told {
 
 // ---- mail
 
-/// A mail of one message.
+// A mail of one message.
 pub fn mail_of(alloc: Global, msg: Msg) -> Result<Texts, Memory>
     ensures { IfOk result (Each IsMessageText) }
 {
@@ -59,7 +59,7 @@ pub fn mail_of(alloc: Global, msg: Msg) -> Result<Texts, Memory>
     Ok(mail)
 }
 
-/// Works this mail off. To which site the first flight goes, of those that go on.
+// Works this mail off. To which site the first flight goes, of those that go on.
 pub fn go_on(
     alloc: Global,
     site: &mut Site,
@@ -74,7 +74,7 @@ pub fn go_on(
 
 // ---- events
 
-/// The site makes the reaction that it chooses. None where that isn't one, or opens a location.
+// The site makes the reaction that it chooses. None where that isn't one, or opens a location.
 pub fn react<L: Run>(
     alloc: Global,
     site: &mut Site,
@@ -97,7 +97,7 @@ pub fn react<L: Run>(
     Ok(Some(tell(alloc, &made)?))
 }
 
-/// The site makes what it chooses. None where that is nothing.
+// The site makes what it chooses. None where that is nothing.
 pub fn make<L: Run>(
     alloc: Global,
     site: &mut Site,
@@ -128,7 +128,7 @@ fn is_to_go(site: &Site, atom: &AtomId) -> bool
     }
 }
 
-/// The site makes the move to the other site that it chooses. None where that isn't a move.
+// The site makes the move to the other site that it chooses. None where that isn't a move.
 pub fn go<L: Run>(
     alloc: Global,
     site: &mut Site,
@@ -154,8 +154,8 @@ pub fn go<L: Run>(
 
 // ---- what is left
 
-/// Whether the receipts of one pass agree with the book. None where there isn't one pass, or on
-/// want of memory.
+// Whether the receipts of one pass agree with the book. None where there isn't one pass, or on
+// want of memory.
 pub fn agree<L: Run>(alloc: Global, locked: &Locked<L>, passes: &Passes<L>) -> Option<bool> {
     if passes.as_slice().len() != 1 {
         return None;
@@ -165,7 +165,7 @@ pub fn agree<L: Run>(alloc: Global, locked: &Locked<L>, passes: &Passes<L>) -> O
     Some(differs.is_none())
 }
 
-/// Whether a message with this id waits at a location of the site.
+// Whether a message with this id waits at a location of the site.
 pub fn holds(alloc: Global, site: &Site, loc: &Loc, atom: &AtomId) -> Result<bool, Memory> {
     let parcel = site.pack(alloc, loc)?;
     for waiting in parcel.waiting.as_slice() {
@@ -176,7 +176,7 @@ pub fn holds(alloc: Global, site: &Site, loc: &Loc, atom: &AtomId) -> Result<boo
     Ok(false)
 }
 
-/// The number of the site that hosts a location of the tree.
+// The number of the site that hosts a location of the tree.
 pub fn root_of(tree: &LocTree, loc: &Loc) -> Option<u32> {
     if !tree.holds(loc) {
         return None;

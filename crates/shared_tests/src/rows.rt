@@ -23,14 +23,14 @@ use worked_programs::program_of;
 
 // ---- openings
 
-/// The sites of an opening with their tree.
+// The sites of an opening with their tree.
 #[derive(Drop)]
 struct Opening {
     tree: LocTree,
     sites: Vec<Site>,
 }
 
-/// With the book behind its lock, and one pass.
+// With the book behind its lock, and one pass.
 #[derive(Drop)]
 struct Begun<L: Run> {
     opening: Opening,
@@ -88,7 +88,7 @@ fn open<L: Run>(
 
 // ---- the mail of an opening
 
-/// How many messages wait in the mail of each of two sites, by a copy of it.
+// How many messages wait in the mail of each of two sites, by a copy of it.
 fn waiting(alloc: Global, mail: &Mails) -> Result<[usize; 2], Memory> {
     let copy = mail.copy(alloc)?;
     match copy.as_slice() {
@@ -127,13 +127,13 @@ fn the_mail_of_an_opening(rt: HostRuntime) {
 
 // ---- a reaction, and the same reaction once more
 
-/// What a reaction came to, and what it left.
+// What a reaction came to, and what it left.
 #[derive(Clone, Copy, PartialEq, Eq, Debug)]
 struct Reacted {
     made: Result<Option<Told>, Memory>,
-    /// Whether its message still waits.
+    // Whether its message still waits.
     held: Result<bool, Memory>,
-    /// Whether the site then chooses nothing.
+    // Whether the site then chooses nothing.
     quiet: bool,
     events: usize,
     agree: Option<bool>,
@@ -168,8 +168,8 @@ fn react_first<L: Run>(
     })
 }
 
-/// Where no mail goes on, and what two sites make that are opened alike, with one book and one
-/// pass.
+// Where no mail goes on, and what two sites make that are opened alike, with one book and one
+// pass.
 #[derive(Clone, Copy, PartialEq, Eq, Debug)]
 struct Twice {
     flight: Result<Option<u32>, Memory>,
@@ -218,7 +218,7 @@ fn run_twice(alloc: Global) -> Result<Twice, Front> {
     Ok(react_twice::<Brand>(alloc, &program, &code, Blank::new(1), &mut other)?)
 }
 
-/// Of a site that is quiet after this turn, whose message is gone, where the book has one event.
+// Of a site that is quiet after this turn, whose message is gone, where the book has one event.
 fn reacts_as(turn: Turn, sizes: [usize; 3], observed: Option<Name>) -> Reacted {
     Reacted {
         made: Ok(Some(Told {
@@ -233,7 +233,7 @@ fn reacts_as(turn: Turn, sizes: [usize; 3], observed: Option<Name>) -> Reacted {
     }
 }
 
-/// The book refuses the reaction the second time, and the site drops its message.
+// The book refuses the reaction the second time, and the site drops its message.
 #[test]
 fn a_reaction_and_the_same_once_more(rt: HostRuntime) {
     let made = reacts_as(Turn::Did(0), [0, 1, 0], Some(Name::Place(loc(0, 0))));
@@ -250,7 +250,7 @@ fn a_reaction_and_the_same_once_more(rt: HostRuntime) {
 
 // ---- moves
 
-/// What the first site chose, what came of it, and which site then hosts the location 0.1.
+// What the first site chose, what came of it, and which site then hosts the location 0.1.
 #[derive(Clone, Copy, PartialEq, Eq, Debug)]
 struct Moved {
     chosen: Option<Chosen>,
@@ -300,7 +300,7 @@ fn one_message(alloc: Global) -> Result<Texts, Memory>
     )
 }
 
-/// To which site a message to the location goes on, and whether it waits there.
+// To which site a message to the location goes on, and whether it waits there.
 type Came = (Option<u32>, bool);
 
 // It comes to one of the sites.
@@ -313,7 +313,7 @@ fn comes(alloc: Global, opening: &mut Opening, at: usize) -> Result<Came, Memory
     Ok((target, holds(alloc, site, &loc(0, 1), &atom(7, 7))?))
 }
 
-/// What a move came to, and what becomes of a message to the location at each of two sites.
+// What a move came to, and what becomes of a message to the location at each of two sites.
 #[derive(Clone, Copy, PartialEq, Eq, Debug)]
 struct Crossed {
     moved: Moved,
@@ -398,8 +398,8 @@ fn within(alloc: Global) -> Result<Moved, Front> {
     Ok(move_within::<Brand>(alloc, &program, &code, Blank::new(1))?)
 }
 
-/// Of the move by the first site's request with this number, after which this site hosts the
-/// location.
+// Of the move by the first site's request with this number, after which this site hosts the
+// location.
 fn moves_as(k: u64, host: u32) -> Moved {
     Moved {
         chosen: Some(Chosen::Ask(atom(0, k))),
@@ -412,7 +412,7 @@ fn moves_as(k: u64, host: u32) -> Moved {
     }
 }
 
-/// A message that comes to the site that the location left goes on to the other, where it waits.
+// A message that comes to the site that the location left goes on to the other, where it waits.
 #[test]
 fn a_move_to_another_site(rt: HostRuntime) {
     let crossed = Crossed {

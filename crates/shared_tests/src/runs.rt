@@ -16,10 +16,10 @@ use std::sync::Wait;
 use std::sync::ledger::Blank;
 use worked_programs::program_of;
 
-/// The number of the first turn that doesn't answer as wanted, and its answer.
+// The number of the first turn that doesn't answer as wanted, and its answer.
 type Other = Option<(usize, Option<Turn>)>;
 
-/// The network of a program, with so many passes.
+// The network of a program, with so many passes.
 pub fn begin<L: Run>(
     alloc: Global,
     program: &Program,

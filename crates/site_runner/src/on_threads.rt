@@ -23,7 +23,7 @@ use std::sync::ledger::Blank;
 use std::thread::Threads;
 use trace_history::Book;
 
-/// Whether each worker has ended: none met want of memory.
+// Whether each worker has ended: none met want of memory.
 fn have_ended<L: Run>(passes: &Passes<L>, sites: u32) -> bool
     ensures { result ≡ true → Each (λ p. HasEnded sites (row_of p)) passes.now }
 {
@@ -35,7 +35,7 @@ fn have_ended<L: Run>(passes: &Passes<L>, sites: u32) -> bool
     true
 }
 
-/// Lends one pass to each worker. Whether each worker has ended.
+// Lends one pass to each worker. Whether each worker has ended.
 fn work<L: Run + Send + Sync, G: Gate, R: Threads + Wait + Sync>(
     rt: &R,
     alloc: Global,
@@ -50,7 +50,7 @@ fn work<L: Run + Send + Sync, G: Gate, R: Threads + Wait + Sync>(
     have_ended(passes, net.sites())
 }
 
-/// Goes on from the book with which the receipts agree, on one thread.
+// Goes on from the book with which the receipts agree, on one thread.
 fn shared(alloc: Global, book: Book, report: Report, budget: u32) -> Result<Done, Memory>
     requires agreed { IsAgreed book.program budget report.workers book }
     requires none { report.differs ≡ None }
@@ -71,7 +71,7 @@ fn shared(alloc: Global, book: Book, report: Report, budget: u32) -> Result<Done
     }
 }
 
-/// The book of the whole run on one thread.
+// The book of the whole run on one thread.
 fn from_start(alloc: Global, program: &Program, budget: u32) -> Result<Book, Memory>
     ensures run { IfOk result (IsFinished program.now budget) }
     ensures whole { IfOk result (λ book. ScheduleOf program.now budget book.journal) }
@@ -80,7 +80,7 @@ fn from_start(alloc: Global, program: &Program, budget: u32) -> Result<Book, Mem
     finish(alloc, book, budget)
 }
 
-/// Makes the whole run on one thread, where the receipts don't agree with the book.
+// Makes the whole run on one thread, where the receipts don't agree with the book.
 fn lone(alloc: Global, program: &Program, report: Report, budget: u32) -> Result<Done, Memory>
     requires some { is_some report.differs ≡ true }
     requires started { IfSome report.differs (IsOfStarted program.now) }
@@ -101,8 +101,8 @@ fn lone(alloc: Global, program: &Program, report: Report, budget: u32) -> Result
     }
 }
 
-/// Goes on once the network is closed: from its book, or, where the receipts don't agree with that,
-/// with the whole run.
+// Goes on once the network is closed: from its book, or, where the receipts don't agree with that,
+// with the whole run.
 fn after_close(
     alloc: Global,
     program: &Program,

@@ -11,7 +11,7 @@ use chem_model::Memory;
 use std::alloc::Global;
 use trace_history::Book;
 
-/// The site whose turn comes after this one.
+// The site whose turn comes after this one.
 fn after(sites: usize, site: u32) -> u32
     requires within { site < sites }
     requires short { sites < 2 ^ 32 }
@@ -51,7 +51,7 @@ fn run_on(alloc: Global, book: &mut Book, budget: u32) -> Result<(), Memory>
     Ok(())
 }
 
-/// The run from a book, which it answers.
+// The run from a book, which it answers.
 pub(crate) fn finish(alloc: Global, book: Book, budget: u32) -> Result<Book, Memory>
     requires { length book.journal ≤ budget }
     ensures run { IfOk result (RunsOn book budget) }

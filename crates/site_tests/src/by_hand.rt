@@ -18,7 +18,7 @@ use std::alloc::Global;
 use std::process::Abort;
 use wire_packet::{Ask, GroupInst, Msg, Parcel, Request};
 
-/// Names that are one location.
+// Names that are one location.
 pub fn names_of(alloc: Global, place: Loc) -> Result<Names, Memory>
     ensures { IfOk result (λ names. names ≡ name.Place place ∷ []) }
 {
@@ -27,7 +27,7 @@ pub fn names_of(alloc: Global, place: Loc) -> Result<Names, Memory>
     Ok(names)
 }
 
-/// Names that are this location, or none.
+// Names that are this location, or none.
 pub fn args_of(alloc: Global, place: Option<Pair>) -> Result<Names, Memory>
     ensures few { IfOk result (λ names. length names ≤ 255) }
     ensures plain { IfOk result (λ names. Each IsPlain names) }
@@ -38,7 +38,7 @@ pub fn args_of(alloc: Global, place: Option<Pair>) -> Result<Names, Memory>
     }
 }
 
-/// Whether the name is no operation.
+// Whether the name is no operation.
 pub fn is_plain(name: Name) -> bool
     ensures plain { IsTrue result → IsPlain name }
     ensures count { IsTrue result → (n : ℕ) → HasCount name n }
@@ -60,8 +60,8 @@ fn asks_plain(ask: Ask) -> bool
     }
 }
 
-/// Puts a message on the channel with this number and home, with this location or without
-/// arguments.
+// Puts a message on the channel with this number and home, with this location or without
+// arguments.
 pub fn put_at(
     rt: &impl Abort,
     alloc: Global,
@@ -100,8 +100,8 @@ fn is_small(code: &Code, level: u32) -> bool
     }
 }
 
-/// Lays a group of a level, as the first one of its site, with these first numbers of site 0 and no
-/// environment.
+// Lays a group of a level, as the first one of its site, with these first numbers of site 0 and no
+// environment.
 pub fn lay_at(
     rt: &impl Abort,
     alloc: Global,
@@ -126,7 +126,7 @@ pub fn lay_at(
     site.lay(alloc, code, group)
 }
 
-/// Adds a request.
+// Adds a request.
 pub fn ask_at(
     rt: &impl Abort,
     site: &mut Site,
@@ -151,7 +151,7 @@ pub fn drop_at(rt: &impl Abort, site: &mut Site, atom: AtomId) {
     site.drop_request(&atom);
 }
 
-/// Takes the message in front of the first channel of the first group.
+// Takes the message in front of the first channel of the first group.
 pub fn take_at(rt: &impl Abort, site: &mut Site) {
     assert!(rt; 0 < site.groups());
     assert!(rt; 0 < site.width(0));
@@ -159,13 +159,13 @@ pub fn take_at(rt: &impl Abort, site: &mut Site) {
     site.take_front(0, 0);
 }
 
-/// Draws so many numbers, and answers the first.
+// Draws so many numbers, and answers the first.
 pub fn draw_at(rt: &impl Abort, site: &mut Site, more: u32) -> u64 {
     assert!(rt; site.made() < 1000);
     site.draw(more)
 }
 
-/// Pours one message at a location.
+// Pours one message at a location.
 pub fn emit_at(
     rt: &impl Abort,
     alloc: Global,
@@ -192,7 +192,7 @@ pub fn emit_at(
     site.emit(alloc, tree, counts, &loc, on, args)
 }
 
-/// Pours one message at the root of the site, whose argument is this location or none.
+// Pours one message at the root of the site, whose argument is this location or none.
 pub fn emit_root(
     rt: &impl Abort,
     alloc: Global,
@@ -250,7 +250,7 @@ fn body_of(code: &Code, guard: usize) -> Option<(u32, usize)>
     Some((guard.body, level.depth as usize + count as usize))
 }
 
-/// Pours the body of a guard of one channel at a location, under this location alone.
+// Pours the body of a guard of one channel at a location, under this location alone.
 pub fn pour_at(
     rt: &impl Abort,
     alloc: Global,
@@ -272,7 +272,7 @@ pub fn pour_at(
     }
 }
 
-/// Takes in a location with one group and nothing else, at a site without groups.
+// Takes in a location with one group and nothing else, at a site without groups.
 pub fn take_in_at(
     rt: &impl Abort,
     alloc: Global,

@@ -16,7 +16,7 @@ use std::alloc::Global;
 use std::process::Abort;
 use wire_packet::Msg;
 
-/// What the site holds is in the tree and of the code.
+// What the site holds is in the tree and of the code.
 pub fn fit(rt: &impl Abort, site: &Site, code: &Code, tree: &LocTree)
     ensures tree { is_in_tree tree.now site.now ≡ true }
     ensures code { is_in_code code.now tree.now site.now ≡ true }
@@ -25,14 +25,14 @@ pub fn fit(rt: &impl Abort, site: &Site, code: &Code, tree: &LocTree)
     assert!(rt; site.in_code(code, tree));
 }
 
-/// The site may draw numbers.
+// The site may draw numbers.
 pub fn draws(rt: &impl Abort, site: &Site, tree: &LocTree)
     ensures { CanDraw tree.now site.now }
 {
     assert!(rt; site.can_draw(tree));
 }
 
-/// The event that is ready at a site.
+// The event that is ready at a site.
 pub fn event_at(
     rt: &impl Abort,
     alloc: Global,
@@ -47,13 +47,13 @@ pub fn event_at(
     }
 }
 
-/// Whether nothing is ready at a site.
+// Whether nothing is ready at a site.
 pub fn is_quiet(rt: &impl Abort, site: &Site, code: &Code, tree: &LocTree) -> bool {
     fit(rt, site, code, tree);
     ready(site, code, tree).is_none()
 }
 
-/// The site makes what is ready.
+// The site makes what is ready.
 pub fn react_at(
     rt: &impl Abort,
     alloc: Global,
@@ -69,7 +69,7 @@ pub fn react_at(
     }
 }
 
-/// Delivers a message. One that goes on is mail again, and the site to which it goes is answered.
+// Delivers a message. One that goes on is mail again, and the site to which it goes is answered.
 pub fn deliver_at(
     rt: &impl Abort,
     site: &mut Site,
@@ -91,7 +91,7 @@ pub fn deliver_at(
     }
 }
 
-/// Meets a request to go within a site.
+// Meets a request to go within a site.
 pub fn move_at(
     rt: &impl Abort,
     alloc: Global,
@@ -107,7 +107,7 @@ pub fn move_at(
     move_within(alloc, site, tree, counts, &atom)
 }
 
-/// Meets a request to go from one site to another.
+// Meets a request to go from one site to another.
 pub fn move_over(
     rt: &impl Abort,
     alloc: Global,
@@ -135,7 +135,7 @@ fn is_halt(event: &Event, atom: AtomId) -> bool {
     }
 }
 
-/// Meets a request to halt.
+// Meets a request to halt.
 pub fn halt_at(rt: &impl Abort, tree: &mut LocTree, site: &mut Site, atom: AtomId) {
     assert!(rt; site.in_tree(tree));
     assert!(rt; halt_ready(site, tree, &atom));
@@ -143,7 +143,7 @@ pub fn halt_at(rt: &impl Abort, tree: &mut LocTree, site: &mut Site, atom: AtomI
     assert!(rt; is_halt(&event, atom));
 }
 
-/// Meets a request to detect a failure.
+// Meets a request to detect a failure.
 pub fn detect_at(
     rt: &impl Abort,
     alloc: Global,

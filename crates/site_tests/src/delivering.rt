@@ -20,8 +20,8 @@ fn two_sites() -> &'static [u8] {
     b"site s [ none : 0 ] site t [ none : 0 ]"
 }
 
-/// A message on the second name of the first site, as a channel whose home is elsewhere, goes on,
-/// and the one whose home is here stays.
+// A message on the second name of the first site, as a channel whose home is elsewhere, goes on,
+// and the one whose home is here stays.
 const DELIVERS: &[Step] = &[
     Step::Tree(Place::Born(BORN, 1)),
     Step::Tree(Place::Addressed(BORN, 1)),
@@ -43,7 +43,7 @@ fn a_message_goes_where_its_home_is(rt: HostRuntime) -> Result<(), Fail> {
     run_by_hand(&rt, rt.alloc(), two_sites(), delivers())
 }
 
-/// Where a copy of a delivery goes, and with which message.
+// Where a copy of a delivery goes, and with which message.
 fn goes_to(alloc: Global, delivery: &Delivery) -> Result<Option<(u32, AtomId)>, Memory> {
     match delivery.copy(alloc)? {
         Delivery::Delivered => Ok(None),
@@ -51,7 +51,7 @@ fn goes_to(alloc: Global, delivery: &Delivery) -> Result<Option<(u32, AtomId)>, 
     }
 }
 
-/// The message goes on to the site 3.
+// The message goes on to the site 3.
 fn goes_on(alloc: Global, id: AtomId) -> Result<Option<(u32, AtomId)>, Memory> {
     let msg = Msg {
         id,

@@ -21,8 +21,8 @@ const DETECTS: Ask = Ask::Fail {
     cont: Name::Place(Loc { site: 0, k: 0 }),
 };
 
-/// It hosts a location, and asks at the location to halt by 0.2, and at the root to detect by 0.3
-/// that the location has halted.
+// It hosts a location, and asks at the location to halt by 0.2, and at the root to detect by 0.3
+// that the location has halted.
 const HALTS: &[Step] = &[
     Step::Change(0, Change::Hosts(BORN)),
     Step::Change(0, Change::Asks((0, 2), BORN, Ask::Halt)),

@@ -6,19 +6,19 @@ use crate::shown::{Fact, Leaves, Look};
 use crate::steps::{Change, Deed, Place, Step, run};
 use std::test::Fail;
 
-/// The location that falls.
+// The location that falls.
 const M: Pair = (0, 1);
 
-/// The location is 0.1, its channels 0.2 and 0.3 with the rule 0.4. There wait 0.5 on `p` and the
-/// requests 0.6 to go and 0.7 to halt. The other site halts by 1.1.
+// The location is 0.1, its channels 0.2 and 0.3 with the rule 0.4. There wait 0.5 on `p` and the
+// requests 0.6 to go and 0.7 to halt. The other site halts by 1.1.
 fn faller() -> &'static [u8] {
     b"version 2; observe out/1; \
         site a [ m[ p(u) | k() => out(u) : p(b) | go(b, k) | halt() ] : 0 ] \
         site b [ none : halt() ]"
 }
 
-/// A message to the location is under way when it falls. It is sent on to the dead site, and waits
-/// there; the continuation doesn't come, nothing reacts, and nothing halts.
+// A message to the location is under way when it falls. It is sent on to the dead site, and waits
+// there; the continuation doesn't come, nothing reacts, and nothing halts.
 const FALLS: &[Step] = &[
     Step::See(0, Look::MayGo(2, (0, 6), true)),
     Step::Change(1, Change::Halts((1, 1))),
@@ -46,15 +46,15 @@ fn a_location_with_all_that_it_holds(rt: HostRuntime) -> Result<(), Fail> {
     run(&rt, rt.alloc(), faller(), falls())
 }
 
-/// The channel `d` is 0.1 with the rule 0.4, the location 0.2, its request 0.6, and the request 0.7
-/// asks whether it is dead. The other site halts by 1.1.
+// The channel `d` is 0.1 with the rule 0.4, the location 0.2, its request 0.6, and the request 0.7
+// asks whether it is dead. The other site halts by 1.1.
 fn watched() -> &'static [u8] {
     b"version 2; observe out/0; \
         site a [ m[ k() => out() : go(b, k) ] and d() => out() : fail(m, d) ] \
         site b [ none : halt() ]"
 }
 
-/// The death is detected, by 0.8.
+// The death is detected, by 0.8.
 const IS_SEEN: &[Step] = &[
     Step::Change(1, Change::Halts((1, 1))),
     Step::See(0, Look::FindsDead((0, 7), false)),

@@ -11,15 +11,15 @@ use std::process::Abort;
 use std::test::Fail;
 use wire_packet::Parcel;
 
-/// The location that moves.
+// The location that moves.
 const M: Pair = (0, 1);
 
-/// The location is 0.1, its channel 0.2 with the rule 0.3, and its request 0.4.
+// The location is 0.1, its channel 0.2 with the rule 0.3, and its request 0.4.
 fn mover() -> &'static [u8] {
     b"observe out/1; site a [ m[ k() => out(m) : go(b, k) ] : 0 ] site b [ none : 0 ]"
 }
 
-/// The location 0.1 with a group of level 1, the first channel 0.2 and the first rule 0.3.
+// The location 0.1 with a group of level 1, the first channel 0.2 and the first rule 0.3.
 fn parcel() -> &'static [u8] {
     &[
         2, 0, 0, 0, 0, 0, 0, 0, 0, 0, 0, 0, 1, 0, 0, 0, 1, 0, 0, 0, 1, 0, 0, 0, 0, 0, 0, 0, 0, 0,
@@ -27,7 +27,7 @@ fn parcel() -> &'static [u8] {
     ]
 }
 
-/// Its request is dropped.
+// Its request is dropped.
 const BEFORE_IT_IS_CARRIED: &[Step] = &[Step::Change(0, Change::Drops((0, 4)))];
 
 fn before_it_is_carried() -> &'static [Step] {
@@ -85,7 +85,7 @@ fn a_location_in_a_parcel(rt: HostRuntime) -> Result<(), Fail> {
     Ok(())
 }
 
-/// After the move the continuation is 1.1. A message that comes to the first site then follows.
+// After the move the continuation is 1.1. A message that comes to the first site then follows.
 const TO_THE_OTHER_SITE: &[Step] = &[
     Step::Across(0, (0, 4)),
     Step::Tree(Place::Stands(M, 1, true)),
@@ -111,8 +111,8 @@ fn neighbours() -> &'static [u8] {
     b"site a [ m[ k() => 0 : go(a, k) ] and n[ j() => 0 : go(m, j) ] : 0 ]"
 }
 
-/// The locations are 0.1 and 0.3, with the requests 0.6 and 0.8; the target of the second one is no
-/// site.
+// The locations are 0.1 and 0.3, with the requests 0.6 and 0.8; the target of the second one is no
+// site.
 const TO_THE_PRESENT_HOST: &[Step] = &[
     Step::Make(0, Deed::Goes((0, 6)), Leaves::Nothing),
     Step::Tree(Place::Stands(M, 0, true)),
@@ -135,7 +135,7 @@ fn watched() -> &'static [u8] {
         site b [ none : 0 ]"
 }
 
-/// The channel `d` is 0.1, the location 0.2, and the request 0.7 asks whether it is dead.
+// The channel `d` is 0.1, the location 0.2, and the request 0.7 asks whether it is dead.
 const DIES: &[Step] = &[
     Step::Tree(Place::Killed((0, 2))),
     Step::Make(0, Deed::Detects((0, 7)), Leaves::Nothing),
@@ -151,9 +151,9 @@ fn a_dead_location_is_detected(rt: HostRuntime) -> Result<(), Fail> {
     run(&rt, rt.alloc(), watched(), dies())
 }
 
-/// The location is 0.1, with the channels 0.2 to 0.4 under the rule 0.5, and 0.6 and 0.7 under the
-/// rule 0.8 that its process makes. There wait 0.9 on `z`, and 0.10 and 0.11 on `p`; the requests
-/// are 0.12 and 0.13 to go, 0.14 to detect and 0.15 to halt. The site asks to halt by 0.16.
+// The location is 0.1, with the channels 0.2 to 0.4 under the rule 0.5, and 0.6 and 0.7 under the
+// rule 0.8 that its process makes. There wait 0.9 on `z`, and 0.10 and 0.11 on `p`; the requests
+// are 0.12 and 0.13 to go, 0.14 to detect and 0.15 to halt. The site asks to halt by 0.16.
 fn traveller() -> &'static [u8] {
     b"observe out/1; \
       site a [ m[ p(u) | k() | f() => out(u) : \
@@ -163,16 +163,16 @@ fn traveller() -> &'static [u8] {
       site c [ none : 0 ]"
 }
 
-/// The channel `f` of the location.
+// The channel `f` of the location.
 const F: Name = Name::Chan {
     site: 0,
     k: 4,
     home: Loc { site: 0, k: 1 },
 };
 
-/// The location moves twice, with the continuations 1.1 and 2.1. A message that the first site
-/// sends after the first move is 0.17; it comes to the second site after the second move, and
-/// follows.
+// The location moves twice, with the continuations 1.1 and 2.1. A message that the first site
+// sends after the first move is 0.17; it comes to the second site after the second move, and
+// follows.
 const TRAVELS: &[Step] = &[
     Step::Across(0, (0, 12)),
     Step::See(
@@ -230,8 +230,8 @@ fn a_location_moves_twice(rt: HostRuntime) -> Result<(), Fail> {
     Ok(())
 }
 
-/// The first site halts, and not the location that moved away, which detects it by 2.2 and then
-/// halts itself.
+// The first site halts, and not the location that moved away, which detects it by 2.2 and then
+// halts itself.
 const THE_FIRST_SITE_HALTS: &[Step] = &[
     Step::Change(0, Change::Halts((0, 16))),
     Step::Tree(Place::Stands((0, 0), 0, false)),

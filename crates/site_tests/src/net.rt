@@ -31,7 +31,7 @@ pub struct Net {
     pub code: Box<Code>,
     pub tree: LocTree,
     pub sites: Vec<Site>,
-    /// The messages that are on their way, the newest last.
+    // The messages that are on their way, the newest last.
     pub mail: Vec<Msg>,
 }
 
@@ -57,14 +57,14 @@ fn open(rt: &impl Abort, alloc: Global, net: &mut Net) -> Result<(), Memory> {
     Ok(())
 }
 
-/// A text whose sites are opened.
+// A text whose sites are opened.
 pub fn net_of(rt: &impl Abort, alloc: Global, text: &[u8]) -> Result<Box<Net>, Memory> {
     let mut net = closed(alloc, text)?;
     open(rt, alloc, &mut net)?;
     Ok(net)
 }
 
-/// A text of which only the first site is there, which hosts its root alone.
+// A text of which only the first site is there, which hosts its root alone.
 pub fn net_by_hand(alloc: Global, text: &[u8]) -> Result<Box<Net>, Memory> {
     let mut net = closed(alloc, text)?;
     let site = Site::empty(alloc, 0)?;

@@ -6,13 +6,13 @@ use crate::shown::{Leaves, Look};
 use crate::steps::{Step, run};
 use std::test::Fail;
 
-/// The channels are 0.1 and 1.1, the rules 0.2 and 1.2, and the message of the opening 0.3.
+// The channels are 0.1 and 1.1, the rules 0.2 and 1.2, and the message of the opening 0.3.
 fn sum_for_another_site() -> &'static [u8] {
     b"version 2; observe out/1; site s [ x() => add(2, 3, k) : x() ] \
         site t [ k(u) => out(u) : 0 ]"
 }
 
-/// The sum is the message 0.4, which goes to the other site.
+// The sum is the message 0.4, which goes to the other site.
 const GOES_TO_ANOTHER_SITE: &[Step] = &[
     Step::React(0, (0, 2), &[(0, 3)], Leaves::Sent(1)),
     Step::Arrives(1),
@@ -33,14 +33,14 @@ fn a_sum_for_another_site(rt: HostRuntime) -> Result<(), Fail> {
     )
 }
 
-/// The channel is 0.1, its rule 0.2, and the message of the opening 0.3.
+// The channel is 0.1, its rule 0.2, and the message of the opening 0.3.
 fn sums_beside_a_location() -> &'static [u8] {
     b"version 2; observe out/1; site s [ x(u) => \
         def m[ k(v) => out(v) : add(u, 1, k) ] in add(u, 2, out) : x(3) ]"
 }
 
-/// The location is 0.4, its channel 0.5 and its rule 0.6. There stands the one sum as 0.7; the
-/// other is observed, and takes no number.
+// The location is 0.4, its channel 0.5 and its rule 0.6. There stands the one sum as 0.7; the
+// other is observed, and takes no number.
 const SUMS_WITHIN_A_BODY: &[Step] = &[
     Step::React(0, (0, 2), &[(0, 3)], Leaves::Sizes([0, 1, 1])),
     Step::See(0, Look::Has((0, 4), 1, &[(0, 7)])),
@@ -61,16 +61,16 @@ fn a_sum_within_a_body_that_opens_a_location(rt: HostRuntime) -> Result<(), Fail
     )
 }
 
-/// The location that moves.
+// The location that moves.
 const M: Pair = (0, 1);
 
-/// The location is 0.1, its channel 0.2 with the rule 0.3, the operation 0.4, and the request 0.5.
+// The location is 0.1, its channel 0.2 with the rule 0.3, the operation 0.4, and the request 0.5.
 fn operation_that_stays() -> &'static [u8] {
     b"version 2; observe out/1; \
         site a [ m[ k() => out(a) : add(a, 1, out) | go(b, k) ] : 0 ] site b [ none : 0 ]"
 }
 
-/// The continuation is 1.1.
+// The continuation is 1.1.
 const MOVES_ALONG: &[Step] = &[
     Step::See(0, Look::Has(M, 1, &[(0, 4), (0, 5)])),
     Step::Across(0, (0, 5)),

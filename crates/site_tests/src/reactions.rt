@@ -11,7 +11,7 @@ use wire_packet::Ask;
 
 const ROOT: Pair = (0, 0);
 
-/// The channel is 0.1, its rule 0.2, and the message of the opening 0.3.
+// The channel is 0.1, its rule 0.2, and the message of the opening 0.3.
 fn first() -> &'static [u8] {
     b"observe out/1; site s [ x(u) => out(u) : x(s) ]"
 }
@@ -31,8 +31,8 @@ fn the_first_example(rt: HostRuntime) -> Result<(), Fail> {
     run(&rt, rt.alloc(), first(), reacts_once())
 }
 
-/// A message that is observed, the body of the rule at the root, under the root's own name, and a
-/// message that is delivered.
+// A message that is observed, the body of the rule at the root, under the root's own name, and a
+// message that is delivered.
 const CALLS: &[Step] = &[
     Step::Make(
         0,
@@ -55,8 +55,8 @@ fn calls_of_an_opened_site(rt: HostRuntime) -> Result<(), Fail> {
     run(&rt, rt.alloc(), first(), calls())
 }
 
-/// A group and a message of its count come, and then a message of another count, a request and a
-/// location.
+// A group and a message of its count come, and then a message of another count, a request and a
+// location.
 const COMES_TO_HAVE_ALL: &[Step] = &[
     Step::Change(0, Change::Lays),
     Step::Change(0, Change::Puts((0, 3), Some(ROOT))),
@@ -75,7 +75,7 @@ fn comes_to_have_all() -> &'static [Step] {
     COMES_TO_HAVE_ALL
 }
 
-/// A site to which all this comes one by one.
+// A site to which all this comes one by one.
 #[test]
 fn a_site_by_hand(rt: HostRuntime) -> Result<(), Fail> {
     run_by_hand(&rt, rt.alloc(), first(), comes_to_have_all())
@@ -106,7 +106,7 @@ fn wide(alloc: Global, messages: u32) -> Result<Vec<u8>, AllocError> {
     Ok(text)
 }
 
-/// The channels are 0.1 to 0.65, the rule 0.66, and the messages 0.67 to 0.131.
+// The channels are 0.1 to 0.65, the rule 0.66, and the messages 0.67 to 0.131.
 const MESSAGES: &[Pair] = &[
     (0, 67),
     (0, 68),
@@ -175,7 +175,7 @@ const MESSAGES: &[Pair] = &[
     (0, 131),
 ];
 
-/// The reaction that takes all 65 messages is made.
+// The reaction that takes all 65 messages is made.
 const TAKES_ALL: &[Step] = &[
     Step::React(0, (0, 66), MESSAGES, Leaves::Sizes([0, 1, 0])),
     Step::See(0, Look::Quiet),
@@ -207,8 +207,8 @@ fn twice() -> &'static [u8] {
     b"observe out/1; site s [ a(u) => def b() => out(u) in b() : a(s) | a(t) ] site t [ none : 0 ]"
 }
 
-/// The rule is 0.2, and its messages 0.3 and 0.4. The first reaction makes the channel 0.5 with its
-/// rule 0.6 and the message 0.7, the second one 0.8, 0.9 and 0.10.
+// The rule is 0.2, and its messages 0.3 and 0.4. The first reaction makes the channel 0.5 with its
+// rule 0.6 and the message 0.7, the second one 0.8, 0.9 and 0.10.
 const MAKES_TWO_GROUPS: &[Step] = &[
     Step::React(0, (0, 2), &[(0, 3)], Leaves::Sizes([0, 0, 0])),
     Step::React(0, (0, 2), &[(0, 4)], Leaves::Sizes([0, 0, 0])),
@@ -232,9 +232,9 @@ fn nested() -> &'static [u8] {
       site t [ x(v) => out(v) : 0 ]"
 }
 
-/// The channels of the sites are 0.1 and 1.1, their rules 0.2 and 1.2, and the message 0.3. The
-/// body names the channel 0.4, the location 0.5 and its channel 0.6, lays the rules 0.7 and 0.8,
-/// and pours 0.9 in the location and 0.10 beside it. That one's body sends 0.11 to the other site.
+// The channels of the sites are 0.1 and 1.1, their rules 0.2 and 1.2, and the message 0.3. The
+// body names the channel 0.4, the location 0.5 and its channel 0.6, lays the rules 0.7 and 0.8,
+// and pours 0.9 in the location and 0.10 beside it. That one's body sends 0.11 to the other site.
 const MAKES_A_PLACE: &[Step] = &[
     Step::React(0, (0, 2), &[(0, 3)], Leaves::Sizes([0, 0, 1])),
     Step::See(0, Look::Has((0, 5), 1, &[(0, 9)])),
@@ -258,8 +258,8 @@ fn three() -> &'static [u8] {
     b"observe out/0; site s [ a() => out() and b() => out() and c() => out() : c() | b() | a() ]"
 }
 
-/// The channels are 0.1 to 0.3, the rules 0.4 to 0.6, and the messages 0.7 on the last channel, 0.8
-/// and 0.9. The least rule goes first, whichever message came first.
+// The channels are 0.1 to 0.3, the rules 0.4 to 0.6, and the messages 0.7 on the last channel, 0.8
+// and 0.9. The least rule goes first, whichever message came first.
 const LEAST_FIRST: &[Step] = &[
     Step::See(0, Look::Knows),
     Step::React(0, (0, 4), &[(0, 9)], Leaves::Sizes([0, 1, 0])),
@@ -284,8 +284,8 @@ fn pattern() -> &'static [u8] {
     b"observe out/0; site s [ a() | b() => out() : a() | a() | b() ]"
 }
 
-/// The channels are 0.1 and 0.2, the rule 0.3, and the messages 0.4 and 0.5 on the first channel
-/// and 0.6 on the second. Another one comes to the second when there is none.
+// The channels are 0.1 and 0.2, the rule 0.3, and the messages 0.4 and 0.5 on the first channel
+// and 0.6 on the second. Another one comes to the second when there is none.
 const READY_TWICE: &[Step] = &[
     Step::React(0, (0, 3), &[(0, 4), (0, 6)], Leaves::Sizes([0, 1, 0])),
     Step::See(0, Look::Quiet),

@@ -10,11 +10,11 @@ use std::alloc::Global;
 use std::process::Abort;
 use std::test::Fail;
 
-/// The location that moves.
+// The location that moves.
 const M: Pair = (0, 1);
 
-/// The location is 0.1. There wait 0.7 on the channel that its process makes, and 0.8 and 0.9 on
-/// another; it asks to go by 0.10, to detect by 0.11 and to halt by 0.12. The continuation is 1.4.
+// The location is 0.1. There wait 0.7 on the channel that its process makes, and 0.8 and 0.9 on
+// another; it asks to go by 0.10, to detect by 0.11 and to halt by 0.12. The continuation is 1.4.
 fn traveller() -> &'static [u8] {
     b"observe out/1; \
       site a [ m[ p(u) | k() => out(u) : \
@@ -85,7 +85,7 @@ fn has_moved(rt: &impl Abort, alloc: Global, net: &mut Net) -> Result<bool, Memo
     Ok(moved)
 }
 
-/// It stands at the second site, with all that stood there.
+// It stands at the second site, with all that stood there.
 const ALL_THERE: &[Step] = &[
     Step::Tree(Place::Stands(M, 1, true)),
     Step::Has(0, Fact::Hosts(M, false)),
@@ -110,7 +110,7 @@ fn moves(rt: &impl Abort, alloc: Global) -> Result<bool, Memory> {
     Ok(moved)
 }
 
-/// It says how it ended. Where all memory is there, the location moves.
+// It says how it ended. Where all memory is there, the location moves.
 #[test]
 fn a_move_is_whole_or_not_made(rt: HostRuntime) -> Result<(), Fail> {
     let ended = match moves(&rt, rt.alloc()) {

@@ -16,17 +16,17 @@ use wire_packet::{Ask, Msg, Packet, Parcel, Request, encode};
 
 // ---- what comes of a call
 
-/// What comes of a call.
+// What comes of a call.
 #[derive(Clone, Copy)]
 pub enum Leaves {
     Nothing,
-    /// One message with this location is observed, and nothing else comes of it.
+    // One message with this location is observed, and nothing else comes of it.
     Observed(Pair),
-    /// One message with this number is observed, and nothing else comes of it.
+    // One message with this number is observed, and nothing else comes of it.
     Counted(u64),
-    /// So many messages go to other sites, so many are observed, and so many locations are born.
+    // So many messages go to other sites, so many are observed, and so many locations are born.
     Sizes([usize; 3]),
-    /// One message goes to the site with this number, and nothing else comes of it.
+    // One message goes to the site with this number, and nothing else comes of it.
     Sent(u32),
 }
 
@@ -53,7 +53,7 @@ fn has_target(effects: &Effects, target: u32) -> bool {
     }
 }
 
-/// Whether this comes of a call.
+// Whether this comes of a call.
 pub fn has_left(effects: &Effects, want: Leaves) -> bool {
     match want {
         Leaves::Nothing => has_sizes(effects, [0, 0, 0]),
@@ -70,24 +70,24 @@ pub fn has_left(effects: &Effects, want: Leaves) -> bool {
 
 // ---- what a site has
 
-/// What a site has.
+// What a site has.
 #[derive(Clone, Copy)]
 pub enum Fact {
-    /// How many numbers it has made.
+    // How many numbers it has made.
     Made(u64),
-    /// Whether it hosts a location.
+    // Whether it hosts a location.
     Hosts(Pair, bool),
-    /// Whether it has a message or a request with this id.
+    // Whether it has a message or a request with this id.
     Holds(Pair, bool),
-    /// Whether it has a request with this id.
+    // Whether it has a request with this id.
     Requests(Pair, bool),
-    /// The number of the request at this place, or none.
+    // The number of the request at this place, or none.
     RequestAt(u32, Option<u64>),
-    /// A location asks to halt by the request with this id.
+    // A location asks to halt by the request with this id.
     AsksToHalt(Pair, Pair),
-    /// The number of the front message of the first channel of the first group, or none.
+    // The number of the front message of the first channel of the first group, or none.
     Front(Option<u64>),
-    /// Whether the first group, of one channel, has a message there.
+    // Whether the first group, of one channel, has a message there.
     Covered(bool),
 }
 
@@ -125,7 +125,7 @@ fn is_covered(site: &Site, want: bool) -> bool {
     0 < site.groups() && site.width(0) == 1 && site.covered(0, &[1]) == want
 }
 
-/// Whether this is so of a site.
+// Whether this is so of a site.
 pub fn has(site: &Site, fact: Fact) -> bool {
     match fact {
         Fact::Made(made) => site.made() == made,
@@ -141,25 +141,25 @@ pub fn has(site: &Site, fact: Fact) -> bool {
 
 // ---- what a site shows
 
-/// What a site shows beside the code and the tree.
+// What a site shows beside the code and the tree.
 #[derive(Clone, Copy)]
 pub enum Look {
-    /// The reaction of this rule with these atoms is ready.
+    // The reaction of this rule with these atoms is ready.
     Waits(Pair, &'static [Pair]),
-    /// Nothing is ready.
+    // Nothing is ready.
     Quiet,
-    /// The index tells what is ready, without a walk.
+    // The index tells what is ready, without a walk.
     Knows,
-    /// So many groups stand at a location, and these messages in the order of queues and then these
-    /// requests in the order of their ids.
+    // So many groups stand at a location, and these messages in the order of queues and then these
+    // requests in the order of their ids.
     Has(Pair, usize, &'static [Pair]),
-    /// Whether a request to go may be met in a text of this version.
+    // Whether a request to go may be met in a text of this version.
     MayGo(u32, Pair, bool),
-    /// Whether a request to halt may be met.
+    // Whether a request to halt may be met.
     MayHalt(Pair, bool),
-    /// Whether a request finds its location dead.
+    // Whether a request finds its location dead.
     FindsDead(Pair, bool),
-    /// Whether a message without arguments may be delivered on a name.
+    // Whether a message without arguments may be delivered on a name.
     Takes(Name, bool),
 }
 
@@ -240,7 +240,7 @@ fn has_at(
     packs(alloc, &parcel, groups, atoms)
 }
 
-/// What stands at a location, as bytes.
+// What stands at a location, as bytes.
 pub fn packed(alloc: Global, site: &Site, place: Loc) -> Result<Text, Memory> {
     let parcel = site.pack(alloc, &place)?;
     encode(alloc, &Packet::Parcel(parcel))
@@ -259,7 +259,7 @@ fn takes(alloc: Global, site: &Site, tree: &LocTree, on: Name) -> bool {
     can_deliver(site, tree, &msg)
 }
 
-/// Whether a site shows this.
+// Whether a site shows this.
 pub fn shows(
     rt: &impl Abort,
     alloc: Global,
@@ -288,12 +288,12 @@ pub fn shows(
 
 // ---- where locations are
 
-/// Whether this site hosts the location, and it is alive or not.
+// Whether this site hosts the location, and it is alive or not.
 pub fn is_hosted(tree: &LocTree, place: Loc, root: u32, alive: bool) -> bool {
     tree.holds(&place) && tree.root(&place) == root && tree.alive(&place) == alive
 }
 
-/// Whether messages to the location go to this site.
+// Whether messages to the location go to this site.
 pub fn is_addressed(tree: &LocTree, place: Loc, target: u32) -> bool {
     tree.holds(&place) && address(tree, &place) == target
 }

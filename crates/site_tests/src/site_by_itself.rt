@@ -9,12 +9,12 @@ use wire_packet::Ask;
 
 const ROOT: Pair = (0, 0);
 
-/// Its one level has a guard of one channel with one argument.
+// Its one level has a guard of one channel with one argument.
 fn text() -> &'static [u8] {
     b"site s [ x(u) => 0 : 0 ]"
 }
 
-/// Two messages come before the group.
+// Two messages come before the group.
 const TAKES_WHAT_WAITED: &[Step] = &[
     Step::Change(0, Change::Puts((0, 3), Some(ROOT))),
     Step::Change(0, Change::Puts((0, 4), Some(ROOT))),
@@ -33,7 +33,7 @@ fn a_message_waits_for_its_group(rt: HostRuntime) -> Result<(), Fail> {
     run_by_hand(&rt, rt.alloc(), text(), takes_what_waited())
 }
 
-/// The group comes before a message of another count and one of its count.
+// The group comes before a message of another count and one of its count.
 const TAKES_ITS_COUNT: &[Step] = &[
     Step::Change(0, Change::Lays),
     Step::Change(0, Change::Puts((0, 3), None)),
@@ -54,7 +54,7 @@ fn a_wrong_count_stays_beside_the_queues(rt: HostRuntime) -> Result<(), Fail> {
     run_by_hand(&rt, rt.alloc(), text(), takes_its_count())
 }
 
-/// The site is asked twice to halt.
+// The site is asked twice to halt.
 const FINDS_REQUESTS: &[Step] = &[
     Step::Change(0, Change::Asks((0, 5), ROOT, Ask::Halt)),
     Step::Change(0, Change::Asks((0, 3), ROOT, Ask::Halt)),

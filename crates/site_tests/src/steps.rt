@@ -23,76 +23,76 @@ use wire_packet::{Ask, Msg, Packet, decode};
 
 const ROOT: Loc = Loc { site: 0, k: 0 };
 
-/// A channel: its number, and its home.
+// A channel: its number, and its home.
 pub type Channel = (Pair, Pair);
 
-/// What a site makes.
+// What a site makes.
 #[derive(Clone, Copy)]
 pub enum Deed {
-    /// The reaction that is ready.
+    // The reaction that is ready.
     Reacts,
-    /// A location moves within the site, by its request.
+    // A location moves within the site, by its request.
     Goes(Pair),
-    /// A failure is detected, by the request.
+    // A failure is detected, by the request.
     Detects(Pair),
-    /// A message is poured at the root, with a location or without arguments.
+    // A message is poured at the root, with a location or without arguments.
     Pours(Name, Option<Pair>),
-    /// The body of a guard of one channel is poured at a location, under this location alone.
+    // The body of a guard of one channel is poured at a location, under this location alone.
     PoursBody(Pair, usize),
 }
 
-/// A change without effects.
+// A change without effects.
 #[derive(Clone, Copy)]
 pub enum Change {
-    /// The first level is laid at the root, with the channel 0.1 and the rule 0.2, as the first
-    /// group.
+    // The first level is laid at the root, with the channel 0.1 and the rule 0.2, as the first
+    // group.
     Lays,
-    /// A message with this id comes on the channel 0.1, with a location or without arguments.
+    // A message with this id comes on the channel 0.1, with a location or without arguments.
     Puts(Pair, Option<Pair>),
-    /// A request with this id comes at a location.
+    // A request with this id comes at a location.
     Asks(Pair, Pair, Ask),
-    /// The request is dropped.
+    // The request is dropped.
     Drops(Pair),
-    /// A location is hosted.
+    // A location is hosted.
     Hosts(Pair),
-    /// The front message of the first channel is taken.
+    // The front message of the first channel is taken.
     Takes,
-    /// So many numbers are drawn, of which this is the first.
+    // So many numbers are drawn, of which this is the first.
     Draws(u32, u64),
-    /// The location of a request halts.
+    // The location of a request halts.
     Halts(Pair),
 }
 
-/// What is seen of the tree, or changed there.
+// What is seen of the tree, or changed there.
 #[derive(Clone, Copy)]
 pub enum Place {
-    /// The site with this number hosts the location, and whether it is alive.
+    // The site with this number hosts the location, and whether it is alive.
     Stands(Pair, u32, bool),
-    /// Messages to the location go to the site with this number.
+    // Messages to the location go to the site with this number.
     Addressed(Pair, u32),
-    /// The location is born under this site.
+    // The location is born under this site.
     Born(Pair, u32),
-    /// The location is marked.
+    // The location is marked.
     Killed(Pair),
 }
 
-/// One step.
+// One step.
 #[derive(Clone, Copy)]
 pub enum Step {
     Has(usize, Fact),
     See(usize, Look),
     Tree(Place),
-    /// What is ready at a site is the reaction of this rule with these atoms, and it is made.
+    // What is ready at a site is the reaction of this rule with these atoms, and it is made.
     React(usize, Pair, &'static [Pair], Leaves),
     Make(usize, Deed, Leaves),
-    /// A location moves to the next site, by which nothing else leaves.
+    // A location moves to the next site, by which nothing else leaves.
     Across(usize, Pair),
     Change(usize, Change),
-    /// A message with this id, with a location or without arguments, comes from elsewhere.
+    // A message with this id, with a location or without arguments, comes from elsewhere.
     Mail(Pair, Channel, Option<Pair>),
-    /// The newest mail comes to a site, and goes on to the site with this number as it is.
+    // The newest mail comes to a site, and goes on to the site with this number as it is.
     GoesOn(usize, u32),
-    /// The newest mail comes to a site, and stays there.
+    // The newest mail comes to a site, and stays there.
     Arrives(usize),
 }
 
@@ -236,7 +236,7 @@ fn site_reacts(
     site_makes(rt, alloc, net, at, Deed::Reacts, want)
 }
 
-/// What the move of a location from one site to the next leaves.
+// What the move of a location from one site to the next leaves.
 pub fn moved_on(
     rt: &impl Abort,
     alloc: Global,
@@ -415,7 +415,7 @@ fn goes(rt: &impl Abort, alloc: Global, net: &mut Net, step: Step) -> Result<boo
     }
 }
 
-/// Makes one step after another.
+// Makes one step after another.
 pub fn go(rt: &impl Abort, alloc: Global, net: &mut Net, steps: &[Step]) -> Result<(), Memory> {
     for (index, step) in steps.iter().enumerate() {
         assert!(rt; goes(rt, alloc, net, *step)?, "step {index}");
@@ -423,14 +423,14 @@ pub fn go(rt: &impl Abort, alloc: Global, net: &mut Net, steps: &[Step]) -> Resu
     Ok(())
 }
 
-/// Makes one step after another with the opened sites of a text.
+// Makes one step after another with the opened sites of a text.
 pub fn run(rt: &impl Abort, alloc: Global, text: &[u8], steps: &[Step]) -> Result<(), Fail> {
     let mut net = net_of(rt, alloc, text)?;
     go(rt, alloc, &mut net, steps)?;
     Ok(())
 }
 
-/// Makes one step after another with a site of a text that hosts its root alone.
+// Makes one step after another with a site of a text that hosts its root alone.
 pub fn run_by_hand(
     rt: &impl Abort,
     alloc: Global,

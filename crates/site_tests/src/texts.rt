@@ -16,7 +16,7 @@ fn compiled(alloc: Global, program: &Program) -> Result<Box<Code>, Memory> {
     Ok(Box::new(alloc, code)?)
 }
 
-/// The code of a text.
+// The code of a text.
 pub fn code_of(alloc: Global, text: &[u8]) -> Result<Box<Code>, Memory> {
     match program_of(alloc, text).ok() {
         Some(program) => compiled(alloc, &program),
@@ -28,7 +28,7 @@ pub fn sites_of(code: &Code) -> u32 {
     code.sites.len() as u32
 }
 
-/// A location is born under the root of this site.
+// A location is born under the root of this site.
 pub fn bear(
     rt: &impl Abort,
     alloc: Global,
@@ -45,7 +45,7 @@ pub fn bear(
     Ok(())
 }
 
-/// The locations that a site bore are born.
+// The locations that a site bore are born.
 pub fn bear_all(
     rt: &impl Abort,
     alloc: Global,
@@ -59,7 +59,7 @@ pub fn bear_all(
     Ok(())
 }
 
-/// The locations that the sites define are born, each under its site.
+// The locations that the sites define are born, each under its site.
 pub fn bear_tops(
     rt: &impl Abort,
     alloc: Global,
@@ -79,7 +79,7 @@ fn is_nothing(effects: &Effects) -> bool {
     effects.sends.is_empty() && effects.outs.is_empty() && effects.births.is_empty()
 }
 
-/// The next site is opened, by which nothing leaves it and no other location is born.
+// The next site is opened, by which nothing leaves it and no other location is born.
 pub fn open_next(
     rt: &impl Abort,
     alloc: Global,

@@ -7,14 +7,14 @@ ghost use Rattle.sort_check.specs.inside.First.{wrong_continuation};
 
 use sort_laws::{SortArg, SortDecl};
 
-/// A fault: its number, and its place as a byte offset from 0.
+// A fault: its number, and its place as a byte offset from 0.
 #[derive(Clone, Copy, PartialEq, Eq, Debug)]
 pub struct Found {
     pub kind: u32,
     pub place: u32,
 }
 
-/// Keeps the sooner of a fault and one more, where there is one.
+// Keeps the sooner of a fault and one more, where there is one.
 pub fn note(least: &mut Option<Found>, place: u32, kind: Option<u32>)
     ensures { least.new ≡ noted least.old place kind }
 {
@@ -81,7 +81,7 @@ fn takes(decls: &[SortDecl], sort: u32, asked: &[SortArg]) -> bool
     }
 }
 
-/// What is wrong where a channel or an observed name is defined with this count.
+// What is wrong where a channel or an observed name is defined with this count.
 pub fn defined(decls: &[SortDecl], sort: Option<SortArg>, count: usize) -> Option<u32>
     ensures { result ≡ wrong_defining (arguments_of decls.now) count sort }
 {
@@ -97,7 +97,7 @@ pub fn defined(decls: &[SortDecl], sort: Option<SortArg>, count: usize) -> Optio
     }
 }
 
-/// What is wrong with a message's name, where the message has this many arguments.
+// What is wrong with a message's name, where the message has this many arguments.
 pub fn called(decls: &[SortDecl], sort: Option<SortArg>, count: usize) -> Option<u32>
     ensures { result ≡ wrong_call (arguments_of decls.now) count sort }
 {
@@ -114,7 +114,7 @@ pub fn called(decls: &[SortDecl], sort: Option<SortArg>, count: usize) -> Option
     }
 }
 
-/// What is wrong with an argument of which this sort is asked.
+// What is wrong with an argument of which this sort is asked.
 pub fn sent(sort: Option<SortArg>, asked: SortArg) -> Option<u32>
     ensures { result ≡ wrong_argument asked sort }
 {
@@ -124,7 +124,7 @@ pub fn sent(sort: Option<SortArg>, asked: SortArg) -> Option<u32>
     }
 }
 
-/// What is wrong with a continuation of which these arguments are asked.
+// What is wrong with a continuation of which these arguments are asked.
 pub fn continued(decls: &[SortDecl], sort: Option<SortArg>, asked: &[SortArg]) -> Option<u32>
     ensures { result ≡ wrong_continuation (arguments_of decls.now) asked.now sort }
 {

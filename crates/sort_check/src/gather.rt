@@ -22,7 +22,7 @@ pub type Entries = Items<Entry>;
 
 pub type SortList = Items<Option<SortArg>>;
 
-/// The sort of each binder by its spelling, as if it were a channel.
+// The sort of each binder by its spelling, as if it were a channel.
 pub fn channel_sorts(alloc: Global, uses: &Uses<'_>, spell: &[Text]) -> Result<SortList, Memory>
     ensures { IfOk result (λ list. list ≡ sorts_of (in_map uses.now) spell.now) }
 {
@@ -33,7 +33,7 @@ pub fn channel_sorts(alloc: Global, uses: &Uses<'_>, spell: &[Text]) -> Result<S
     Ok(list)
 }
 
-/// The sort of each observed name.
+// The sort of each observed name.
 pub fn seen_sorts(alloc: Global, uses: &Uses<'_>, seen: &[SeenDecl]) -> Result<SortList, Memory>
     ensures { IfOk result (λ list. list ≡ seen_of (in_map uses.now) seen.now) }
 {
@@ -173,7 +173,7 @@ fn site(list: &mut Entries, table: &Table<'_>, site: &SiteTerm) -> Result<(), Me
     Ok(())
 }
 
-/// The sorts of the locations and the parameters of all sites.
+// The sorts of the locations and the parameters of all sites.
 pub fn sites(list: &mut Entries, table: &Table<'_>, terms: &[SiteTerm]) -> Result<(), Memory>
     ensures { OnOk result (list.new ≡ list.old ++ entries_of_sites (kept table.now) terms.now) }
 {

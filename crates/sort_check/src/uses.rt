@@ -8,7 +8,7 @@ use sort_laws::{SortArg, SortUse};
 use std::alloc::Global;
 use std::marker::Model;
 
-/// The sorts of spellings, each found by its bytes.
+// The sorts of spellings, each found by its bytes.
 #[derive(Drop)]
 pub struct Uses<'a> {
     sorts: IndexMap<&'a [u8], u32>,
@@ -33,7 +33,7 @@ impl<'a> Uses<'a> {
         }
     }
 
-    /// The sort of a spelling, where it has one.
+    // The sort of a spelling, where it has one.
     pub fn find(&self, text: &[u8]) -> Option<SortArg>
         ensures { result ≡ in_map self.now text.now }
     {
@@ -52,8 +52,8 @@ impl<'a> Uses<'a> {
     }
 }
 
-/// The sorts of spellings by these lines. The last line is put in first, so that of two lines of
-/// one spelling the first counts.
+// The sorts of spellings by these lines. The last line is put in first, so that of two lines of
+// one spelling the first counts.
 pub fn uses_of<'a>(alloc: Global, lines: &'a [SortUse]) -> Result<Uses<'a>, Memory>
     ensures { IfOk result (TellsAs lines.now) }
 {

@@ -24,7 +24,7 @@ use join_parse::{
 };
 use sort_laws::{SortArg, SortDecl};
 
-/// The declared sorts, and the sorts of a program's binders and of its observed names.
+// The declared sorts, and the sorts of a program's binders and of its observed names.
 #[derive(Clone, Copy)]
 pub struct Table<'a> {
     pub decls: &'a [SortDecl],
@@ -41,7 +41,7 @@ fn in_list(list: &[Option<SortArg>], index: u32) -> Option<SortArg>
     }
 }
 
-/// The sort of an occurrence of a name.
+// The sort of an occurrence of a name.
 pub fn sort_of(table: &Table<'_>, name: &Ref) -> Option<SortArg>
     ensures { result ≡ ref_sort (kept table.now) name.now }
 {
@@ -482,7 +482,7 @@ fn site_at(
     }
 }
 
-/// The first fault of what is given and of all sites.
+// The first fault of what is given and of all sites.
 pub fn sites(table: &Table<'_>, list: &[PlaceTree], terms: &[SiteTerm], least: &mut Option<Found>)
     ensures { least.new ≡ first_of (kept table.now).args least.old
         (pair_sites (kept table.now) list.now terms.now) }
@@ -492,7 +492,7 @@ pub fn sites(table: &Table<'_>, list: &[PlaceTree], terms: &[SiteTerm], least: &
     }
 }
 
-/// The first fault of what is given and of the declarations of observed names.
+// The first fault of what is given and of the declarations of observed names.
 pub fn declarations(table: &Table<'_>, list: &[SeenTree], least: &mut Option<Found>)
     requires { length list.now < 2 ^ 32 }
     ensures { least.new ≡ first_of (kept table.now).args least.old

@@ -21,7 +21,7 @@ const WRITE_FAULT: u8 = 4;
 
 const OUT_OF_MEMORY: u8 = 6;
 
-/// The most bytes of a text.
+// The most bytes of a text.
 const MOST_BYTES: u32 = 1_048_576;
 
 /// Reads one text and tells whether it keeps the sorts that it declares. Answers the status.

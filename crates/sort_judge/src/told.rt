@@ -22,14 +22,14 @@ const YES: u8 = 0;
 
 const NO: u8 = 7;
 
-/// A text, and the status that goes with it.
+// A text, and the status that goes with it.
 #[derive(Drop)]
 pub struct Told {
     pub text: Text,
     pub status: u8,
 }
 
-/// What is told of a text; or why it has no program. The text is let go before it is answered.
+// What is told of a text; or why it has no program. The text is let go before it is answered.
 pub fn told_of(alloc: Global, text: Text) -> Result<Told, Front>
     requires { length text ≤ 1048576 }
     ensures told { IfOk result (λ told. IsTold text told.text told.status) }

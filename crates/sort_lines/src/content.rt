@@ -199,7 +199,7 @@ fn content_of(alloc: Global, tokens: &[Token]) -> Result<Option<Content>, Memory
     three(alloc, &tokens[0], &tokens[1], &tokens[2], &tokens[3..])
 }
 
-/// What the bytes of a line after `#:` say, where they have one of the two forms.
+// What the bytes of a line after `#:` say, where they have one of the two forms.
 pub(crate) fn said(alloc: Global, text: &[u8]) -> Result<Option<Content>, Memory>
     requires { length text.now ≤ 1048576 }
     ensures { IfOk result (IsSaid text.now) }

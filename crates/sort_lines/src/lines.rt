@@ -7,7 +7,7 @@ ghost use Rattle.sort_lines.specs.inside.Told.{told, EndsAt, GoesOn, AreShort};
 use chem_model::Memory;
 use std::alloc::Global;
 
-/// A comment that begins with `#:`: where its `#` stands, and its bytes after `#:`.
+// A comment that begins with `#:`: where its `#` stands, and its bytes after `#:`.
 #[derive(Clone, Copy)]
 pub(crate) struct SortLine<'a> {
     pub place: u32,
@@ -86,7 +86,7 @@ fn step<'a>(lines: &mut Vec<SortLine<'a>>, bytes: &'a [u8], place: usize) -> Res
     Ok(end)
 }
 
-/// The sort lines of a text, in order.
+// The sort lines of a text, in order.
 pub(crate) fn sort_lines<'a>(alloc: Global, bytes: &'a [u8]) -> Result<Vec<SortLine<'a>>, Memory>
     requires { length bytes.now ≤ 1048576 }
     ensures lines { IfOk result (λ lines. told lines.items ≡ lines_of bytes.now) }

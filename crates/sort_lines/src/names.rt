@@ -8,8 +8,8 @@ use std::alloc::Global;
 use std::collections::BTreeMap;
 use std::marker::Model;
 
-/// Names in order, seen as that list. A name is found without a walk, in an ordered map: texts
-/// choose the names, and no choice makes it slow.
+// Names in order, seen as that list. A name is found without a walk, in an ordered map: texts
+// choose the names, and no choice makes it slow.
 #[derive(Drop)]
 pub(crate) struct Names<'a> {
     list: Items<&'a [u8]>,
@@ -28,7 +28,7 @@ impl<'a> Model for Names<'a> {
 }
 
 impl<'a> Names<'a> {
-    /// No names.
+    // No names.
     pub(crate) fn new(alloc: Global) -> Names<'a>
         ensures { result ≡ [] }
     {
@@ -38,7 +38,7 @@ impl<'a> Names<'a> {
         }
     }
 
-    /// Where a name stands first, counted from 0.
+    // Where a name stands first, counted from 0.
     pub(crate) fn place(&self, name: &[u8]) -> Option<u32>
         ensures { result ≡ first_place name.now self.now }
     {
@@ -51,7 +51,7 @@ impl<'a> Names<'a> {
         self.place(name).is_some()
     }
 
-    /// Appends a name.
+    // Appends a name.
     pub(crate) fn push(&mut self, name: &'a [u8]) -> Result<(), Memory>
         ensures { OnOk result (self.new ≡ self.old ++ name.now ∷ []) }
     {

@@ -50,7 +50,7 @@ impl From<Memory> for SortEnd {
     }
 }
 
-/// What a sort line says, where it has one of the two forms.
+// What a sort line says, where it has one of the two forms.
 #[derive(Drop)]
 pub(crate) struct SaidLine {
     pub place: u32,

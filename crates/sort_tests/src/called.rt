@@ -10,10 +10,10 @@ use std::process::Abort;
 use std::sync::Wait;
 use std::thread::Threads;
 
-/// More bytes than any text of these tests has, and than any of them prints.
+// More bytes than any text of these tests has, and than any of them prints.
 const ROOM: u32 = 65_536;
 
-/// How a call ended: its status, and what the sinks took.
+// How a call ended: its status, and what the sinks took.
 #[derive(Drop)]
 pub struct Called {
     pub status: u8,
@@ -21,7 +21,7 @@ pub struct Called {
     pub err: Vec<u8>,
 }
 
-/// What a call reads from, and what it writes to.
+// What a call reads from, and what it writes to.
 #[derive(Drop)]
 struct Ends {
     source: Box<MemSource>,
@@ -40,7 +40,7 @@ fn sink_of(alloc: Global, room: u32) -> Result<Box<MemSink>, Memory> {
     Ok(Box::new(alloc, MemSink::new(alloc, room, ROOM, fails)?)?)
 }
 
-/// A source of these bytes and two sinks, the first of so much room.
+// A source of these bytes and two sinks, the first of so much room.
 fn ends_of(alloc: Global, bytes: &[u8], room: u32) -> Result<Box<Ends>, Memory> {
     let source = source_of(alloc, bytes)?;
     let out = sink_of(alloc, room)?;
@@ -56,7 +56,7 @@ fn owned(alloc: Global, words: &[&str]) -> Result<Vec<String>, Memory> {
     Ok(owned)
 }
 
-/// Runs the words over these ends, and answers the status.
+// Runs the words over these ends, and answers the status.
 fn status_of<R: AllocGlobal + Abort + Threads + Wait + Sync>(
     rt: &R,
     words: &[&str],
@@ -78,7 +78,7 @@ fn status_of<R: AllocGlobal + Abort + Threads + Wait + Sync>(
     Ok(ended.status)
 }
 
-/// Runs the words over a source of these bytes.
+// Runs the words over a source of these bytes.
 pub fn call<R: AllocGlobal + Abort + Threads + Wait + Sync>(
     rt: &R,
     words: &[&str],
@@ -89,7 +89,7 @@ pub fn call<R: AllocGlobal + Abort + Threads + Wait + Sync>(
     call_with(rt, words, bytes, ROOM)
 }
 
-/// Runs the words over a source of these bytes, where so many bytes may be printed.
+// Runs the words over a source of these bytes, where so many bytes may be printed.
 pub fn call_with<R: AllocGlobal + Abort + Threads + Wait + Sync>(
     rt: &R,
     words: &[&str],
@@ -108,7 +108,7 @@ pub fn call_with<R: AllocGlobal + Abort + Threads + Wait + Sync>(
 }
 
 impl Called {
-    /// That the call ended with this status and these bytes.
+    // That the call ended with this status and these bytes.
     pub fn expect(&self, rt: &impl Abort, status: u8, out: &[u8], err: &[u8]) {
         expect_bytes(rt, self.out.as_slice(), out);
         expect_bytes(rt, self.err.as_slice(), err);
@@ -120,7 +120,7 @@ fn expect_status(rt: &impl Abort, status: u8, want: u8) {
     assert_eq!(rt; status, want);
 }
 
-/// That these bytes are the ones that are wanted.
+// That these bytes are the ones that are wanted.
 fn expect_bytes(rt: &impl Abort, bytes: &[u8], want: &[u8]) {
     assert_eq!(rt; bytes, want);
 }

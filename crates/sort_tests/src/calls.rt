@@ -14,7 +14,7 @@ fn are_args(args: &[SortArg]) -> bool {
     }
 }
 
-/// Whether they declare what the lines do.
+// Whether they declare what the lines do.
 fn declares(sorts: &Sorts) -> bool {
     match sorts.decls.as_slice() {
         [decl] => decl.name.as_slice() == b"pair".as_slice() && are_args(decl.args.as_slice()),
@@ -22,7 +22,7 @@ fn declares(sorts: &Sorts) -> bool {
     }
 }
 
-/// Whether they use what the lines do.
+// Whether they use what the lines do.
 fn uses(sorts: &Sorts) -> bool {
     match sorts.uses.as_slice() {
         [member] => member.spell.as_slice() == b"x".as_slice() && member.sort == 0,
@@ -30,7 +30,7 @@ fn uses(sorts: &Sorts) -> bool {
     }
 }
 
-/// Whether a copy of the lines' sorts is what they say.
+// Whether a copy of the lines' sorts is what they say.
 fn copy_is_as_declared(alloc: Global) -> Result<bool, SortEnd> {
     let sorts = read_sorts(alloc, LINES)?;
     let copy = sorts.copy(alloc)?;
@@ -53,7 +53,7 @@ const NO: Judged = Judged::No { kind: 8, place: 90 };
 
 const FAULT: SortEnd = SortEnd::Fault { kind: 1, place: 7 };
 
-/// Copies are equal.
+// Copies are equal.
 #[test]
 fn copies(rt: HostRuntime) {
     let alloc = rt.alloc();

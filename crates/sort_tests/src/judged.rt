@@ -10,7 +10,7 @@ use std::test::Fail;
 use std::thread::Threads;
 use worked_texts::Case;
 
-/// That a text ends as its case says.
+// That a text ends as its case says.
 fn expect<R: AllocGlobal + Abort + Threads + Wait + Sync>(rt: &R, case: &Case) -> Result<(), Fail>
     requires { IsSync R.row }
 {
@@ -44,7 +44,7 @@ const SORTED: &[u8] = b"#: sort z()\n#: use x z\nsite s [ x() => 0 : x() ]";
 
 const UNSORTED: &[u8] = b"site s [ x() => 0 : x() ]";
 
-/// A sink that fails when it has taken so many bytes, and those bytes.
+// A sink that fails when it has taken so many bytes, and those bytes.
 fn expect_write_fault<R: AllocGlobal + Abort + Threads + Wait + Sync>(
     rt: &R,
     text: &[u8],

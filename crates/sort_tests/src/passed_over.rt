@@ -11,10 +11,10 @@ use std::test::Fail;
 use std::thread::Threads;
 use worked_texts::{Case, examples, runs_and_examples};
 
-/// Sort lines with a fault of each kind that such lines can have.
+// Sort lines with a fault of each kind that such lines can have.
 const LINES: &[u8] = b"#: use x z\n#: sort y(y)\n#: sort y()\n#: none\n";
 
-/// A text behind sort lines.
+// A text behind sort lines.
 fn behind_lines(alloc: Global, case: &Case) -> Result<Vec<u8>, Memory> {
     let mut text = Vec::new(alloc);
     text.extend_from_slice(LINES)?;
@@ -23,7 +23,7 @@ fn behind_lines(alloc: Global, case: &Case) -> Result<Vec<u8>, Memory> {
     Ok(text)
 }
 
-/// Runs a text behind sort lines by these words.
+// Runs a text behind sort lines by these words.
 fn call_behind<R: AllocGlobal + Abort + Threads + Wait + Sync>(
     rt: &R,
     words: &[&str],
@@ -35,7 +35,7 @@ fn call_behind<R: AllocGlobal + Abort + Threads + Wait + Sync>(
     call(rt, words, text.as_slice())
 }
 
-/// Whether these words ask for the log, which holds the text itself.
+// Whether these words ask for the log, which holds the text itself.
 fn ask_for_log(words: &[&str]) -> bool {
     for word in words {
         if *word == "--log" {
@@ -45,7 +45,7 @@ fn ask_for_log(words: &[&str]) -> bool {
     false
 }
 
-/// That the text runs behind sort lines as without them.
+// That the text runs behind sort lines as without them.
 fn expect_same<R: AllocGlobal + Abort + Threads + Wait + Sync>(
     rt: &R,
     case: &Case,
@@ -80,7 +80,7 @@ fn runs_behind_sort_lines(rt: HostRuntime) -> Result<(), Fail> {
     Ok(())
 }
 
-/// That the log of a text behind sort lines is one of a run.
+// That the log of a text behind sort lines is one of a run.
 fn expect_run<R: AllocGlobal + Abort + Threads + Wait + Sync>(
     rt: &R,
     case: &Case,

@@ -7,7 +7,7 @@ use crate::refused::no_programs;
 use crate::sorted::{well_sorted, well_sorted_numbers};
 use worked_texts::{Case, QUIET};
 
-/// A text without a fault.
+// A text without a fault.
 pub const YES: Case = Case {
     words: &["sorts"],
     out: "yes\n",
@@ -15,10 +15,10 @@ pub const YES: Case = Case {
     ..QUIET
 };
 
-/// A text with a fault.
+// A text with a fault.
 pub const NO: Case = Case { status: 7, ..YES };
 
-/// A text that is no program.
+// A text that is no program.
 pub const REFUSED: Case = Case {
     status: 1,
     out: "",

@@ -44,7 +44,7 @@ pub fn refusal_line(alloc: Global, kind: Kind, place: u32) -> Result<Text, Memor
     Ok(line)
 }
 
-/// The two words of a kind.
+// The two words of a kind.
 fn kind_text(kind: Kind) -> &'static [u8]
     ensures { result.now ≡ kind_text kind }
 {

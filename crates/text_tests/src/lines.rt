@@ -3,7 +3,7 @@ use join_words::{Asked, By, Job, WordEnd, read_words};
 use std::alloc::{AllocError, Global};
 use std::process::Abort;
 
-/// What a line without options asks for.
+// What a line without options asks for.
 const PLAIN: Asked = Asked {
     job: Job::Run,
     by: By::Alone,
@@ -13,7 +13,7 @@ const PLAIN: Asked = Asked {
     log: false,
 };
 
-/// The words, each with its own bytes.
+// The words, each with its own bytes.
 fn owned(alloc: Global, words: &[&str]) -> Result<Vec<String>, AllocError> {
     let mut owned = Vec::new(alloc);
     for word in words {
@@ -22,13 +22,13 @@ fn owned(alloc: Global, words: &[&str]) -> Result<Vec<String>, AllocError> {
     Ok(owned)
 }
 
-/// What the words ask for.
+// What the words ask for.
 fn read(alloc: Global, words: &[&str]) -> Result<Asked, WordEnd> {
     let owned = owned(alloc, words)?;
     read_words(alloc, owned.as_slice())
 }
 
-/// That these words ask for this.
+// That these words ask for this.
 fn asks(rt: &impl Abort, alloc: Global, words: &[&str], asked: &Asked) {
     assert!(rt;
         matches!(read(alloc, words), Ok(found) if found == *asked),
@@ -36,12 +36,12 @@ fn asks(rt: &impl Abort, alloc: Global, words: &[&str], asked: &Asked) {
     );
 }
 
-/// That these words are not of the line's form.
+// That these words are not of the line's form.
 fn refuses(rt: &impl Abort, alloc: Global, words: &[&str]) {
     assert!(rt; read(alloc, words) == Err(WordEnd::Form), "{words:?}");
 }
 
-/// Lines, each with what it asks for.
+// Lines, each with what it asks for.
 const LINES: &[(&[&str], Asked)] = &[
     (&["alone"], PLAIN),
     (&["--", "alone"], PLAIN),
@@ -69,25 +69,25 @@ const LINES: &[(&[&str], Asked)] = &[
     (&["--by=rounds", "gen", "--", "0000005"], FIVE),
 ];
 
-/// What asks for the verdict on a log.
+// What asks for the verdict on a log.
 const CHECK: Asked = Asked {
     job: Job::Check,
     ..PLAIN
 };
 
-/// What asks why what a log's run left is left.
+// What asks why what a log's run left is left.
 const EXPLAIN: Asked = Asked {
     job: Job::Explain,
     ..PLAIN
 };
 
-/// What asks whether a source keeps the sorts that it declares.
+// What asks whether a source keeps the sorts that it declares.
 const SORTS: Asked = Asked {
     job: Job::Sorts,
     ..PLAIN
 };
 
-/// What asks for a ring of five in rounds.
+// What asks for a ring of five in rounds.
 const FIVE: Asked = Asked {
     by: By::Rounds,
     ring: Some(5),
@@ -101,7 +101,7 @@ fn lines_that_are_read(rt: HostRuntime) {
     }
 }
 
-/// Modes, plain words and options that don't go together.
+// Modes, plain words and options that don't go together.
 const NO_LINES: &[&[&str]] = &[
     &[],
     &["fly"],
@@ -128,7 +128,7 @@ fn words_that_are_no_line(rt: HostRuntime) {
     }
 }
 
-/// Options that are given twice, and values that are none.
+// Options that are given twice, and values that are none.
 const NO_OPTIONS: &[&[&str]] = &[
     &["alone", "--budget", "5", "--budget=5"],
     &["alone", "--log", "--log"],
@@ -155,7 +155,7 @@ fn options_that_are_refused(rt: HostRuntime) {
     }
 }
 
-/// Copies are equal.
+// Copies are equal.
 #[test]
 fn copies(rt: HostRuntime) {
     let alloc = rt.alloc();

@@ -8,12 +8,12 @@ use std::alloc::{AllocError, Global};
 use std::process::Abort;
 use worked_programs::program_of;
 
-/// What comes of a text.
+// What comes of a text.
 #[derive(Clone, Copy)]
 enum End {
-    /// This fault.
+    // This fault.
     Fault(Kind, u32),
-    /// A program with so many site-level binders and so many binders in all.
+    // A program with so many site-level binders and so many binders in all.
     Binders(u32, usize),
 }
 
@@ -75,7 +75,7 @@ fn one_channel_at_two_locations(rt: HostRuntime) {
     expect_ends(&rt, rt.alloc(), TWO_LOCATIONS);
 }
 
-/// Two faults, the first of which is told.
+// Two faults, the first of which is told.
 const TWO_FAULTS: &[(&[u8], End)] = &[
     (
         b"site s [ x(u) => 0 : x() | q() ]",
@@ -92,7 +92,7 @@ fn the_least_place_comes_first(rt: HostRuntime) {
     expect_ends(&rt, rt.alloc(), TWO_FAULTS);
 }
 
-/// What stands twice.
+// What stands twice.
 const TWICE: &[(&[u8], End)] = &[
     (b"site s [ s() => 0 : 0 ]", End::Fault(Kind::Scope3, 9)),
     (b"site s [ x(u, u) => 0 : 0 ]", End::Fault(Kind::Scope4, 14)),
@@ -111,7 +111,7 @@ fn what_stands_twice(rt: HostRuntime) {
     expect_ends(&rt, rt.alloc(), TWICE);
 }
 
-/// What is used wrongly.
+// What is used wrongly.
 const WRONG: &[(&[u8], End)] = &[
     (
         b"site s [ x() => 0 and x(u) => 0 : 0 ]",
@@ -187,7 +187,7 @@ fn the_site_after_256(rt: HostRuntime) {
     assert!(rt; sites_of_second_end_so(rt.alloc(), 257, End::Fault(Kind::Scope6, 4875)));
 }
 
-/// Operations and their names.
+// Operations and their names.
 const OPERATIONS: &[(&[u8], End)] = &[
     // `add` sends a message with one argument
     (

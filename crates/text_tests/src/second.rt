@@ -50,7 +50,7 @@ fn text_of(alloc: Global, pieces: &[(usize, &[u8])]) -> Result<Vec<u8>, AllocErr
     Ok(text)
 }
 
-/// Texts, each with its version and what its tree prints as.
+// Texts, each with its version and what its tree prints as.
 const PRINTED: &[(&[u8], u32, &[u8])] = &[
     (
         b"version 2; site s[none:add(1,x,k)|same(007,18446744073709551615,y,n)|x(0,a,65536)|(0)]",
@@ -89,7 +89,7 @@ fn printed_trees(rt: HostRuntime) {
     }
 }
 
-/// Texts that are refused, and where.
+// Texts that are refused, and where.
 const REFUSED: &[(&[u8], Kind, u32)] = &[
     // no text of the second version
     (b"version", Kind::Grammar1, 0),

@@ -4,7 +4,7 @@ use join_lex::{Key, Kind2, Sign, Token, Tokens, lex};
 use std::alloc::{AllocError, Global};
 use std::process::Abort;
 
-/// What a token is to be.
+// What a token is to be.
 #[derive(Clone, Copy)]
 enum Want {
     Key(Key),
@@ -13,7 +13,7 @@ enum Want {
     Name(&'static [u8]),
 }
 
-/// A token: where it begins, where it ends, and what it is.
+// A token: where it begins, where it ends, and what it is.
 type Row = (u32, u32, Want);
 
 // Whether a token is of the wanted kind.
@@ -191,7 +191,7 @@ fn comments(rt: HostRuntime) {
     expect_tokens(&rt, rt.alloc(), b"# 2\r;\n 4", BEHIND_A_LINE);
 }
 
-/// Texts, and where the first byte stands that begins no token.
+// Texts, and where the first byte stands that begins no token.
 const NO_TOKENS: &[(&[u8], u32)] = &[
     (b"=", 0),
     (b"x = > y", 2),

@@ -113,7 +113,7 @@ fn arguments(alloc: Global, count: usize) -> Result<Vec<u8>, AllocError> {
     text_of(alloc, &pieces)
 }
 
-/// Texts, each with what its tree prints as.
+// Texts, each with what its tree prints as.
 const PRINTED: &[(&[u8], &[u8])] = &[
     (b"site s [ none : q() ]", b"site s [ none : q ( ) ]\n"),
     (
@@ -172,7 +172,7 @@ fn a_def_takes_all_to_its_right(rt: HostRuntime) {
     assert!(rt; begins_with_def(rt.alloc(), text));
 }
 
-/// Texts that are refused, and where.
+// Texts that are refused, and where.
 const REFUSED: &[(&[u8], Kind, u32)] = &[
     (b"", Kind::Grammar1, 0),
     (b"site s [ none : 0 ] x", Kind::Grammar1, 20),

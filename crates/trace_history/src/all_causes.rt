@@ -23,15 +23,15 @@ use chem_commit::{Guesses, is_live};
 use chem_model::{Atoms, Items, Memory, Numbered, NumberedAtom, NumberedRule, ProcNode, Ref};
 use std::alloc::Global;
 
-/// The channels that rules wait for, and those for which one of these rules is ready, each with a
-/// count.
+// The channels that rules wait for, and those for which one of these rules is ready, each with a
+// count.
 #[derive(Drop)]
 pub(crate) struct Sorted {
     pub(crate) waited: Channels,
     pub(crate) ready: Channels,
 }
 
-/// Adds the channel of each message of a table.
+// Adds the channel of each message of a table.
 fn add_table(met: &mut Channels, table: &AtomTable) -> Result<(), Memory>
     ensures { OnOk result (Adds (λ y d. list_any (λ a. is_on y d a.term) table.now)
         met.old.keys.keys met.new.keys.keys) }
@@ -42,7 +42,7 @@ fn add_table(met: &mut Channels, table: &AtomTable) -> Result<(), Memory>
     Ok(())
 }
 
-/// The channels that have a message.
+// The channels that have a message.
 fn met_channels(alloc: Global, numbered: &Numbered, older: &Older) -> Result<Channels, Memory>
     ensures { IfOk result (λ met.
         HasMessages (older.now.table ++ numbered.now.atoms) met.keys.keys) }
@@ -53,7 +53,7 @@ fn met_channels(alloc: Global, numbered: &Numbered, older: &Older) -> Result<Cha
     Ok(met)
 }
 
-/// Adds what a rule waits for, and where it is ready adds it to the channels for which one is.
+// Adds what a rule waits for, and where it is ready adds it to the channels for which one is.
 fn sort_rule(
     numbered: &Numbered,
     guesses: &Guesses,
@@ -75,7 +75,7 @@ fn sort_rule(
     Ok(())
 }
 
-/// What rules wait for, and for what one of them is ready.
+// What rules wait for, and for what one of them is ready.
 fn sort_rules(
     alloc: Global,
     numbered: &Numbered,
@@ -96,8 +96,8 @@ fn sort_rules(
     Ok(sorted)
 }
 
-/// Whether a rule that waits for messages on this channel with this count is ready, and whether one
-/// waits for them.
+// Whether a rule that waits for messages on this channel with this count is ready, and whether one
+// waits for them.
 fn found_for(
     numbered: &Numbered,
     older: &Older,
@@ -116,7 +116,7 @@ fn found_for(
     (ready, waited)
 }
 
-/// Whether an event is possible that takes an atom, and whether a rule waits for its like.
+// Whether an event is possible that takes an atom, and whether a rule waits for its like.
 fn found_by(
     numbered: &Numbered,
     guesses: &Guesses,
@@ -142,7 +142,7 @@ fn found_by(
     }
 }
 
-/// An atom that is left, and why.
+// An atom that is left, and why.
 fn left_by(
     numbered: &Numbered,
     guesses: &Guesses,
@@ -167,7 +167,7 @@ fn left_by(
     }
 }
 
-/// Files each of the older messages.
+// Files each of the older messages.
 fn file_older(
     numbered: &Numbered,
     guesses: &Guesses,
@@ -189,7 +189,7 @@ fn file_older(
     Ok(())
 }
 
-/// Files each of the newest messages and requests.
+// Files each of the newest messages and requests.
 fn file_newest(
     numbered: &Numbered,
     guesses: &Guesses,
@@ -212,7 +212,7 @@ fn file_newest(
     Ok(())
 }
 
-/// Every message and request, by rising number, and why it is left.
+// Every message and request, by rising number, and why it is left.
 pub(crate) fn all_left(
     alloc: Global,
     numbered: &Numbered,
@@ -232,7 +232,7 @@ pub(crate) fn all_left(
     lefts.to_lefts(alloc)
 }
 
-/// The numbers of what is left, in order.
+// The numbers of what is left, in order.
 pub(crate) fn ids_of(alloc: Global, lefts: &[Left]) -> Result<Atoms, Memory>
     ensures { IfOk result (λ ids. ids ≡ map (λ (l : Left). l.atom) lefts.now) }
 {

@@ -306,7 +306,7 @@ impl Book {
         let _ = &self.solution;
     }
 
-    /// The solution is sound. It does nothing.
+    // The solution is sound. It does nothing.
     fn is_sound(&self)
         ensures { OnItsSolution self.now IsSound }
     {

@@ -15,8 +15,8 @@ use chem_causes::{Left, cause_by, causes_are_decided, one_waits_for};
 use chem_commit::{Guesses, is_live};
 use chem_model::{AtomId, Numbered, NumberedAtom, ProcNode, Ref};
 
-/// Whether a rule that waits for messages on this channel with this count is ready, and whether one
-/// waits for them. The second is told where the first isn't so.
+// Whether a rule that waits for messages on this channel with this count is ready, and whether one
+// waits for them. The second is told where the first isn't so.
 fn rules_for(
     numbered: &Numbered,
     guesses: &Guesses,
@@ -41,8 +41,8 @@ fn rules_for(
     (false, waited)
 }
 
-/// The same of an atom: whether an event is possible that takes it, and whether a rule waits for
-/// its like.
+// The same of an atom: whether an event is possible that takes it, and whether a rule waits for
+// its like.
 fn found_of(
     numbered: &Numbered,
     guesses: &Guesses,
@@ -65,7 +65,7 @@ fn found_of(
     }
 }
 
-/// An atom that is left, and why.
+// An atom that is left, and why.
 fn left_of(numbered: &Numbered, guesses: &Guesses, older: &Older, atom: &NumberedAtom) -> Left
     requires all { IsSound (whole older.now.table numbered.now) }
     requires sound { IsSound numbered.now }
@@ -83,7 +83,7 @@ fn left_of(numbered: &Numbered, guesses: &Guesses, older: &Older, atom: &Numbere
     }
 }
 
-/// The message or request with this number, and why it is left. It takes no memory.
+// The message or request with this number, and why it is left. It takes no memory.
 pub(crate) fn left_at(
     numbered: &Numbered,
     guesses: &Guesses,

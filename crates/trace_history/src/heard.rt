@@ -8,7 +8,7 @@ ghost use Rattle.trace_history.specs.inside.Older.{AreHeard};
 use chem_model::{Name, NumberedAtoms, Pats, Proc, ProcNode, Ref};
 use std::collections::BTreeSet;
 
-/// The place of a channel in a table of so many. Any other name has the first one.
+// The place of a channel in a table of so many. Any other name has the first one.
 pub(crate) fn slot_of(size: u64, on: Ref) -> usize
     requires { 0 < size }
     ensures { result ≡ slot_of size on }
@@ -21,7 +21,7 @@ pub(crate) fn slot_of(size: u64, on: Ref) -> usize
     }
 }
 
-/// Whether the table doesn't exclude that a channel has a message.
+// Whether the table doesn't exclude that a channel has a message.
 fn is_heard(size: u64, heard: &[bool], on: Ref) -> bool
     requires { 0 < size }
     ensures { result ≡ is_heard size heard.now on }
@@ -32,7 +32,7 @@ fn is_heard(size: u64, heard: &[bool], on: Ref) -> bool
     }
 }
 
-/// Notes that a channel has a message.
+// Notes that a channel has a message.
 fn hear(size: u64, heard: &mut [bool], on: Ref)
     requires { 0 < size }
     ensures here { is_heard size heard.new on ≡ true }
@@ -45,7 +45,7 @@ fn hear(size: u64, heard: &mut [bool], on: Ref)
     heard[slot] = true;
 }
 
-/// Notes the channel of a message. A request has none.
+// Notes the channel of a message. A request has none.
 fn hear_one(size: u64, heard: &mut [bool], term: &Proc)
     requires { 0 < size }
     ensures told { is_told size heard.new term.now ≡ true }
@@ -57,7 +57,7 @@ fn hear_one(size: u64, heard: &mut [bool], term: &Proc)
     }
 }
 
-/// Notes the channel of each message.
+// Notes the channel of each message.
 pub(crate) fn hear_all(size: u64, heard: &mut [bool], atoms: &NumberedAtoms)
     requires { 0 < size }
     ensures { are_told size heard.new atoms.now ≡ true }
@@ -67,7 +67,7 @@ pub(crate) fn hear_all(size: u64, heard: &mut [bool], atoms: &NumberedAtoms)
     }
 }
 
-/// Notes that the channel with this number has a message.
+// Notes that the channel with this number has a message.
 fn hear_number(size: u64, heard: &mut [bool], number: u64)
     requires { 0 < size }
     ensures here { get_or heard.new (number % size) true ≡ true }
@@ -81,7 +81,7 @@ fn hear_number(size: u64, heard: &mut [bool], number: u64)
     heard[slot] = true;
 }
 
-/// Notes the channel of each of these keys.
+// Notes the channel of each of these keys.
 pub(crate) fn hear_older(size: u64, heard: &mut [bool], keys: &BTreeSet<(u64, (u32, u64))>)
     requires { 0 < size }
     ensures here { AreHeard size heard.new keys.now.keys }
@@ -92,7 +92,7 @@ pub(crate) fn hear_older(size: u64, heard: &mut [bool], keys: &BTreeSet<(u64, (u
     }
 }
 
-/// Whether each channel of these patterns may have a message.
+// Whether each channel of these patterns may have a message.
 pub(crate) fn may_be_met(size: u64, heard: &[bool], pats: &Pats) -> bool
     requires { 0 < size }
     ensures { result ≡ may_be_met size heard.now pats.now }

@@ -6,7 +6,7 @@ ghost use Rattle.trace_history.specs.inside.Older.{Key, KeepsKeys};
 use chem_model::Memory;
 use std::collections::BTreeSet;
 
-/// Adds a key. On want of memory nothing changes.
+// Adds a key. On want of memory nothing changes.
 pub(crate) fn add_key(
     keys: &mut BTreeSet<(u64, (u32, u64))>,
     key: (u64, (u32, u64)),
@@ -21,7 +21,7 @@ pub(crate) fn add_key(
     }
 }
 
-/// Takes a key out. The others stay. It takes no memory.
+// Takes a key out. The others stay. It takes no memory.
 pub(crate) fn drop_key(keys: &mut BTreeSet<(u64, (u32, u64))>, key: (u64, (u32, u64)))
     ensures { (k : Key) → IsIn k keys.old.keys → (k ≡ key) ⊎ IsIn k keys.new.keys }
 {

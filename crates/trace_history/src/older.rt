@@ -22,21 +22,21 @@ use std::collections::BTreeSet;
 use std::collections::btree_set::Range;
 use std::ops::Bound;
 
-/// Messages by their numbers, and for each a key: the number of its channel, and then its own. Keys
-/// of other messages may be among these.
+// Messages by their numbers, and for each a key: the number of its channel, and then its own. Keys
+// of other messages may be among these.
 #[derive(Drop)]
 pub(crate) struct Older {
     pub(crate) table: AtomTable,
     pub(crate) keys: BTreeSet<(u64, (u32, u64))>,
-    /// From so many newest messages and requests on, messages become older ones.
+    // From so many newest messages and requests on, messages become older ones.
     limit: usize,
 }
 
-/// So many newest ones are always left.
+// So many newest ones are always left.
 const FEWEST: usize = 64;
 
 impl Older {
-    /// No message.
+    // No message.
     pub(crate) fn new(alloc: Global) -> Older
         ensures table { result.table ≡ [] }
         ensures keys { result.keys.keys ≡ [] }
@@ -49,7 +49,7 @@ impl Older {
     }
 }
 
-/// The number of a channel.
+// The number of a channel.
 fn number_of(on: Ref) -> Option<u64>
     ensures is { result ≡ number_of on }
     ensures small { IfSome result (λ c. c < 2 ^ 60) }
@@ -60,7 +60,7 @@ fn number_of(on: Ref) -> Option<u64>
     }
 }
 
-/// The number of a message's channel.
+// The number of a message's channel.
 fn channel_of(term: &Proc) -> Option<u64>
     ensures { result ≡ channel_of term.now }
 {
@@ -70,7 +70,7 @@ fn channel_of(term: &Proc) -> Option<u64>
     }
 }
 
-/// The message with this number, where the pattern receives it at the location.
+// The message with this number, where the pattern receives it at the location.
 fn found_at<'a>(older: &'a Older, at: Loc, pat: &Pat, id: AtomId) -> Option<&'a NumberedAtom>
     ensures { option_copied result ≡ find_at at pat.now older.now.table (0, (id.site, id.k)) }
 {
@@ -86,7 +86,7 @@ fn found_at<'a>(older: &'a Older, at: Loc, pat: &Pat, id: AtomId) -> Option<&'a 
     }
 }
 
-/// The message for which the first key stands that stands for one that is received.
+// The message for which the first key stands that stands for one that is received.
 fn walk<'a>(
     keys: Range<'_, (u64, (u32, u64))>,
     older: &'a Older,
@@ -108,7 +108,7 @@ fn walk<'a>(
     None
 }
 
-/// The message with the least number, of the older ones, that a pattern receives at a location.
+// The message with the least number, of the older ones, that a pattern receives at a location.
 pub(crate) fn first_older<'a>(older: &'a Older, at: Loc, pat: &Pat) -> Option<&'a NumberedAtom>
     requires { AreQueued older.now.table older.now.keys.keys }
     ensures { IsFirstOf (receives at pat.now) atom_before older.now.table (option_copied result) }
@@ -129,7 +129,7 @@ pub(crate) fn first_older<'a>(older: &'a Older, at: Loc, pat: &Pat) -> Option<&'
     }
 }
 
-/// The message at this place of the newest ones becomes an older one. A request stays.
+// The message at this place of the newest ones becomes an older one. A request stays.
 fn settle_one(
     alloc: Global,
     older: &mut Older,
@@ -158,7 +158,7 @@ fn settle_one(
     }
 }
 
-/// Where there are many newest messages, these become older ones.
+// Where there are many newest messages, these become older ones.
 fn settle(alloc: Global, older: &mut Older, atoms: &mut NumberedAtoms) -> Result<(), Memory>
     requires queued { AreQueued older.old.table older.old.keys.keys }
     requires differ { AtomsDiffer (older.old.table ++ atoms.old) }
@@ -179,7 +179,7 @@ fn settle(alloc: Global, older: &mut Older, atoms: &mut NumberedAtoms) -> Result
     Ok(())
 }
 
-/// The number of a message's channel.
+// The number of a message's channel.
 fn number_at(term: &Proc) -> u64 {
     match channel_of(term) {
         Some(number) => number,
@@ -187,7 +187,7 @@ fn number_at(term: &Proc) -> u64 {
     }
 }
 
-/// The message with this number becomes one of the newest.
+// The message with this number becomes one of the newest.
 fn bring_one(
     alloc: Global,
     older: &mut Older,
@@ -214,7 +214,7 @@ fn bring_one(
     }
 }
 
-/// The messages with these numbers become newest ones.
+// The messages with these numbers become newest ones.
 fn bring_all(
     alloc: Global,
     older: &mut Older,
@@ -233,7 +233,7 @@ fn bring_all(
     Ok(())
 }
 
-/// What an event takes becomes one of the newest messages.
+// What an event takes becomes one of the newest messages.
 fn bring(
     alloc: Global,
     older: &mut Older,
@@ -254,7 +254,7 @@ fn bring(
     }
 }
 
-/// Readies the messages for an event: what it takes is among the newest ones, and these are few.
+// Readies the messages for an event: what it takes is among the newest ones, and these are few.
 pub(crate) fn ready(
     alloc: Global,
     older: &mut Older,

@@ -8,7 +8,7 @@ use crate::older::Older;
 use chem_model::{AtomId, Atoms, Event, Loc, Numbered, NumberedAtom, Pats};
 use chem_plain::{atom_at, can_be_told, can_halt, can_move, meets, rule_at};
 
-/// The message or request with this number.
+// The message or request with this number.
 pub(crate) fn atom_of<'a>(
     numbered: &'a Numbered,
     older: &'a Older,
@@ -22,7 +22,7 @@ pub(crate) fn atom_of<'a>(
     }
 }
 
-/// Whether there is one message for each pattern, in order, each at the location.
+// Whether there is one message for each pattern, in order, each at the location.
 fn meet_all(numbered: &Numbered, older: &Older, at: Loc, pats: &Pats, took: &Atoms) -> bool
     ensures { result ≡ is_some
         (received_all (older.now.table ++ numbered.now.atoms) at pats.now took.now) }
@@ -43,7 +43,7 @@ fn meet_all(numbered: &Numbered, older: &Older, at: Loc, pats: &Pats, took: &Ato
     took.len() == pats.len()
 }
 
-/// Whether an event is possible.
+// Whether an event is possible.
 pub(crate) fn is_possible(numbered: &Numbered, older: &Older, event: &Event) -> bool
     ensures { result ≡ is_some (apply (whole older.now.table numbered.now) event.now) }
 {

@@ -28,7 +28,7 @@ use chem_model::{
 use chem_plain::{location_of, meets};
 use std::alloc::Global;
 
-/// How many turns after the site that is looked at first a site comes.
+// How many turns after the site that is looked at first a site comes.
 fn turns(sites: usize, from: u32, site: u32) -> u64
     requires { sites < 2 ^ 32 }
     ensures { result ≡ turns sites from site }
@@ -40,7 +40,7 @@ fn turns(sites: usize, from: u32, site: u32) -> u64
     }
 }
 
-/// The turn of the site at which a location is.
+// The turn of the site at which a location is.
 fn turn(numbered: &Numbered, guesses: &Guesses, from: u32, at: Loc) -> u64
     requires { IsSound numbered.now }
     ensures { result ≡ turn numbered.now from at }
@@ -52,14 +52,14 @@ fn turn(numbered: &Numbered, guesses: &Guesses, from: u32, at: Loc) -> u64
     )
 }
 
-/// Whether a site and a number come before others.
+// Whether a site and a number come before others.
 fn less(site: u32, k: u64, other_site: u32, other_k: u64) -> bool
     ensures { result ≡ less site k other_site other_k }
 {
     site < other_site || (site == other_site && k < other_k)
 }
 
-/// Whether a message has a lesser number than the one that was found so far.
+// Whether a message has a lesser number than the one that was found so far.
 fn is_lesser(atom: &NumberedAtom, least: Option<&NumberedAtom>) -> bool
     ensures { result ≡ beats atom_before atom.now (option_copied least.entry) }
 {
@@ -69,8 +69,8 @@ fn is_lesser(atom: &NumberedAtom, least: Option<&NumberedAtom>) -> bool
     }
 }
 
-/// The one with the least number that a pattern receives at a location, of these and the one that
-/// was found so far.
+// The one with the least number that a pattern receives at a location, of these and the one that
+// was found so far.
 fn least_of<'a>(
     atoms: &'a [NumberedAtom],
     at: Loc,
@@ -89,7 +89,7 @@ fn least_of<'a>(
     least
 }
 
-/// The message with the least number that a pattern receives at a location.
+// The message with the least number that a pattern receives at a location.
 fn least_message<'a>(
     numbered: &'a Numbered,
     older: &'a Older,
@@ -104,7 +104,7 @@ fn least_message<'a>(
     least_of(numbered.atoms.as_slice(), at, pat, kept)
 }
 
-/// The least message for each pattern of a rule.
+// The least message for each pattern of a rule.
 fn least_messages(
     alloc: Global,
     numbered: &Numbered,
@@ -127,7 +127,7 @@ fn least_messages(
     Ok(took)
 }
 
-/// Whether a pattern receives one of these at a location. The newest ones are tried first.
+// Whether a pattern receives one of these at a location. The newest ones are tried first.
 fn is_met_by(atoms: &[NumberedAtom], at: Loc, pat: &Pat) -> bool
     ensures { result ≡ is_met atoms.now at pat.now }
 {
@@ -141,7 +141,7 @@ fn is_met_by(atoms: &[NumberedAtom], at: Loc, pat: &Pat) -> bool
     false
 }
 
-/// Whether a pattern receives a message at a location.
+// Whether a pattern receives a message at a location.
 fn is_met(numbered: &Numbered, older: &Older, at: Loc, pat: &Pat) -> bool
     requires { AreQueued older.now.table older.now.keys.keys }
     ensures { result ≡ is_met (older.now.table ++ numbered.now.atoms) at pat.now }
@@ -155,7 +155,7 @@ fn is_met(numbered: &Numbered, older: &Older, at: Loc, pat: &Pat) -> bool
     }
 }
 
-/// Whether a rule stands at a live location and each of its patterns receives a message.
+// Whether a rule stands at a live location and each of its patterns receives a message.
 pub(crate) fn is_ready(
     numbered: &Numbered,
     guesses: &Guesses,
@@ -177,7 +177,7 @@ pub(crate) fn is_ready(
     true
 }
 
-/// Whether a rule comes before the one that was found so far.
+// Whether a rule comes before the one that was found so far.
 fn is_earlier_rule(
     numbered: &Numbered,
     guesses: &Guesses,
@@ -199,7 +199,7 @@ fn is_earlier_rule(
     }
 }
 
-/// The first of the rules that are ready, where there are few rules.
+// The first of the rules that are ready, where there are few rules.
 fn first_of_few<'a>(
     numbered: &'a Numbered,
     guesses: &Guesses,
@@ -222,8 +222,8 @@ fn first_of_few<'a>(
     first
 }
 
-/// Whether a rule is ready and comes before the one that was found so far, where this table has the
-/// channels of all messages.
+// Whether a rule is ready and comes before the one that was found so far, where this table has the
+// channels of all messages.
 fn is_better(
     numbered: &Numbered,
     guesses: &Guesses,
@@ -248,8 +248,8 @@ fn is_better(
         && is_ready(numbered, guesses, older, rule)
 }
 
-/// The better one of the rule at this place of the list, where it is ready, and the one that was
-/// found so far, where this table has the channels of all messages.
+// The better one of the rule at this place of the list, where it is ready, and the one that was
+// found so far, where this table has the channels of all messages.
 fn better_at<'a>(
     numbered: &'a Numbered,
     guesses: &Guesses,
@@ -281,7 +281,7 @@ fn better_at<'a>(
     }
 }
 
-/// The best one of the rules that wait from a place on, and of the one that was found so far.
+// The best one of the rules that wait from a place on, and of the one that was found so far.
 fn best_of_chain<'a>(
     numbered: &'a Numbered,
     guesses: &Guesses,
@@ -327,7 +327,7 @@ fn best_of_chain<'a>(
     best
 }
 
-/// The best one of the rules that wait at a slot, and of the one that was found so far.
+// The best one of the rules that wait at a slot, and of the one that was found so far.
 fn best_of_slot<'a>(
     numbered: &'a Numbered,
     guesses: &Guesses,
@@ -361,7 +361,7 @@ fn best_of_slot<'a>(
     }
 }
 
-/// The same where those of another slot were looked at, which may be this one.
+// The same where those of another slot were looked at, which may be this one.
 fn best_of_next_slot<'a>(
     numbered: &'a Numbered,
     guesses: &Guesses,
@@ -395,7 +395,7 @@ fn best_of_next_slot<'a>(
     }
 }
 
-/// The best one of the rules that were not noted.
+// The best one of the rules that were not noted.
 fn best_of_rest<'a>(
     numbered: &'a Numbered,
     guesses: &Guesses,
@@ -424,8 +424,8 @@ fn best_of_rest<'a>(
     best
 }
 
-/// The best one of the rules that wait for one of the older messages, and of the one that was found
-/// so far.
+// The best one of the rules that wait for one of the older messages, and of the one that was found
+// so far.
 fn best_of_older<'a>(
     numbered: &'a Numbered,
     guesses: &Guesses,
@@ -461,8 +461,8 @@ fn best_of_older<'a>(
     best
 }
 
-/// The best one of the rules that wait for one of the newest messages, and of those that were not
-/// noted.
+// The best one of the rules that wait for one of the newest messages, and of those that were not
+// noted.
 fn best_of_newest<'a>(
     numbered: &'a Numbered,
     guesses: &Guesses,
@@ -494,8 +494,8 @@ fn best_of_newest<'a>(
     best
 }
 
-/// The first of the rules that are ready, of those that wait for a message that is there, where
-/// this table has the channels of all messages.
+// The first of the rules that are ready, of those that wait for a message that is there, where
+// this table has the channels of all messages.
 fn first_waiting<'a>(
     numbered: &'a Numbered,
     guesses: &Guesses,
@@ -517,7 +517,7 @@ fn first_waiting<'a>(
     best_of_older(numbered, guesses, older, waiting, size, heard, from, best)
 }
 
-/// The first of the rules that are ready, where there are few messages.
+// The first of the rules that are ready, where there are few messages.
 fn first_by_no_table<'a>(
     numbered: &'a Numbered,
     guesses: &Guesses,
@@ -535,7 +535,7 @@ fn first_by_no_table<'a>(
     first_waiting(numbered, guesses, older, waiting, 1, &heard, from)
 }
 
-/// The same where there are more: by a small table of the channels that have a message.
+// The same where there are more: by a small table of the channels that have a message.
 fn first_by_small_table<'a>(
     numbered: &'a Numbered,
     guesses: &Guesses,
@@ -555,7 +555,7 @@ fn first_by_small_table<'a>(
     first_waiting(numbered, guesses, older, waiting, 1024, &heard, from)
 }
 
-/// The same by a large table.
+// The same by a large table.
 fn first_by_large_table<'a>(
     numbered: &'a Numbered,
     guesses: &Guesses,
@@ -575,8 +575,8 @@ fn first_by_large_table<'a>(
     first_waiting(numbered, guesses, older, waiting, 65_536, &heard, from)
 }
 
-/// The first of the rules that are ready. Few rules are all looked at, also where there are many
-/// messages for each; of many rules, those that wait for a message that is there.
+// The first of the rules that are ready. Few rules are all looked at, also where there are many
+// messages for each; of many rules, those that wait for a message that is there.
 fn first_rule<'a>(
     numbered: &'a Numbered,
     guesses: &Guesses,
@@ -604,7 +604,7 @@ fn first_rule<'a>(
     }
 }
 
-/// Whether this is a request that can be met.
+// Whether this is a request that can be met.
 pub(crate) fn can_act(numbered: &Numbered, guesses: &Guesses, atom: &NumberedAtom) -> bool
     requires { IsSound numbered.now }
     ensures { result ≡ can_act numbered.now atom.now }
@@ -625,7 +625,7 @@ pub(crate) fn can_act(numbered: &Numbered, guesses: &Guesses, atom: &NumberedAto
     }
 }
 
-/// Whether a request comes before the one that was found so far.
+// Whether a request comes before the one that was found so far.
 fn is_earlier_request(
     numbered: &Numbered,
     guesses: &Guesses,
@@ -648,7 +648,7 @@ fn is_earlier_request(
     }
 }
 
-/// The first of these that are requests that can be met.
+// The first of these that are requests that can be met.
 fn first_request_of<'a>(
     numbered: &Numbered,
     guesses: &Guesses,
@@ -670,7 +670,7 @@ fn first_request_of<'a>(
     first
 }
 
-/// The first of the requests that can be met.
+// The first of the requests that can be met.
 fn first_request<'a>(
     numbered: &'a Numbered,
     guesses: &Guesses,
@@ -686,7 +686,7 @@ fn first_request<'a>(
     first_request_of(numbered, guesses, from, numbered.atoms.as_slice())
 }
 
-/// The reaction of a rule, by the least message for each of its patterns.
+// The reaction of a rule, by the least message for each of its patterns.
 fn reaction(
     alloc: Global,
     numbered: &Numbered,
@@ -710,7 +710,7 @@ fn reaction(
     })
 }
 
-/// The event that meets a request.
+// The event that meets a request.
 fn event_of(id: AtomId, term: &Proc) -> Option<Event>
     ensures { result ≡ event_of id term.now }
 {
@@ -722,7 +722,7 @@ fn event_of(id: AtomId, term: &Proc) -> Option<Event>
     }
 }
 
-/// The event that meets a request, and its site.
+// The event that meets a request, and its site.
 fn meeting(numbered: &Numbered, guesses: &Guesses, atom: &NumberedAtom) -> Option<Found>
     requires { IsSound numbered.now }
     ensures { IsMeeting numbered.now atom.now result }
@@ -736,8 +736,8 @@ fn meeting(numbered: &Numbered, guesses: &Guesses, atom: &NumberedAtom) -> Optio
     }
 }
 
-/// The event that comes first. A reaction comes before a request at the same site. It takes memory
-/// only where an event is possible.
+// The event that comes first. A reaction comes before a request at the same site. It takes memory
+// only where an event is possible.
 pub(crate) fn first_event(
     alloc: Global,
     numbered: &Numbered,
@@ -777,7 +777,7 @@ pub(crate) fn first_event(
     }
 }
 
-/// Whether no event is possible.
+// Whether no event is possible.
 pub(crate) fn is_stuck(
     numbered: &Numbered,
     guesses: &Guesses,

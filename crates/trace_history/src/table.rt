@@ -13,7 +13,7 @@ use std::collections::BTreeMap;
 use std::collections::btree_map::Values;
 use std::marker::Model;
 
-/// Messages by number.
+// Messages by number.
 #[derive(Drop)]
 pub(crate) struct AtomTable {
     map: BTreeMap<(u32, u64), NumberedAtom>,
@@ -37,7 +37,7 @@ impl Model for AtomTable {
 }
 
 impl AtomTable {
-    /// The table without a member.
+    // The table without a member.
     pub(crate) fn new(alloc: Global) -> AtomTable
         ensures { result ≡ [] }
     {
@@ -46,14 +46,14 @@ impl AtomTable {
         }
     }
 
-    /// The message with this number.
+    // The message with this number.
     pub(crate) fn get(&self, id: AtomId) -> Option<&NumberedAtom>
         ensures { option_copied result ≡ atom_at self.now id }
     {
         self.map.get(&(id.site, id.k))
     }
 
-    /// All of them.
+    // All of them.
     pub(crate) fn values(&self) -> Values<'_, (u32, u64), NumberedAtom>
         ensures rest { result ≡ self.now }
         ensures runs { ShowsInOrder (deref {X = NumberedAtom}) }
@@ -61,7 +61,7 @@ impl AtomTable {
         self.map.values()
     }
 
-    /// Adds one whose number isn't there. On want of memory nothing changes.
+    // Adds one whose number isn't there. On want of memory nothing changes.
     pub(crate) fn insert(&mut self, atom: NumberedAtom) -> Result<(), Memory>
         requires { atom_at self.old atom.id ≡ None }
         ensures ok { OnOk result (Adds atom self.old self.new) }
@@ -74,7 +74,7 @@ impl AtomTable {
         }
     }
 
-    /// Takes the one with this number out. It takes no memory.
+    // Takes the one with this number out. It takes no memory.
     pub(crate) fn remove(&mut self, id: AtomId) -> Option<NumberedAtom>
         ensures found { result ≡ atom_at self.old id }
         ensures left { self.new ≡ without id self.old }
@@ -82,7 +82,7 @@ impl AtomTable {
         self.map.remove(&(id.site, id.k))
     }
 
-    /// No number stands twice. It does nothing.
+    // No number stands twice. It does nothing.
     pub(crate) fn are_different(&self)
         ensures { AtomsDiffer self.now }
     {

@@ -7,20 +7,20 @@ use crate::heard::slot_of;
 use chem_model::{Memory, Name, Numbered, Pat, Pats, Proc, ProcNode, Ref};
 use std::alloc::Global;
 
-/// From a slot the places of the rules that wait there, the one noted last first: `heads` has the
-/// first place of each slot, and `links` has for each place the next one. A number that is no place
-/// ends them.
+// From a slot the places of the rules that wait there, the one noted last first: `heads` has the
+// first place of each slot, and `links` has for each place the next one. A number that is no place
+// ends them.
 #[derive(Drop)]
 pub(crate) struct Waiting {
     pub(crate) heads: Vec<u32>,
     pub(crate) links: Vec<u32>,
 }
 
-/// How many newest messages are looked at where a rule is noted.
+// How many newest messages are looked at where a rule is noted.
 const NEWEST: usize = 64;
 
 impl Waiting {
-    /// No rule was noted.
+    // No rule was noted.
     pub(crate) fn new(alloc: Global) -> Result<Waiting, Memory>
         ensures some { IfOk result (λ waiting. 0 < length waiting.heads.items) }
         ensures none { IfOk result (λ waiting. length waiting.links.items ≡ 0) }
@@ -33,7 +33,7 @@ impl Waiting {
     }
 }
 
-/// Whether these are one channel.
+// Whether these are one channel.
 fn is_same(one: Ref, other: Ref) -> bool {
     match one {
         Ref::Known(Name::Chan { site, k, .. }) => match other {
@@ -50,7 +50,7 @@ fn is_same(one: Ref, other: Ref) -> bool {
     }
 }
 
-/// Whether one of the newest messages is on a channel.
+// Whether one of the newest messages is on a channel.
 fn has_message(numbered: &Numbered, on: Ref) -> bool {
     let atoms = numbered.atoms.as_slice();
     let first = atoms.len().saturating_sub(NEWEST);
@@ -66,8 +66,8 @@ fn has_message(numbered: &Numbered, on: Ref) -> bool {
     false
 }
 
-/// The slot of a pattern's channel, where none was chosen so far or the channel seems to have no
-/// message; else the one that was chosen.
+// The slot of a pattern's channel, where none was chosen so far or the channel seems to have no
+// message; else the one that was chosen.
 fn chosen_slot(
     size: u64,
     numbered: &Numbered,
@@ -85,7 +85,7 @@ fn chosen_slot(
     }
 }
 
-/// The slot of the channel of one of these patterns: of the last one that seems to have no message.
+// The slot of the channel of one of these patterns: of the last one that seems to have no message.
 fn waiting_slot(size: u64, numbered: &Numbered, pats: &Pats) -> Option<usize>
     requires { 0 < size }
     ensures { IfSome result (IsSlotOf size pats.now) }
@@ -98,7 +98,7 @@ fn waiting_slot(size: u64, numbered: &Numbered, pats: &Pats) -> Option<usize>
     chosen
 }
 
-/// Puts the next place before the others of a slot.
+// Puts the next place before the others of a slot.
 fn chain(heads: &mut Vec<u32>, links: &mut Vec<u32>, slot: usize) -> Result<(), Memory>
     ensures { Chains slot heads.old.items links.old.items heads.new.items links.new.items }
 {
@@ -111,7 +111,7 @@ fn chain(heads: &mut Vec<u32>, links: &mut Vec<u32>, slot: usize) -> Result<(), 
     Ok(())
 }
 
-/// Notes the rule that comes next.
+// Notes the rule that comes next.
 fn file_next(waiting: &mut Waiting, numbered: &Numbered) -> Result<(), Memory>
     requires { AreFiled waiting.old.heads.items waiting.old.links.items numbered.now.rules }
     ensures { AreFiled waiting.new.heads.items waiting.new.links.items numbered.now.rules }
@@ -127,7 +127,7 @@ fn file_next(waiting: &mut Waiting, numbered: &Numbered) -> Result<(), Memory>
     }
 }
 
-/// Makes slots for so many rules, and forgets all that were noted.
+// Makes slots for so many rules, and forgets all that were noted.
 #[tactic(auto, using(crate::proofs::Filed::none_filed))]
 fn make_slots(alloc: Global, waiting: &mut Waiting, numbered: &Numbered) -> Result<(), Memory>
     requires { AreFiled waiting.old.heads.items waiting.old.links.items numbered.now.rules }
@@ -139,8 +139,8 @@ fn make_slots(alloc: Global, waiting: &mut Waiting, numbered: &Numbered) -> Resu
     Ok(())
 }
 
-/// Notes the rules that were not noted yet. Whether or not memory suffices, those that are noted
-/// are found.
+// Notes the rules that were not noted yet. Whether or not memory suffices, those that are noted
+// are found.
 pub(crate) fn file(alloc: Global, waiting: &mut Waiting, numbered: &Numbered) -> Result<(), Memory>
     requires { AreFiled waiting.old.heads.items waiting.old.links.items numbered.now.rules }
     ensures { AreFiled waiting.new.heads.items waiting.new.links.items numbered.now.rules }
@@ -158,7 +158,7 @@ pub(crate) fn file(alloc: Global, waiting: &mut Waiting, numbered: &Numbered) ->
     Ok(())
 }
 
-/// The slot of a message's channel.
+// The slot of a message's channel.
 pub(crate) fn slot_of_term(size: u64, term: &Proc) -> Option<usize>
     requires { 0 < size }
     ensures { result ≡ slot_of_term size term.now }
@@ -169,7 +169,7 @@ pub(crate) fn slot_of_term(size: u64, term: &Proc) -> Option<usize>
     }
 }
 
-/// The slot of a channel with this number.
+// The slot of a channel with this number.
 pub(crate) fn slot_of_number(size: u64, number: u64) -> Option<usize>
     requires { 0 < size }
     ensures { result ≡ Some (number % size) }
@@ -177,7 +177,7 @@ pub(crate) fn slot_of_number(size: u64, number: u64) -> Option<usize>
     Some((number % size) as usize)
 }
 
-/// Whether these are one slot.
+// Whether these are one slot.
 pub(crate) fn is_same_slot(one: Option<usize>, other: Option<usize>) -> bool
     ensures { result ≡ true → one ≡ other }
 {

@@ -7,7 +7,7 @@ ghost use Rattle.trace_text.specs.inside.Reading.{Gives, behind, front, value_of
 
 use crate::fault::Fault;
 
-/// What follows a text, where the bytes begin with it.
+// What follows a text, where the bytes begin with it.
 pub(crate) fn behind<'a>(bytes: &'a [u8], text: &[u8]) -> Option<&'a [u8]>
     ensures is { option_map (λ rest. rest.now) result ≡ behind text.now bytes.now }
     ensures shorter { IfSome result (λ rest. length rest.now ≤ length bytes.now) }
@@ -15,7 +15,7 @@ pub(crate) fn behind<'a>(bytes: &'a [u8], text: &[u8]) -> Option<&'a [u8]>
     bytes.strip_prefix(text)
 }
 
-/// A text as one field.
+// A text as one field.
 pub(crate) fn literal_at<'a>(bytes: &'a [u8], text: &[u8]) -> Result<&'a [u8], Fault>
     ensures is { Gives (λ rest. (0, rest.now)) result (front (word (text.now ∷ [])) bytes.now) }
     ensures shorter { IfOk result (λ rest. length rest.now ≤ length bytes.now) }
@@ -26,7 +26,7 @@ pub(crate) fn literal_at<'a>(bytes: &'a [u8], text: &[u8]) -> Result<&'a [u8], F
     }
 }
 
-/// How many bytes at the front are digits.
+// How many bytes at the front are digits.
 fn digits_len(bytes: &[u8]) -> usize
     ensures { result ≡ prefix_len is_digit bytes.now }
 {
@@ -36,7 +36,7 @@ fn digits_len(bytes: &[u8]) -> usize
         .count()
 }
 
-/// The value of digits, or 2^64 for a larger one.
+// The value of digits, or 2^64 for a larger one.
 fn value_of(digits: &[u8]) -> u128
     ensures { result ≡ min (value_of digits.now) 18446744073709551616 }
 {
@@ -47,7 +47,7 @@ fn value_of(digits: &[u8]) -> u128
     value
 }
 
-/// The number that digits are, where it has no leading zero and is from `low` to `high`.
+// The number that digits are, where it has no leading zero and is from `low` to `high`.
 fn numeral(digits: &[u8], low: u64, high: u64) -> Option<u64>
     ensures some { IfSome result (λ n. is_numeral low high digits.now ≡ true) }
     ensures value { IfSome result (λ n. n ≡ value_of digits.now) }
@@ -63,7 +63,7 @@ fn numeral(digits: &[u8], low: u64, high: u64) -> Option<u64>
     Some(value as u64)
 }
 
-/// A number from `low` to `high`: the longest run of digits at the front.
+// A number from `low` to `high`: the longest run of digits at the front.
 pub(crate) fn number_at(bytes: &[u8], low: u64, high: u64) -> Result<(u64, &[u8]), Fault>
     ensures is { Gives (λ x. (x.0, x.1.now)) result (front (number low high) bytes.now) }
     ensures most { IfOk result (λ x. x.0 ≤ high) }
@@ -76,7 +76,7 @@ pub(crate) fn number_at(bytes: &[u8], low: u64, high: u64) -> Result<(u64, &[u8]
     Ok((number, rest))
 }
 
-/// So many bytes.
+// So many bytes.
 pub(crate) fn counted_at(bytes: &[u8], count: u64) -> Result<(&[u8], &[u8]), Fault>
     ensures is { Gives (λ x. (x.0.now, x.1.now)) result (front (counted count) bytes.now) }
     ensures shorter { IfOk result (λ x. length x.1.now ≤ length bytes.now) }

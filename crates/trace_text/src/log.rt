@@ -37,7 +37,7 @@ pub fn log_bytes(
     log_of_parts(alloc, source, budget, book.journal(), trace.as_slice())
 }
 
-/// Each reaction of a book's journal takes an atom. It does nothing.
+// Each reaction of a book's journal takes an atom. It does nothing.
 fn each_reaction_takes(book: &Book)
     ensures { Each TakesSome book.now.journal }
 {
@@ -80,7 +80,7 @@ pub fn one_spelling()
     ensures { (log : LogParts) → HasOneSpelling log }
 {}
 
-/// How the log of a run with this budget begins.
+// How the log of a run with this budget begins.
 #[tactic(auto, unfolding(crate::specs::LogText::beginning))]
 fn beginning(budget: u32) -> &'static [u8]
     ensures { result.now ≡ beginning budget }
@@ -92,7 +92,7 @@ fn beginning(budget: u32) -> &'static [u8]
     }
 }
 
-/// Appends a literal, and a number behind it.
+// Appends a literal, and a number behind it.
 fn push_field(text: &mut Text, literal: &[u8], number: u64) -> Result<(), Memory>
     ensures { OnOk result (text.new ≡ text.old ++ literal.now ++ decimal number) }
 {
@@ -100,7 +100,7 @@ fn push_field(text: &mut Text, literal: &[u8], number: u64) -> Result<(), Memory
     push_number(text, number)
 }
 
-/// Appends a literal, and behind it how many bytes there are, and on a new line the bytes.
+// Appends a literal, and behind it how many bytes there are, and on a new line the bytes.
 fn push_counted(text: &mut Text, literal: &[u8], bytes: &[u8]) -> Result<(), Memory>
     ensures { OnOk result (text.new ≡
         text.old ++ literal.now ++ decimal (length bytes.now) ++ codes "\n" ++ bytes.now) }
@@ -110,7 +110,7 @@ fn push_counted(text: &mut Text, literal: &[u8], bytes: &[u8]) -> Result<(), Mem
     push_all(text, bytes)
 }
 
-/// Appends a line for each event.
+// Appends a line for each event.
 fn push_events(text: &mut Text, journal: &Journal) -> Result<(), Memory>
     ensures is { OnOk result (text.new ≡ text.old ++ events_text journal.now) }
     ensures bounded { OnOk result (Each IsBounded journal.now) }
@@ -121,7 +121,7 @@ fn push_events(text: &mut Text, journal: &Journal) -> Result<(), Memory>
     Ok(())
 }
 
-/// Appends the line of an event.
+// Appends the line of an event.
 fn push_event(text: &mut Text, event: &Event) -> Result<(), Memory>
     ensures is { OnOk result (text.new ≡ text.old ++ event_text event.now) }
     ensures bounded { OnOk result (IsBounded event.now) }
@@ -148,7 +148,7 @@ fn push_event(text: &mut Text, event: &Event) -> Result<(), Memory>
     push_all(text, b"\n")
 }
 
-/// Appends each atom after one space.
+// Appends each atom after one space.
 fn push_atoms(text: &mut Text, atoms: &Atoms) -> Result<(), Memory>
     ensures is { OnOk result (text.new ≡ text.old ++ atoms_text atoms.now) }
     ensures bounded { OnOk result (Each IsAtom atoms.now) }
@@ -160,7 +160,7 @@ fn push_atoms(text: &mut Text, atoms: &Atoms) -> Result<(), Memory>
     Ok(())
 }
 
-/// Appends a pair: its site and its number, with a point between.
+// Appends a pair: its site and its number, with a point between.
 fn push_pair(text: &mut Text, site: u32, k: u64) -> Result<(), Memory>
     ensures is { OnOk result (text.new ≡ text.old ++ pair_text site k) }
     ensures bounded { IsPair site k }

@@ -7,7 +7,7 @@ use crate::tables::{Binders, Ranks};
 use chem_model::{Memory, Name, Names, Outs, Program};
 use std::alloc::Global;
 
-/// The spelling of the observed name of a declaration.
+// The spelling of the observed name of a declaration.
 pub(crate) fn seen_spelling(program: &Program, declaration: u32) -> &[u8]
     ensures { result.now ≡ seen_spelling program.now.seen declaration }
 {
@@ -17,7 +17,7 @@ pub(crate) fn seen_spelling(program: &Program, declaration: u32) -> &[u8]
     }
 }
 
-/// The spelling of the binder for which a name was made.
+// The spelling of the binder for which a name was made.
 pub(crate) fn binder_spelling(program: &Program, binder: Option<u32>) -> &[u8]
     ensures { result.now ≡ binder_spelling program.now binder }
 {
@@ -30,7 +30,7 @@ pub(crate) fn binder_spelling(program: &Program, binder: Option<u32>) -> &[u8]
     }
 }
 
-/// Whether a name has a rank: it was made, and for no site-level binder.
+// Whether a name has a rank: it was made, and for no site-level binder.
 pub(crate) fn is_ranked(program: &Program, binders: &Binders, name: Name) -> bool
     ensures { result ≡ is_ranked program.now binders.now name }
 {
@@ -43,7 +43,7 @@ pub(crate) fn is_ranked(program: &Program, binders: &Binders, name: Name) -> boo
     }
 }
 
-/// The names of a trace that have a rank, in order of first appearance.
+// The names of a trace that have a rank, in order of first appearance.
 pub(crate) fn ranked(
     alloc: Global,
     program: &Program,
@@ -62,7 +62,7 @@ pub(crate) fn ranked(
     }
 }
 
-/// Appends those arguments of observables that have a rank and don't stand there yet.
+// Appends those arguments of observables that have a rank and don't stand there yet.
 fn add_all_ranked(
     ranks: &mut Ranks,
     program: &Program,
@@ -78,7 +78,7 @@ fn add_all_ranked(
     Ok(())
 }
 
-/// Appends those arguments that have a rank and don't stand there yet.
+// Appends those arguments that have a rank and don't stand there yet.
 fn add_ranked(
     ranks: &mut Ranks,
     program: &Program,

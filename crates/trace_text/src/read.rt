@@ -40,7 +40,7 @@ impl Log {
     }
 }
 
-/// The word with which the line of an event begins.
+// The word with which the line of an event begins.
 #[derive(Clone, Copy, PartialEq, Eq, Debug)]
 pub enum Word {
     React,
@@ -68,7 +68,7 @@ fn word_of(bytes: &[u8]) -> Result<(Word, &[u8]), Fault>
     Err(Fault::Wrong { left: bytes.len() })
 }
 
-/// The kind of a log, with which it begins: by how large its budget is.
+// The kind of a log, with which it begins: by how large its budget is.
 #[derive(Clone, Copy, PartialEq, Eq, Debug)]
 pub enum Kind {
     First,
@@ -89,7 +89,7 @@ fn kind_of(bytes: &[u8]) -> Result<(Kind, &[u8]), Fault>
     Err(Fault::Wrong { left: bytes.len() })
 }
 
-/// The budget of a log of this kind.
+// The budget of a log of this kind.
 fn budget_of(kind: Kind, bytes: &[u8]) -> Result<(u64, &[u8]), Fault>
     ensures is { Gives (λ x. (x.0, x.1.now)) result (front
         (number (least_budget (kind_index kind)) (most_budget (kind_index kind))) bytes.now) }
@@ -102,7 +102,7 @@ fn budget_of(kind: Kind, bytes: &[u8]) -> Result<(u64, &[u8]), Fault>
     }
 }
 
-/// A pair: its site, and its number there.
+// A pair: its site, and its number there.
 fn pair_of(bytes: &[u8]) -> Result<(AtomId, &[u8]), Fault>
     ensures reads { Reads {Z = LogParts} (λ x. x.0) (λ x. x.1.now) pair bytes.now result }
     ensures shorter { IfOk result (λ x. length x.1.now < length bytes.now) }
@@ -114,7 +114,7 @@ fn pair_of(bytes: &[u8]) -> Result<(AtomId, &[u8]), Fault>
     Ok((AtomId { site, k }, rest))
 }
 
-/// A pair and the end of its line.
+// A pair and the end of its line.
 fn one_pair_of(bytes: &[u8]) -> Result<(AtomId, &[u8]), Fault>
     ensures reads { Reads {Z = LogParts} (λ x. x.0) (λ x. x.1.now) one_pair bytes.now result }
     ensures shorter { IfOk result (λ x. length x.1.now ≤ length bytes.now) }
@@ -124,7 +124,7 @@ fn one_pair_of(bytes: &[u8]) -> Result<(AtomId, &[u8]), Fault>
     Ok((atom, rest))
 }
 
-/// The atoms that a reaction takes, and the end of its line.
+// The atoms that a reaction takes, and the end of its line.
 fn taken_of(alloc: Global, bytes: &[u8]) -> Result<(Atoms, &[u8]), Fault>
     ensures reads { (n : ℕ) → length bytes.now ≤ n →
         Reads {Z = LogParts} (λ x. x.0) (λ x. x.1.now) (taken n) bytes.now result }
@@ -144,10 +144,10 @@ fn taken_of(alloc: Global, bytes: &[u8]) -> Result<(Atoms, &[u8]), Fault>
     Ok((atoms, rest))
 }
 
-/// More atoms than most reactions take.
+// More atoms than most reactions take.
 const FEW: usize = 64;
 
-/// The same atoms, without room for more where they are few: most of a long log is such lists.
+// The same atoms, without room for more where they are few: most of a long log is such lists.
 fn fitted(alloc: Global, atoms: Atoms) -> Result<Atoms, Memory>
     ensures { IfOk result (λ fitted. fitted ≡ atoms) }
 {
@@ -157,7 +157,7 @@ fn fitted(alloc: Global, atoms: Atoms) -> Result<Atoms, Memory>
     atoms.copy(alloc)
 }
 
-/// The line of an event.
+// The line of an event.
 fn event_of(alloc: Global, bytes: &[u8]) -> Result<(Event, &[u8]), Fault>
     ensures reads { (n : ℕ) → length bytes.now ≤ n →
         Reads {Z = LogParts} (λ x. x.0) (λ x. x.1.now) (event_line n) bytes.now result }
@@ -187,7 +187,7 @@ fn event_of(alloc: Global, bytes: &[u8]) -> Result<(Event, &[u8]), Fault>
     }
 }
 
-/// So many lines of events more, behind those that were read before.
+// So many lines of events more, behind those that were read before.
 fn more_lines<'a>(
     alloc: Global,
     events: &mut Journal,
@@ -206,7 +206,7 @@ fn more_lines<'a>(
     Ok(rest)
 }
 
-/// The same of a text that is let go: what is behind these lines is answered.
+// The same of a text that is let go: what is behind these lines is answered.
 fn take_lines(alloc: Global, events: &mut Journal, count: u64, text: Text) -> Result<Text, Fault>
     ensures reads { ReadsLines (λ rest. rest) events.old events.new count text result }
     ensures shorter { IfOk result (λ rest. length rest ≤ length text) }
@@ -216,11 +216,11 @@ fn take_lines(alloc: Global, events: &mut Journal, count: u64, text: Text) -> Re
     Ok(rest)
 }
 
-/// In how many parts the lines of a log are read.
+// In how many parts the lines of a log are read.
 const PARTS: u64 = 8;
 
-/// So many lines of events, and what is behind them. Each part of the text is let go when its events
-/// are read, so that text and events don't both stand there whole.
+// So many lines of events, and what is behind them. Each part of the text is let go when its events
+// are read, so that text and events don't both stand there whole.
 fn lines_of(alloc: Global, count: u64, text: Text) -> Result<(Journal, Text), Fault>
     ensures { (n : ℕ) → length text ≤ n →
         Reads {Z = LogParts} (λ x. x.0) (λ x. x.1) (lines n [] count) text result }
@@ -237,7 +237,7 @@ fn lines_of(alloc: Global, count: u64, text: Text) -> Result<(Journal, Text), Fa
     Ok((events, rest))
 }
 
-/// Bytes behind their length, which is at most this.
+// Bytes behind their length, which is at most this.
 fn counted_text(bytes: &[u8], most: u64) -> Result<(&[u8], &[u8]), Fault>
     ensures reads { Reads {Z = LogParts} (λ x. x.0.now) (λ x. x.1.now)
         (counted_text most) bytes.now result }
@@ -248,7 +248,7 @@ fn counted_text(bytes: &[u8], most: u64) -> Result<(&[u8], &[u8]), Fault>
     counted_at(rest, count)
 }
 
-/// No byte may be left.
+// No byte may be left.
 fn ended(rest: &[u8]) -> Result<(), Fault>
     ensures { (log : LogParts) → Gives (λ _. log) result (ended log rest.now) }
 {
@@ -258,8 +258,8 @@ fn ended(rest: &[u8]) -> Result<(), Fault>
     }
 }
 
-/// What stands before the lines of events, which are behind it: the source, the budget, and how many
-/// events there are.
+// What stands before the lines of events, which are behind it: the source, the budget, and how many
+// events there are.
 fn head_of(bytes: &[u8]) -> Result<(&[u8], u64, u64, &[u8]), Fault>
     ensures reads { ReadsHead (λ x. x.0.now) (λ x. x.1) (λ x. x.2) (λ x. x.3.now)
         bytes.now result }
@@ -276,7 +276,7 @@ fn head_of(bytes: &[u8]) -> Result<(&[u8], u64, u64, &[u8]), Fault>
     Ok((source, budget, count, rest))
 }
 
-/// The trace, behind which no byte is left.
+// The trace, behind which no byte is left.
 fn trace_of(bytes: &[u8]) -> Result<&[u8], Fault>
     ensures { ReadsTrace (λ trace. trace.now) bytes.now result }
 {

@@ -25,7 +25,7 @@ pub fn trace_bytes(alloc: Global, book: &Book, ending: Ending) -> Result<Text, M
     run_text(alloc, book.program(), book.names(), book.trace(), ending)
 }
 
-/// The text of these observables, where `named` are the names that were given in the run.
+// The text of these observables, where `named` are the names that were given in the run.
 fn run_text(
     alloc: Global,
     program: &Program,
@@ -41,7 +41,7 @@ fn run_text(
     text
 }
 
-/// The same, where it is known for which binder each name was made.
+// The same, where it is known for which binder each name was made.
 fn text_by(
     alloc: Global,
     program: &Program,
@@ -57,7 +57,7 @@ fn text_by(
     text
 }
 
-/// The same, where the names that have a rank are known too.
+// The same, where the names that have a rank are known too.
 fn ranked_text(
     alloc: Global,
     program: &Program,
@@ -86,7 +86,7 @@ pub fn push_ending(text: &mut Text, ending: Ending) -> Result<(), Memory>
     }
 }
 
-/// Appends the line of each observable.
+// Appends the line of each observable.
 fn push_outs(
     text: &mut Text,
     program: &Program,
@@ -119,7 +119,7 @@ fn push_out(
     push_all(text, b")\n")
 }
 
-/// Appends names, joined by a comma and a space.
+// Appends names, joined by a comma and a space.
 fn push_names(
     text: &mut Text,
     program: &Program,
@@ -139,7 +139,7 @@ fn push_names(
     Ok(())
 }
 
-/// Appends names, each behind a comma and a space.
+// Appends names, each behind a comma and a space.
 fn push_later(
     text: &mut Text,
     program: &Program,
@@ -176,7 +176,7 @@ fn push_name(
     }
 }
 
-/// Appends a name that was made.
+// Appends a name that was made.
 fn push_made(
     text: &mut Text,
     program: &Program,
@@ -195,7 +195,7 @@ fn push_made(
     }
 }
 
-/// Appends `'` and the rank of a name.
+// Appends `'` and the rank of a name.
 fn push_rank(text: &mut Text, ranks: &Ranks, name: Name) -> Result<(), Memory>
     ensures { OnOk result (text.new ≡
         text.old ++ codes "'" ++ decimal (place_in name ranks.now + 1)) }

@@ -25,7 +25,7 @@ impl DecodeEnd {
     }
 }
 
-/// The same while the bytes are read: how many are left where the field begins that is wrong first.
+// The same while the bytes are read: how many are left where the field begins that is wrong first.
 #[derive(Clone, Copy, Debug, PartialEq, Eq)]
 pub enum Fault {
     Wrong { left: usize },

@@ -6,7 +6,7 @@ use chem_model::Memory;
 use std::alloc::Global;
 use std::collections::BTreeSet;
 
-/// A set of ids. A look-up takes time that grows with the logarithm of their number.
+// A set of ids. A look-up takes time that grows with the logarithm of their number.
 #[derive(Drop)]
 pub struct Ids {
     pub pairs: BTreeSet<(u32, u64)>,
@@ -27,7 +27,7 @@ impl Ids {
         self.pairs.contains(&(site, k))
     }
 
-    /// Adds an id, and tells whether it is new.
+    // Adds an id, and tells whether it is new.
     pub fn add(&mut self, site: u32, k: u64) -> Result<bool, Memory>
         ensures new { IfOk result (λ new. new ≡ not (holds self.old site k)) }
         ensures added { OnOk result ((s t : ℕ) →
