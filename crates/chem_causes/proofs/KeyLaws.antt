@@ -1,5 +1,7 @@
 -- Keys of channels in a set.
-use Rattle.std.proofs.Common.{◌≡◌, ℕ, ◌+◌, ◌<◌, ◌≤◌, List, [], ◌∷◌, Some, None, Bool, true, false, refl, ap, sym, ◌∙◌, arith, ◌&&◌, ◌||◌, ◌==◌, eqb-true, Ordering, Less, Equal, Greater, length, drop, get_or}
+use Rattle.std.proofs.Common.{◌≡◌, ℕ, ◌+◌, ◌<◌, ◌≤◌, List, [], ◌∷◌, Some, None, Bool, true, false}
+use Rattle.std.proofs.Common.{refl, ap, sym, ◌∙◌, arith, ◌&&◌, ◌||◌, ◌==◌, eqb-true, Ordering, Less}
+use Rattle.std.proofs.Common.{Equal, Greater, length, drop, get_or}
 use Rattle.std.specs.List.{list_any}
 use Rattle.std.specs.Ordering.{is_eq, nat_cmp, ordering_then, match_ordering}
 use Rattle.std.specs.BTreeSet.{insert_key}
@@ -15,7 +17,9 @@ use Rattle.chem_causes.specs.Cause.{IsChannel}
 use Rattle.chem_causes.specs.Channels.{Key, key_of, is_key, has, Adds}
 
 abbrev pub key_cmp : Key → Key → Ordering
-key_cmp x y = ordering_then (ordering_then (nat_cmp x.0.0 y.0.0) (nat_cmp x.0.1 y.0.1)) (ordering_then (ordering_then (nat_cmp x.1.0.0 y.1.0.0) (nat_cmp x.1.0.1 y.1.0.1)) (nat_cmp x.1.1 y.1.1))
+key_cmp x y = ordering_then (ordering_then (nat_cmp x.0.0 y.0.0) (nat_cmp x.0.1 y.0.1))
+    (ordering_then (ordering_then (nat_cmp x.1.0.0 y.1.0.0) (nat_cmp x.1.0.1 y.1.0.1))
+    (nat_cmp x.1.1 y.1.1))
 
 is_eq-nat_cmp : (x y : ℕ) → is_eq (nat_cmp x y) ≡ (y == x)
 is_eq-nat_cmp x y = grind (arith, nat_tests)
@@ -26,7 +30,9 @@ is_eq-then Equal p = refl
 is_eq-then Greater p = refl
 
 pair_is : (a b c d : ℕ) → is_eq (ordering_then (nat_cmp a c) (nat_cmp b d)) ≡ (c == a) && (d == b)
-pair_is a b c d = is_eq-then (nat_cmp a c) (nat_cmp b d) ∙ ap (λ t. t && is_eq (nat_cmp b d)) (is_eq-nat_cmp a c) ∙ ap (λ t. (c == a) && t) (is_eq-nat_cmp b d)
+pair_is a b c d =
+    is_eq-then (nat_cmp a c) (nat_cmp b d) ∙ ap (λ t. t && is_eq (nat_cmp b d)) (is_eq-nat_cmp a c)
+    ∙ ap (λ t. (c == a) && t) (is_eq-nat_cmp b d)
 
 and_four : (a b c d e : Bool) → (a && b) && ((c && d) && e) ≡ (a && (b && (c && d))) && e
 and_four true true c d e = refl
@@ -34,16 +40,30 @@ and_four true false c d e = refl
 and_four false b c d e = refl
 
 -- a key is compared as equal exactly where it is the channel's with the count
-pub at_key : (s k t j c : ℕ) (e : Key) → is_eq (key_cmp ((s, k), ((t, j), c)) e) ≡ is_key (Known (name.Chan s k (record { site = t; k = j }))) c e
+pub at_key : (s k t j c : ℕ) (e : Key)
+    → is_eq (key_cmp ((s, k), ((t, j), c)) e)
+    ≡ is_key (Known (name.Chan s k (record { site = t; k = j }))) c e
 at_key s k t j c e =
-    is_eq-then (ordering_then (nat_cmp s e.0.0) (nat_cmp k e.0.1)) (ordering_then (ordering_then (nat_cmp t e.1.0.0) (nat_cmp j e.1.0.1)) (nat_cmp c e.1.1))
-    ∙ ap (λ u. u && is_eq (ordering_then (ordering_then (nat_cmp t e.1.0.0) (nat_cmp j e.1.0.1)) (nat_cmp c e.1.1))) (pair_is s k e.0.0 e.0.1)
-    ∙ ap (λ u. ((e.0.0 == s) && (e.0.1 == k)) && u) (is_eq-then (ordering_then (nat_cmp t e.1.0.0) (nat_cmp j e.1.0.1)) (nat_cmp c e.1.1) ∙ ap (λ u. u && is_eq (nat_cmp c e.1.1)) (pair_is t j e.1.0.0 e.1.0.1) ∙ ap (λ u. ((e.1.0.0 == t) && (e.1.0.1 == j)) && u) (is_eq-nat_cmp c e.1.1))
+    is_eq-then (ordering_then (nat_cmp s e.0.0) (nat_cmp k e.0.1))
+    (ordering_then (ordering_then (nat_cmp t e.1.0.0) (nat_cmp j e.1.0.1)) (nat_cmp c e.1.1))
+    ∙ ap (λ u. u
+    && is_eq
+    (ordering_then (ordering_then (nat_cmp t e.1.0.0) (nat_cmp j e.1.0.1)) (nat_cmp c e.1.1)))
+    (pair_is s k e.0.0 e.0.1)
+    ∙ ap (λ u. ((e.0.0 == s) && (e.0.1 == k)) && u)
+    (is_eq-then (ordering_then (nat_cmp t e.1.0.0) (nat_cmp j e.1.0.1)) (nat_cmp c e.1.1)
+    ∙ ap (λ u. u && is_eq (nat_cmp c e.1.1)) (pair_is t j e.1.0.0 e.1.0.1)
+    ∙ ap (λ u. ((e.1.0.0 == t) && (e.1.0.1 == j)) && u) (is_eq-nat_cmp c e.1.1))
     ∙ and_four (e.0.0 == s) (e.0.1 == k) (e.1.0.0 == t) (e.1.0.1 == j) (e.1.1 == c)
 
-pub contained : (s k t j c : ℕ) (ks : List Key) → list_any (is_at (key_cmp ((s, k), ((t, j), c)))) ks ≡ has ks (Known (name.Chan s k (record { site = t; k = j }))) c
+pub contained : (s k t j c : ℕ) (ks : List Key)
+    → list_any (is_at (key_cmp ((s, k), ((t, j), c)))) ks
+    ≡ has ks (Known (name.Chan s k (record { site = t; k = j }))) c
 contained s k t j c [] = refl
-contained s k t j c (e ∷ ks) = ap (λ u. u || list_any (is_at (key_cmp ((s, k), ((t, j), c)))) ks) (at_key s k t j c e) ∙ ap (λ u. is_key (Known (name.Chan s k (record { site = t; k = j }))) c e || u) (contained s k t j c ks)
+contained s k t j c (e ∷ ks) =
+    ap (λ u. u || list_any (is_at (key_cmp ((s, k), ((t, j), c)))) ks) (at_key s k t j c e)
+    ∙ ap (λ u. is_key (Known (name.Chan s k (record { site = t; k = j }))) c e || u)
+    (contained s k t j c ks)
 
 -- ---- one key more
 
@@ -66,30 +86,45 @@ and_both Greater p e = cc
 
 pub key_equal : (x y : Key) → key_cmp x y ≡ Equal → x ≡ y
 key_equal x y e =
-    let a = and_both (ordering_then (nat_cmp x.0.0 y.0.0) (nat_cmp x.0.1 y.0.1)) (ordering_then (ordering_then (nat_cmp x.1.0.0 y.1.0.0) (nat_cmp x.1.0.1 y.1.0.1)) (nat_cmp x.1.1 y.1.1)) e in
-    let b = and_both (ordering_then (nat_cmp x.1.0.0 y.1.0.0) (nat_cmp x.1.0.1 y.1.0.1)) (nat_cmp x.1.1 y.1.1) a.1 in
+    let a = and_both (ordering_then (nat_cmp x.0.0 y.0.0) (nat_cmp x.0.1 y.0.1))
+    (ordering_then (ordering_then (nat_cmp x.1.0.0 y.1.0.0) (nat_cmp x.1.0.1 y.1.0.1))
+    (nat_cmp x.1.1 y.1.1)) e in
+    let b = and_both (ordering_then (nat_cmp x.1.0.0 y.1.0.0) (nat_cmp x.1.0.1 y.1.0.1))
+    (nat_cmp x.1.1 y.1.1) a.1 in
     let p = pair (nat_cmp x.0.0 y.0.0) (nat_cmp x.0.1 y.0.1) a.0 in
     let q = pair (nat_cmp x.1.0.0 y.1.0.0) (nat_cmp x.1.0.1 y.1.0.1) b.0 in
-    λ t. ((nat_equal x.0.0 y.0.0 p.0 t, nat_equal x.0.1 y.0.1 p.1 t), ((nat_equal x.1.0.0 y.1.0.0 q.0 t, nat_equal x.1.0.1 y.1.0.1 q.1 t), nat_equal x.1.1 y.1.1 (ap is_eq b.1) t))
+    λ t. (
+      (nat_equal x.0.0 y.0.0 p.0 t, nat_equal x.0.1 y.0.1 p.1 t),
+      (
+        (nat_equal x.1.0.0 y.1.0.0 q.0 t, nat_equal x.1.0.1 y.1.0.1 q.1 t),
+        nat_equal x.1.1 y.1.1 (ap is_eq b.1) t,
+      ),
+    )
   where
     pair : (o p : Ordering) → is_eq (ordering_then o p) ≡ true → (is_eq o ≡ true) × (is_eq p ≡ true)
     pair Less p h = cc
     pair Equal p h = (refl, h)
     pair Greater p h = cc
 
-pub inserted : (x : Ref) (c : ℕ) (k : Key) (ks : List Key) → has (insert_key key_cmp ks k) x c ≡ is_key x c k || has ks x c
+pub inserted : (x : Ref) (c : ℕ) (k : Key) (ks : List Key)
+    → has (insert_key key_cmp ks k) x c ≡ is_key x c k || has ks x c
 inserted x c k [] = refl
 inserted x c k (e ∷ ks) = go (key_cmp k e) refl (inserted x c k ks)
   where
-    go : (o : Ordering) → key_cmp k e ≡ o → has (insert_key key_cmp ks k) x c ≡ is_key x c k || has ks x c
-        → has (match_ordering o (k ∷ e ∷ ks) (e ∷ ks) (e ∷ insert_key key_cmp ks k)) x c ≡ is_key x c k || (is_key x c e || has ks x c)
+    go : (o : Ordering) → key_cmp k e ≡ o
+        → has (insert_key key_cmp ks k) x c ≡ is_key x c k || has ks x c
+        → has (match_ordering o (k ∷ e ∷ ks) (e ∷ ks) (e ∷ insert_key key_cmp ks k)) x c
+        ≡ is_key x c k || (is_key x c e || has ks x c)
     go Less h ih = refl
-    go Equal h ih = or_same (is_key x c e) (has ks x c) ∙ ap (λ (i : Key). is_key x c i || (is_key x c e || has ks x c)) (sym (key_equal k e h))
-    go Greater h ih = ap (λ t. is_key x c e || t) ih ∙ or_swap (is_key x c e) (is_key x c k) (has ks x c)
+    go Equal h ih = or_same (is_key x c e) (has ks x c)
+        ∙ ap (λ (i : Key). is_key x c i || (is_key x c e || has ks x c)) (sym (key_equal k e h))
+    go Greater h ih =
+        ap (λ t. is_key x c e || t) ih ∙ or_swap (is_key x c e) (is_key x c k) (has ks x c)
 
 -- ---- by the key that a channel has
 
-pub has_some : (x : Ref) (c : ℕ) (key : Key) (ks : List Key) → Some key ≡ key_of x c → list_any (is_at (key_cmp key)) ks ≡ has ks x c
+pub has_some : (x : Ref) (c : ℕ) (key : Key) (ks : List Key) → Some key ≡ key_of x c
+    → list_any (is_at (key_cmp key)) ks ≡ has ks x c
 has_some (Binder b) c key ks e = cc
 has_some (Known (name.Seen i)) c key ks e = cc
 has_some (Known (name.Place a)) c key ks e = cc
@@ -112,7 +147,8 @@ has_none (Known (name.Num i)) c (k ∷ ks) e = has_none (Known (name.Num i)) c k
 has_none (Known (name.Op i)) c [] e = refl
 has_none (Known (name.Op i)) c (k ∷ ks) e = has_none (Known (name.Op i)) c ks e
 
-pub added : (x : Ref) (c : ℕ) (key : Key) (old new : List Key) → Some key ≡ key_of x c → new ≡ insert_key key_cmp old key → Adds (λ y d. same_ref x y && (c == d)) old new
+pub added : (x : Ref) (c : ℕ) (key : Key) (old new : List Key) → Some key ≡ key_of x c
+    → new ≡ insert_key key_cmp old key → Adds (λ y d. same_ref x y && (c == d)) old new
 added (Binder b) c key old new e is = cc
 added (Known (name.Seen i)) c key old new e is = cc
 added (Known (name.Place a)) c key old new e is = cc
@@ -120,22 +156,32 @@ added (Known (name.Num i)) c key old new e is = cc
 added (Known (name.Op i)) c key old new e is = cc
 added (Known (name.Chan s k h)) c key old new e is = λ y _ d.
     let same : key ≡ ((s, k), ((h.site, h.k), c)) = cc in
-    ap (λ (ks : List Key). has ks y d) is ∙ inserted y d key old ∙ ap (λ (q : Key). is_key y d q || has old y d) same
+    ap (λ (ks : List Key). has ks y d) is ∙ inserted y d key old
+    ∙ ap (λ (q : Key). is_key y d q || has old y d) same
 
 -- ---- the members of a list one after another
 
 -- what is left to add, and what was added so far, are what was there and all members
-abbrev pub IsLeft : {X : Type 0} → (Ref → ℕ → X → Bool) → List X → List X → List Key → List Key → Type 0
-IsLeft t left all now start = (x : Ref) → IsChannel x → (c : ℕ) → (list_any (t x c) left || has now x c) ≡ (list_any (t x c) all || has start x c)
+abbrev pub IsLeft : {X : Type 0} → (Ref → ℕ → X → Bool) → List X → List X → List Key → List Key
+    → Type 0
+IsLeft t left all now start = (x : Ref) → IsChannel x → (c : ℕ)
+    → (list_any (t x c) left || has now x c) ≡ (list_any (t x c) all || has start x c)
 
-pub one_more : {X : Type 0} (t : Ref → ℕ → X → Bool) (all : List X) (i : ℕ) (m : X) (now next start : List Key) → i < length all → m ≡ get_or all i m → IsLeft t (drop i all) all now start → Adds (λ x c. t x c m) now next → IsLeft t (drop (i + 1) all) all next start
+pub one_more : {X : Type 0} (t : Ref → ℕ → X → Bool) (all : List X) (i : ℕ) (m : X)
+    (now next start : List Key) → i < length all → m ≡ get_or all i m
+    → IsLeft t (drop i all) all now start → Adds (λ x c. t x c m) now next
+    → IsLeft t (drop (i + 1) all) all next start
 one_more t all i m now next start lt is left adds = λ x ch c.
-    let here : drop i all ≡ m ∷ drop (i + 1) all = drop_more all i m lt ∙ ap (λ z. z ∷ drop (i + 1) all) (sym is) in
+    let here : drop i all ≡ m ∷ drop (i + 1) all =
+    drop_more all i m lt ∙ ap (λ z. z ∷ drop (i + 1) all) (sym is) in
     ap (λ b. list_any (t x c) (drop (i + 1) all) || b) (adds x ch c)
     ∙ or_swap (list_any (t x c) (drop (i + 1) all)) (t x c m) (has now x c)
     ∙ or_assoc (t x c m) (list_any (t x c) (drop (i + 1) all)) (has now x c)
     ∙ ap (λ xs. list_any (t x c) xs || has now x c) (sym here)
     ∙ left x ch c
 
-pub at_end : {X : Type 0} (t : Ref → ℕ → X → Bool) (all : List X) (i : ℕ) (now start : List Key) → length all ≤ i → IsLeft t (drop i all) all now start → Adds (λ x c. list_any (t x c) all) start now
-at_end t all i now start le left = λ x ch c. ap (λ xs. list_any (t x c) xs || has now x c) (sym (drop_all i all le)) ∙ left x ch c
+pub at_end : {X : Type 0} (t : Ref → ℕ → X → Bool) (all : List X) (i : ℕ) (now start : List Key)
+    → length all ≤ i → IsLeft t (drop i all) all now start
+    → Adds (λ x c. list_any (t x c) all) start now
+at_end t all i now start le left =
+    λ x ch c. ap (λ xs. list_any (t x c) xs || has now x c) (sym (drop_all i all le)) ∙ left x ch c

@@ -1,5 +1,7 @@
 -- Laws of lists, of options and of truth values.
-use Rattle.std.proofs.Common.{◌≡◌, ℕ, ◌+◌, ◌<◌, List, [], ◌∷◌, ◌++◌, Bool, true, false, refl, ap, arith, ◌&&◌, ◌||◌, ◌⊎◌, inl, inr, zero, suc, length, Option, Some, None, cond, ◌≤◌}
+use Rattle.std.proofs.Common.{◌≡◌, ℕ, ◌+◌, ◌<◌, List, [], ◌∷◌, ◌++◌, Bool, true, false, refl, ap}
+use Rattle.std.proofs.Common.{arith, ◌&&◌, ◌||◌, ◌⊎◌, inl, inr, zero, suc, length, Option, Some}
+use Rattle.std.proofs.Common.{None, cond, ◌≤◌}
 use Rattle.std.specs.Prelude.{slice_index_or, is_some}
 use Rattle.std.specs.List.{All, AllPairs}
 use Rattle.chem_model.specs.Each.{Each}
@@ -66,11 +68,13 @@ pub append_nil : {X : Type 0} (xs : List X) → xs ++ [] ≡ xs
 append_nil [] = refl
 append_nil (x ∷ xs) = ap (λ ys. x ∷ ys) (append_nil xs)
 
-pub Each-weaker : {X : Type 0} (P Q : X → Type 0) → ((x : X) → P x → Q x) → (xs : List X) → Each P xs → Each Q xs
+pub Each-weaker : {X : Type 0} (P Q : X → Type 0) → ((x : X) → P x → Q x) → (xs : List X)
+    → Each P xs → Each Q xs
 Each-weaker P Q f [] h = tt
 Each-weaker P Q f (x ∷ xs) h = (f x h.0, Each-weaker P Q f xs h.1)
 
-pub Each-append : {X : Type 0} (P : X → Type 0) (xs ys : List X) → Each P xs → Each P ys → Each P (xs ++ ys)
+pub Each-append : {X : Type 0} (P : X → Type 0) (xs ys : List X) → Each P xs → Each P ys
+    → Each P (xs ++ ys)
 Each-append P [] ys h g = g
 Each-append P (x ∷ xs) ys h g = (h.0, Each-append P xs ys h.1 g)
 
@@ -107,4 +111,7 @@ EachPair R (x ∷ xs) = Each (R x) xs × EachPair R xs
 
 pub pairs_each : {X : Type 0} (R : X → X → Type 0) (xs : List X) → AllPairs R xs → EachPair R xs
 pairs_each R [] h = tt
-pairs_each R (x ∷ xs) h = (all_each (R x) xs (λ k d lt. h 0 (suc k) d (omega arith) (omega arith)), pairs_each R xs (λ i j d lt le. h (suc i) (suc j) d (omega arith) (omega arith)))
+pairs_each R (x ∷ xs) h = (
+  all_each (R x) xs (λ k d lt. h 0 (suc k) d (omega arith) (omega arith)),
+  pairs_each R xs (λ i j d lt le. h (suc i) (suc j) d (omega arith) (omega arith)),
+)

@@ -1,5 +1,7 @@
 -- What is made, one after another.
-use Rattle.std.proofs.Common.{◌≡◌, ℕ, zero, ◌+◌, ◌<◌, ◌≤◌, suc, List, [], ◌∷◌, ◌++◌, length, get_or, drop, drop-cons, add-one, refl, sym, ap, ◌∙◌, subst, append_assoc, arith}
+use Rattle.std.proofs.Common.{◌≡◌, ℕ, zero, ◌+◌, ◌<◌, ◌≤◌, suc, List, [], ◌∷◌, ◌++◌, length, get_or}
+use Rattle.std.proofs.Common.{drop, drop-cons, add-one, refl, sym, ap, ◌∙◌, subst, append_assoc}
+use Rattle.std.proofs.Common.{arith}
 use Rattle.chem_model.specs.declared.name.Loc.{Loc}
 use Rattle.chem_model.specs.declared.name.Name.{Name}
 use Rattle.chem_model.specs.declared.name.Ref.TheVariants.{Known}
@@ -20,30 +22,45 @@ posted_back [] = refl
 posted_back (a_message l m ∷ ps) = ap (λ qs. a_message l m ∷ qs) (posted_back ps)
 posted_back (a_request q ∷ ps) = ap (λ qs. a_request q ∷ qs) (posted_back ps)
 
-pub posts_append : (xs ys : List NumberedAtom) → posts_of (posted_of (xs ++ ys)) ≡ posts_of (posted_of xs) ++ posts_of (posted_of ys)
+pub posts_append : (xs ys : List NumberedAtom)
+    → posts_of (posted_of (xs ++ ys)) ≡ posts_of (posted_of xs) ++ posts_of (posted_of ys)
 posts_append [] ys = refl
-posts_append (x ∷ xs) ys = ap (λ ps. post_of (posted_term x.id x.loc x.term) ∷ ps) (posts_append xs ys)
+posts_append (x ∷ xs) ys =
+    ap (λ ps. post_of (posted_term x.id x.loc x.term) ∷ ps) (posts_append xs ys)
 
 -- one run after another
-pub adds_then : (m0 m1 m2 : Run) (a b : Ran) → Adds m0 m1 a → Adds m1 m2 b → Adds m0 m2 (then_ran a b)
+pub adds_then : (m0 m1 m2 : Run) (a b : Ran) → Adds m0 m1 a → Adds m1 m2 b
+    → Adds m0 m2 (then_ran a b)
 adds_then m0 m1 m2 a b h g = (
   g.0,
   g.1 ∙ ap (λ xs. xs ++ b.births) h.1 ∙ append_assoc m0.births a.births b.births,
   g.2 ∙ ap (λ xs. xs ++ b.groups) h.2 ∙ append_assoc m0.groups a.groups b.groups,
-  g.3 ∙ ap (λ xs. xs ++ posts_of (posted_of b.atoms)) h.3 ∙ append_assoc m0.posts (posts_of (posted_of a.atoms)) (posts_of (posted_of b.atoms)) ∙ ap (λ xs. m0.posts ++ xs) (sym (posts_append a.atoms b.atoms)),
+  g.3 ∙ ap (λ xs. xs ++ posts_of (posted_of b.atoms)) h.3
+      ∙ append_assoc m0.posts (posts_of (posted_of a.atoms)) (posts_of (posted_of b.atoms))
+      ∙ ap (λ xs. m0.posts ++ xs) (sym (posts_append a.atoms b.atoms)),
   g.4 ∙ ap (λ xs. xs ++ b.outs) h.4 ∙ append_assoc m0.outs a.outs b.outs,
 )
 
 pub adds_nothing : (m : Run) → Adds m m (nothing_ran m.next)
-adds_nothing m = (refl, sym (append_nil m.births), sym (append_nil m.groups), sym (append_nil m.posts), sym (append_nil m.outs))
+adds_nothing m = (
+  refl,
+  sym (append_nil m.births),
+  sym (append_nil m.groups),
+  sym (append_nil m.posts),
+  sym (append_nil m.outs),
+)
 
 -- what is added to a run that made nothing is the whole run
 pub from_nothing : (k : ℕ) (m : Run) (a : Ran) → Adds (run_of (nothing_ran k)) m a → m ≡ run_of a
-from_nothing k m a h = λ i. record { next = h.0 i; births = h.1 i; groups = h.2 i; posts = h.3 i; outs = h.4 i }
+from_nothing k m a h =
+    λ i. record { next = h.0 i; births = h.1 i; groups = h.2 i; posts = h.3 i; outs = h.4 i }
 
-pub body_run : (M : List Name → ℕ → Ran) (k : ℕ) (start new : Run) (env copy : List Name) → start ≡ run_of (nothing_ran k) → copy ≡ env → Adds start new (M copy start.next) → new ≡ run_of (M env k)
+pub body_run : (M : List Name → ℕ → Ran) (k : ℕ) (start new : Run) (env copy : List Name)
+    → start ≡ run_of (nothing_ran k) → copy ≡ env → Adds start new (M copy start.next)
+    → new ≡ run_of (M env k)
 body_run M k start new env copy e same h =
-    let at : Adds (run_of (nothing_ran k)) new (M env k) = subst (λ (q : Run × List Name). Adds q.0 new (M q.1 q.0.next)) (λ i. (e i, same i)) h in
+    let at : Adds (run_of (nothing_ran k)) new (M env k) =
+    subst (λ (q : Run × List Name). Adds q.0 new (M q.1 q.0.next)) (λ i. (e i, same i)) h in
     from_nothing k new (M env k) at
 
 -- a message that is poured has its names already
@@ -51,17 +68,26 @@ pub filled : (args : List Name) → fill_refs [] (all_known args) ≡ all_known 
 filled [] = refl
 filled (n ∷ ns) = ap (λ rs. Known n ∷ rs) (filled ns)
 
-pub message_run : (seen : List ℕ) (s : ℕ) (l : Loc) (on : Name) (args : List Name) (k : ℕ) (start new : Run) → start ≡ run_of (nothing_ran k) → Adds start new (atom_ran (message_made seen s l start.next (Known on) (all_known args)))
+pub message_run :
+    (seen : List ℕ) (s : ℕ) (l : Loc) (on : Name) (args : List Name) (k : ℕ) (start new : Run)
+    → start ≡ run_of (nothing_ran k)
+    → Adds start new (atom_ran (message_made seen s l start.next (Known on) (all_known args)))
     → new ≡ run_of (atom_ran (message_made seen s l k (Known on) (fill_refs [] (all_known args))))
 message_run seen s l on args k start new e h =
-    let at : Adds (run_of (nothing_ran k)) new (atom_ran (message_made seen s l k (Known on) (all_known args))) = subst (λ (m : Run). Adds m new (atom_ran (message_made seen s l m.next (Known on) (all_known args)))) e h in
-    from_nothing k new (atom_ran (message_made seen s l k (Known on) (all_known args))) at ∙ ap (λ vs. run_of (atom_ran (message_made seen s l k (Known on) vs))) (sym (filled args))
+    let at : Adds (run_of (nothing_ran k)) new
+    (atom_ran (message_made seen s l k (Known on) (all_known args))) = subst
+    (λ (m : Run). Adds m new (atom_ran (message_made seen s l m.next (Known on) (all_known args))))
+    e h in
+    from_nothing k new (atom_ran (message_made seen s l k (Known on) (all_known args))) at
+    ∙ ap (λ vs. run_of (atom_ran (message_made seen s l k (Known on) vs))) (sym (filled args))
 
 -- the rest of a list begins with the member at its place
-pub drop_at : {X : Type 0} (xs : List X) (i : ℕ) (x : X) → i < length xs → x ≡ get_or xs i x → drop i xs ≡ x ∷ drop (i + 1) xs
+pub drop_at : {X : Type 0} (xs : List X) (i : ℕ) (x : X) → i < length xs → x ≡ get_or xs i x
+    → drop i xs ≡ x ∷ drop (i + 1) xs
 drop_at xs i x h e = rw (add-one) (drop-cons xs i x h ∙ ap (λ y. y ∷ drop (suc i) xs) (sym e))
 
-pub drop_number : (xs : List ℕ) (i : ℕ) → i < length xs → drop i xs ≡ get_or xs i 0 ∷ drop (i + 1) xs
+pub drop_number : (xs : List ℕ) (i : ℕ) → i < length xs
+    → drop i xs ≡ get_or xs i 0 ∷ drop (i + 1) xs
 drop_number xs i h = rw (add-one) (drop-cons xs i 0 h)
 
 pub drop_past : {X : Type 0} (xs : List X) (i : ℕ) → length xs ≤ i → drop i xs ≡ []

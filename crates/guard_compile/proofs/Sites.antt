@@ -1,5 +1,6 @@
 -- What a site adds, put together from what its parts add.
-use Rattle.std.proofs.Common.{◌≡◌, ℕ, List, [], ◌∷◌, ◌++◌, length, None, Result, Ok, Err, IfOk, OnOk, sym, ap, ◌∙◌, subst, append_assoc}
+use Rattle.std.proofs.Common.{◌≡◌, ℕ, List, [], ◌∷◌, ◌++◌, length, None, Result, Ok, Err, IfOk}
+use Rattle.std.proofs.Common.{OnOk, sym, ap, ◌∙◌, subst, append_assoc}
 use Rattle.chem_model.specs.declared.memory.Memory.{Memory}
 use Rattle.chem_model.specs.Process.{Process, Definitions}
 use Rattle.chem_model.specs.Fill.{Naming}
@@ -15,14 +16,22 @@ use Rattle.guard_compile.specs.Written.{with_body, write, write_defs, site_body,
 use Rattle.guard_compile.specs.inside.Appends.{Appends, AppendsDefined, AreBlockNames, whole_block}
 
 -- definitions under no layout
-pub site_defs_written : (o : Result (Unit {0}) Memory) (tops : Naming) (at : At) (channels layout named : List ℕ) (ds : Definitions) (old d : Defined) → layout ≡ [] → named ≡ channels
-    → OnOk o (AppendsDefined old d (write_defs tops old.piece.next at.block 0 at.level channels layout named ds))
-    → OnOk o (AppendsDefined old d (write_defs tops old.piece.next at.block 0 at.level channels [] channels ds))
+pub site_defs_written :
+    (o : Result (Unit {0}) Memory) (tops : Naming) (at : At) (channels layout named : List ℕ)
+    (ds : Definitions) (old d : Defined) → layout ≡ [] → named ≡ channels
+    → OnOk o (AppendsDefined old d
+    (write_defs tops old.piece.next at.block 0 at.level channels layout named ds))
+    → OnOk o (AppendsDefined old d
+    (write_defs tops old.piece.next at.block 0 at.level channels [] channels ds))
 site_defs_written o tops at channels layout named ds old d l n a =
-    subst (λ (q : List ℕ × List ℕ). OnOk o (AppendsDefined old d (write_defs tops old.piece.next at.block 0 at.level channels q.0 q.1 ds))) (λ i. (l i, n i)) a
+    subst (λ (q : List ℕ × List ℕ). OnOk o
+    (AppendsDefined old d (write_defs tops old.piece.next at.block 0 at.level channels q.0 q.1 ds)))
+    (λ i. (l i, n i)) a
 
 -- a process that is a body of its own
-pub body_written : (o : Result ℕ Memory) (tops : Naming) (layout : List ℕ) (p : Process) (old mid new : Piece) (begun is : List Instr) → begun ≡ []
+pub body_written :
+    (o : Result ℕ Memory) (tops : Naming) (layout : List ℕ) (p : Process) (old mid new : Piece)
+    (begun is : List Instr) → begun ≡ []
     → Appends old mid (write tops old.next layout p).piece
     → is ≡ begun ++ (write tops old.next layout p).instrs
     → OnOk o (new.next ≡ above mid.next)
@@ -46,14 +55,19 @@ body_written (Ok n) tops layout p old mid new begun is k w b h1 h2 h3 h4 h5 = (
     is_is : is ≡ W.instrs
     is_is = b ∙ ap (λ js. js ++ W.instrs) k
 
-pub body_number : (o : Result ℕ Memory) (tops : Naming) (layout : List ℕ) (p : Process) (old mid : Piece)
-    → Appends old mid (write tops old.next layout p).piece → IfOk o (λ n. n ≡ mid.next.body) → IfOk o (λ n. n ≡ (write tops old.next layout p).piece.next.body)
+pub body_number :
+    (o : Result ℕ Memory) (tops : Naming) (layout : List ℕ) (p : Process) (old mid : Piece)
+    → Appends old mid (write tops old.next layout p).piece → IfOk o (λ n. n ≡ mid.next.body)
+    → IfOk o (λ n. n ≡ (write tops old.next layout p).piece.next.body)
 body_number (Err m) tops layout p old mid w h = tt
 body_number (Ok n) tops layout p old mid w h = h ∙ ap (λ (q : At). q.body) w.0
 
-module _ (tops : Naming) (at : At) (ds : Definitions) (p : Process) (count : ℕ) (o : Opened) (many : ℕ) (start d : Defined)
-    (count_is : count ≡ rules_in ds) (names : AreBlockNames ds o) (many_is : many ≡ length o.order) (g : start ≡ no_definitions (behind (inside at) count))
-    (a : AppendsDefined start d (write_defs tops start.piece.next at.block 0 at.level o.channels [] o.channels ds)) where
+module _ (tops : Naming) (at : At) (ds : Definitions) (p : Process) (count : ℕ) (o : Opened)
+    (many : ℕ) (start d : Defined)
+    (count_is : count ≡ rules_in ds) (names : AreBlockNames ds o) (many_is : many ≡ length o.order)
+    (g : start ≡ no_definitions (behind (inside at) count))
+    (a : AppendsDefined start d
+    (write_defs tops start.piece.next at.block 0 at.level o.channels [] o.channels ds)) where
   abbrev at1 : At
   at1 = behind (inside at) (rules_in ds)
 
@@ -61,23 +75,38 @@ module _ (tops : Naming) (at : At) (ds : Definitions) (p : Process) (count : ℕ
   D = write_defs tops at1 at.block 0 at.level (new_channels [] ds) [] (new_channels [] ds) ds
 
   e : AppendsDefined (no_definitions at1) d D
-  e = subst (λ (q : Defined × List ℕ). AppendsDefined q.0 d (write_defs tops q.0.piece.next at.block 0 at.level q.1 [] q.1 ds))
+  e = subst (λ (q : Defined × List ℕ).
+      AppendsDefined q.0 d (write_defs tops q.0.piece.next at.block 0 at.level q.1 [] q.1 ds))
       (λ i. ((g ∙ ap (λ n. no_definitions (behind (inside at) n)) count_is) i, names.channels i)) a
 
   -- the number of its body
-  pub site_number : (number : ℕ) → number ≡ (write tops d.piece.next [] p).piece.next.body → number ≡ (site_body tops at ds p).piece.next.body
+  pub site_number : (number : ℕ) → number ≡ (write tops d.piece.next [] p).piece.next.body
+      → number ≡ (site_body tops at ds p).piece.next.body
   site_number number h = h ∙ ap (λ (q : At). (write tops q [] p).piece.next.body) e.2.0
 
-  pub site_written : (old new last : Piece) → Appends d.piece last (with_body tops (write tops d.piece.next [] p))
-      → Appends old new (whole_block at 0 count many o.counts (record { guards = d.guards; places = d.places; piece = last }))
+  pub site_written : (old new last : Piece)
+      → Appends d.piece last (with_body tops (write tops d.piece.next [] p))
+      → Appends old new (whole_block at 0 count many
+      o.counts (record { guards = d.guards; places = d.places; piece = last }))
       → Appends old new (site_piece tops at ds p)
   site_written old new last b h =
       let W = with_body tops (write tops D.piece.next [] p) in
-      let w : Appends d.piece last (with_body tops (write tops D.piece.next [] p)) = subst (λ (q : At). Appends d.piece last (with_body tops (write tops q [] p))) e.2.0 b in
+      let w : Appends d.piece last (with_body tops (write tops D.piece.next [] p)) =
+      subst (λ (q : At). Appends d.piece last (with_body tops (write tops q [] p))) e.2.0 b in
       let names_long : many ≡ length (order ds) = many_is ∙ ap length names.order in (
         h.0 ∙ w.0,
-        h.1 ∙ (λ i. old.levels ++ record { block = at.block; place = None; counts = names.counts i; depth = 0; first = at.guard; guards = count_is i; body = None } ∷ (w.1 ∙ ap (λ x. x ++ W.levels) e.2.1) i),
+        h.1 ∙ (λ i. old.levels ++ record {
+          block = at.block;
+          place = None;
+          counts = names.counts i;
+          depth = 0;
+          first = at.guard;
+          guards = count_is i;
+          body = None;
+        } ∷ (w.1 ∙ ap (λ x. x ++ W.levels) e.2.1) i),
         h.2 ∙ (λ i. old.guards ++ (e.0 i ++ (w.2 ∙ ap (λ x. x ++ W.guards) e.2.2) i)),
-        h.3 ∙ (λ i. old.blocks ++ record { levels = at.level ∷ e.1 i; names = names_long i } ∷ (w.3 ∙ ap (λ x. x ++ W.blocks) e.2.3) i),
+        h.3
+            ∙ (λ i. old.blocks ++ record { levels = at.level ∷ e.1 i; names = names_long i }
+            ∷ (w.3 ∙ ap (λ x. x ++ W.blocks) e.2.3) i),
         h.4 ∙ (λ i. old.bodies ++ (w.4 ∙ ap (λ x. x ++ W.bodies) e.2.4) i),
       )

@@ -5,7 +5,8 @@ use Rattle.join_parse.specs.declared.word.Word.{Word}
 use Rattle.join_parse.specs.declared.word.Arg.{Arg}
 use Rattle.join_parse.specs.declared.word.PatTree.{PatTree}
 use Rattle.join_parse.specs.Source.{Processes, Definitions, no_definition, and_also}
-use Rattle.join_parse.specs.Grammar.{nowhere, arguments, more_args, more_names, names, more_patterns, patterns, of_processes}
+use Rattle.join_parse.specs.Grammar.{nowhere, arguments, more_args, more_names, names}
+use Rattle.join_parse.specs.Grammar.{more_patterns, patterns, of_processes}
 use Rattle.join_parse.specs.Grammar.{more_processes, of_definition, more_definitions}
 
 -- The members of a list that are left, of which the first may be the first of all.
@@ -27,5 +28,6 @@ left_processes false ps = more_processes nowhere ps
 
 abbrev pub left_definitions : Bool → Definitions → List Terminal → List Terminal
 left_definitions first no_definition rest = rest
-left_definitions true (and_also d ds) rest = of_definition nowhere d (more_definitions nowhere ds rest)
+left_definitions true (and_also d ds) rest =
+    of_definition nowhere d (more_definitions nowhere ds rest)
 left_definitions false (and_also d ds) rest = more_definitions nowhere (and_also d ds) rest

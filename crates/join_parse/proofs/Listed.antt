@@ -22,7 +22,8 @@ ListedNames ts at end list =
 
 abbrev pub ListedArgs : Bool → List Token → ℕ → ℕ → List Arg → Type 0
 ListedArgs second ts at end list =
-    (vs : List Arg) (rest : List Terminal) → AreArguments second vs → terms ts end ≡ more_args vs rest
+    (vs : List Arg) (rest : List Terminal) → AreArguments second vs
+    → terms ts end ≡ more_args vs rest
     → AreArguments second (list ++ vs) × (terms ts at ≡ arguments (list ++ vs) rest)
 
 abbrev pub ListedPatterns : List Token → ℕ → ℕ → List PatTree → Type 0
@@ -38,7 +39,8 @@ ListedDeclarations ts at end list =
 
 abbrev pub ListedSites : Bool → List Token → ℕ → ℕ → List PlaceTree → Type 0
 ListedSites second ts at end list =
-    (ss : List PlaceTree) (rest : List Terminal) → AreSites second ss → terms ts end ≡ of_sites (places ts) ss rest
+    (ss : List PlaceTree) (rest : List Terminal) → AreSites second ss
+    → terms ts end ≡ of_sites (places ts) ss rest
     → AreSites second (list ++ ss) × (terms ts at ≡ of_sites (places ts) (list ++ ss) rest)
 
 -- the processes, and then others
@@ -48,8 +50,10 @@ joined (p ∷ list) ps = one_more p (joined list ps)
 
 abbrev pub ListedProcesses : Bool → List Token → ℕ → ℕ → List Process → Type 0
 ListedProcesses second ts at end list =
-    (ps : Processes) (rest : List Terminal) → AreProcesses second ps → terms ts end ≡ of_processes (places ts) ps rest
-    → AreProcesses second (joined list ps) × (terms ts at ≡ of_processes (places ts) (joined list ps) rest)
+    (ps : Processes) (rest : List Terminal) → AreProcesses second ps
+    → terms ts end ≡ of_processes (places ts) ps rest
+    → AreProcesses second (joined list ps)
+    × (terms ts at ≡ of_processes (places ts) (joined list ps) rest)
 
 -- the definitions, and then others
 abbrev pub also : List Definition → Definitions → Definitions
@@ -60,4 +64,5 @@ abbrev pub ListedDefinitions : Bool → List Token → ℕ → ℕ → Bool → 
 ListedDefinitions second ts at end within list =
     (ds : Definitions) (rest : List Terminal) → AreDefinitions second within ds
     → terms ts end ≡ more_definitions (places ts) ds rest
-    → AreDefinitions second within (also list ds) × (terms ts at ≡ of_definitions (places ts) (also list ds) rest)
+    → AreDefinitions second within (also list ds)
+    × (terms ts at ≡ of_definitions (places ts) (also list ds) rest)

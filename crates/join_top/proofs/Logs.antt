@@ -1,6 +1,7 @@
--- Where the words want something of a log, where they want a source to be judged by its sorts, where
--- they want a run, and where memory ran out as they were read.
-use Rattle.std.proofs.Common.{◌≡◌, ℕ, ◌≤◌, List, [], Option, Some, None, Bool, true, false, refl, sym, subst, ◌⊎◌, inl, inr, lit≤}
+-- Where the words want something of a log, where they want a source to be judged by its sorts,
+-- where they want a run, and where memory ran out as they were read.
+use Rattle.std.proofs.Common.{◌≡◌, ℕ, ◌≤◌, List, [], Option, Some, None, Bool, true, false, refl}
+use Rattle.std.proofs.Common.{sym, subst, ◌⊎◌, inl, inr, lit≤}
 use Rattle.std.proofs.lemmas.Bool.{false≢true}
 use Rattle.join_base.specs.Bytes.{TakesAtMost}
 use Rattle.join_words.specs.declared.answer.Asked.{Asked}
@@ -9,17 +10,21 @@ use Rattle.join_words.specs.declared.answer.Job.TheVariants as job
 use Rattle.log_judge.specs.declared.ask.Ask.{Ask}
 use Rattle.log_judge.specs.Judged.{IsLogStatus, IsLogReadAt}
 use Rattle.sort_judge.specs.Command.{IsSortStatus, IsSourceReadAt}
-use Rattle.join_top.specs.Task.{Words, task, ask_of, log_asked, ask_if, LogOrRun, is_of_sorts, sorts_asked, sorts_if, SortsOrRun, ByTask}
+use Rattle.join_top.specs.Task.{Words, task, ask_of, log_asked, ask_if, LogOrRun, is_of_sorts}
+use Rattle.join_top.specs.Task.{sorts_asked, sorts_if, SortsOrRun, ByTask}
 use Rattle.join_top.specs.declared.top.Ended.{Ended}
 use Rattle.join_top.specs.RunJoin.{ComesExactly}
 
-pub on_run : (o : Option Ask) (log : Ask → Type 0) (run : Type 0) → None ≡ o → run → LogOrRun o log run
+pub on_run : (o : Option Ask) (log : Ask → Type 0) (run : Type 0) → None ≡ o → run
+    → LogOrRun o log run
 on_run o log run none r = subst (λ (x : Option Ask). LogOrRun x log run) none r
 
-pub on_log : (o : Option Ask) (ask : Ask) (log : Ask → Type 0) (run : Type 0) → Some ask ≡ o → log ask → LogOrRun o log run
+pub on_log : (o : Option Ask) (ask : Ask) (log : Ask → Type 0) (run : Type 0) → Some ask ≡ o
+    → log ask → LogOrRun o log run
 on_log o ask log run e h = subst (λ (x : Option Ask). LogOrRun x log run) e h
 
-pub on_both : (o : Option Ask) (log : Ask → Type 0) (run : Type 0) → ((ask : Ask) → log ask) → run → LogOrRun o log run
+pub on_both : (o : Option Ask) (log : Ask → Type 0) (run : Type 0) → ((ask : Ask) → log ask) → run
+    → LogOrRun o log run
 on_both None log run l r = r
 on_both (Some ask) log run l r = l ask
 
@@ -51,14 +56,18 @@ module _ (words : Words) (log : Ask → Type 0) (sorts run : Type 0) where
   pub by_log : (ask : Ask) → Some ask ≡ log_asked words → log ask → ByTask words log sorts run
   by_log ask e h = on_log (log_asked words) ask log (SortsOrRun (sorts_asked words) sorts run) e h
 
-  pub by_sorts : None ≡ log_asked words → true ≡ sorts_asked words → sorts → ByTask words log sorts run
-  by_sorts none e h = on_run (log_asked words) log (SortsOrRun (sorts_asked words) sorts run) none (on_sorts (sorts_asked words) sorts run e h)
+  pub by_sorts : None ≡ log_asked words → true ≡ sorts_asked words → sorts
+      → ByTask words log sorts run
+  by_sorts none e h = on_run (log_asked words) log (SortsOrRun (sorts_asked words) sorts run) none
+      (on_sorts (sorts_asked words) sorts run e h)
 
   pub by_run : None ≡ log_asked words → false ≡ sorts_asked words → run → ByTask words log sorts run
-  by_run none e h = on_run (log_asked words) log (SortsOrRun (sorts_asked words) sorts run) none (off_sorts (sorts_asked words) sorts run e h)
+  by_run none e h = on_run (log_asked words) log (SortsOrRun (sorts_asked words) sorts run) none
+      (off_sorts (sorts_asked words) sorts run e h)
 
   pub by_any : ((ask : Ask) → log ask) → sorts → run → ByTask words log sorts run
-  by_any l s r = on_both (log_asked words) log (SortsOrRun (sorts_asked words) sorts run) l (either_sorts (sorts_asked words) sorts run s r)
+  by_any l s r = on_both (log_asked words) log (SortsOrRun (sorts_asked words) sorts run) l
+      (either_sorts (sorts_asked words) sorts run s r)
 
 -- ---- a log
 
@@ -75,7 +84,8 @@ asked_some : (o : Option Asked) (ask : Ask) → o ≡ None → Some ask ≡ ask_
 asked_some None ask n e = cc
 asked_some (Some a) ask n e = cc
 
-pub usage : (words : Words) (ask : Ask) (status : ℕ) → Some ask ≡ log_asked words → IsLogStatus status → ComesExactly status 2 (task words ≡ None)
+pub usage : (words : Words) (ask : Ask) (status : ℕ) → Some ask ≡ log_asked words
+    → IsLogStatus status → ComesExactly status 2 (task words ≡ None)
 usage words ask status e k = record {
   only = λ h. absurd (not_usage status k h);
   always = λ none. absurd (asked_some (task words) ask none e);
@@ -95,7 +105,8 @@ sorts_some : (o : Option Asked) → o ≡ None → true ≡ sorts_if o → ⊥
 sorts_some None n e = cc
 sorts_some (Some a) n e = cc
 
-pub sort_usage : (words : Words) (status : ℕ) → true ≡ sorts_asked words → IsSortStatus status → ComesExactly status 2 (task words ≡ None)
+pub sort_usage : (words : Words) (status : ℕ) → true ≡ sorts_asked words → IsSortStatus status
+    → ComesExactly status 2 (task words ≡ None)
 sort_usage words status e k = record {
   only = λ h. absurd (sort_no_usage status k h);
   always = λ none. absurd (sorts_some (task words) none e);
@@ -132,7 +143,8 @@ sorts_out_of_memory = inr (inr (inr (inr (inl refl))))
 pub out_of_memory : IsLogStatus 6
 out_of_memory = inr (inr (inr (inr (inl refl))))
 
-pub at_six : (it : Ended) → it ≡ record { status = 6; kept = None } → (P : Ended → Type 0) → P (record { status = 6; kept = None }) → P it
+pub at_six : (it : Ended) → it ≡ record { status = 6; kept = None } → (P : Ended → Type 0)
+    → P (record { status = 6; kept = None }) → P it
 at_six it is P p = subst P (sym is) p
 
 pub not_silent : (s : ℕ) → s ≡ 6 → (s ≡ 0) ⊎ (s ≡ 7) → ⊥

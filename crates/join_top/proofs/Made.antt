@@ -1,5 +1,6 @@
 -- What each command makes of a program's book, and of the network of its code.
-use Rattle.std.proofs.Common.{◌≡◌, ◌∙◌, ℕ, ◌≤◌, List, [], Result, Ok, Err, Some, IfOk, refl, sym, subst, length}
+use Rattle.std.proofs.Common.{◌≡◌, ◌∙◌, ℕ, ◌≤◌, List, [], Result, Ok, Err, Some, IfOk, refl, sym}
+use Rattle.std.proofs.Common.{subst, length}
 use Rattle.chem_model.specs.declared.event.Event.{Event}
 use Rattle.chem_model.specs.declared.numbered.Numbered.{Numbered}
 use Rattle.chem_model.specs.declared.memory.Memory.{Memory}
@@ -33,7 +34,8 @@ module _ (p : ProgramTerms) (workers budget : ℕ) where
   -- a run on one thread from there
   alone_begun : (r : Result Done Memory)
       → IfOk r (λ (d : Done). RunsOn (begun p) budget d.book)
-      → IfOk r (λ (d : Done). (begun p).journal ≡ [] → ScheduleOf (begun p).program budget d.book.journal)
+      → IfOk r
+      (λ (d : Done). (begun p).journal ≡ [] → ScheduleOf (begun p).program budget d.book.journal)
       → IfOk r (λ (d : Done). d.how ≡ how.Alone)
       → IfOk r (IsRunBy by.Alone workers budget p)
   alone_begun (Err e) runs whole made = tt
@@ -50,43 +52,64 @@ module _ (p : ProgramTerms) (workers budget : ℕ) where
   alone_made book r e runs whole made =
       alone_begun r
       (subst (λ (b : BookKept). IfOk r (λ (d : Done). RunsOn b budget d.book)) e runs)
-      (subst (λ (b : BookKept). IfOk r (λ (d : Done). b.journal ≡ [] → ScheduleOf b.program budget d.book.journal)) e whole)
+      (subst (λ (b : BookKept).
+      IfOk r (λ (d : Done). b.journal ≡ [] → ScheduleOf b.program budget d.book.journal)) e whole)
       made
 
   module _ (fine : IsProgram p) where
-    rounds_within : RoundsReplay → (c : CodeParts) (journal : List Event) → RoundsOf p c budget journal → length journal ≤ budget
-    rounds_within law c journal (is_code, of_program, end, schedule) = (law p c fine is_code of_program budget journal end schedule).within
+    rounds_within : RoundsReplay → (c : CodeParts) (journal : List Event)
+        → RoundsOf p c budget journal → length journal ≤ budget
+    rounds_within law c journal (is_code, of_program, end, schedule) =
+        (law p c fine is_code of_program budget journal end schedule).within
 
     -- a run in rounds from there
-    rounds_begun : RoundsReplay → (net : NetParts) → net.net ≡ opened_net p.version net.code → net.code ≡ code_of p → (r : Result Done Memory)
+    rounds_begun : RoundsReplay → (net : NetParts) → net.net ≡ opened_net p.version net.code
+        → net.code ≡ code_of p → (r : Result Done Memory)
         → IfOk r (λ (d : Done). RunsInRounds net (begun p) budget d.book)
-        → IfOk r (λ (d : Done). (begun p).journal ≡ [] → net.net ≡ opened_net (begun p).program.version net.code → RoundsOf (begun p).program net.code budget d.book.journal)
+        → IfOk r (λ (d : Done).
+        (begun p).journal ≡ [] → net.net ≡ opened_net (begun p).program.version net.code
+        → RoundsOf (begun p).program net.code budget d.book.journal)
         → IfOk r (λ (d : Done). d.how ≡ how.Rounds)
         → IfOk r (IsRunBy by.Rounds workers budget p)
     rounds_begun law net opened code (Err e) runs whole made = tt
     rounds_begun law net opened code (Ok d) runs whole made = record {
-      finished = record { program = runs.program; within = rounds_within law net.code d.book.journal (whole refl opened); ends = runs.ends };
-      made = (subst (λ (c : CodeParts). RoundsOf p c budget d.book.journal) code (whole refl opened), made);
+      finished = record {
+        program = runs.program;
+        within = rounds_within law net.code d.book.journal (whole refl opened);
+        ends = runs.ends;
+      };
+      made = (
+        subst (λ (c : CodeParts). RoundsOf p c budget d.book.journal) code (whole refl opened),
+        made,
+      );
     }
 
-    pub rounds_made : RoundsReplay → (net : NetParts) → net.net ≡ opened_net p.version net.code → net.code ≡ code_of p → (book : BookKept) (r : Result Done Memory) → book ≡ begun p
+    pub rounds_made : RoundsReplay → (net : NetParts) → net.net ≡ opened_net p.version net.code
+        → net.code ≡ code_of p → (book : BookKept) (r : Result Done Memory) → book ≡ begun p
         → IfOk r (λ (d : Done). RunsInRounds net book budget d.book)
-        → IfOk r (λ (d : Done). book.journal ≡ [] → net.net ≡ opened_net book.program.version net.code → RoundsOf book.program net.code budget d.book.journal)
+        → IfOk r
+        (λ (d : Done). book.journal ≡ [] → net.net ≡ opened_net book.program.version net.code
+        → RoundsOf book.program net.code budget d.book.journal)
         → IfOk r (λ (d : Done). d.how ≡ how.Rounds)
         → IfOk r (IsRunBy by.Rounds workers budget p)
     rounds_made law net opened code book r e runs whole made =
         rounds_begun law net opened code r
         (subst (λ (b : BookKept). IfOk r (λ (d : Done). RunsInRounds net b budget d.book)) e runs)
-        (subst (λ (b : BookKept). IfOk r (λ (d : Done). b.journal ≡ [] → net.net ≡ opened_net b.program.version net.code → RoundsOf b.program net.code budget d.book.journal)) e whole)
+        (subst (λ (b : BookKept).
+        IfOk r (λ (d : Done). b.journal ≡ [] → net.net ≡ opened_net b.program.version net.code
+        → RoundsOf b.program net.code budget d.book.journal)) e whole)
         made
 
 same_member : (n m : Numbered) → Some n ≡ Some m → n ≡ m
 same_member n m e = cc
 
 -- the network that is opened from the program's code
-pub net_begun : (p : ProgramTerms) (c : CodeParts) → c ≡ code_of p → IsCode c → IsCodeOf p c → (r : Result NetParts Memory)
-    → IfOk r (λ (net : NetParts). net.net ≡ opened_net p.version c) → IfOk r (λ (net : NetParts). net.code ≡ c) → IfOk r (λ (net : NetParts). net.events ≡ 0)
-    → IfOk r (λ (net : NetParts). Stands (rules_of_group p) net.net (opening p)) → IfOk r (λ (net : NetParts). RunsCode p net.code net.net) → IfOk r (IsBegun p)
+pub net_begun : (p : ProgramTerms) (c : CodeParts) → c ≡ code_of p → IsCode c → IsCodeOf p c
+    → (r : Result NetParts Memory)
+    → IfOk r (λ (net : NetParts). net.net ≡ opened_net p.version c)
+    → IfOk r (λ (net : NetParts). net.code ≡ c) → IfOk r (λ (net : NetParts). net.events ≡ 0)
+    → IfOk r (λ (net : NetParts). Stands (rules_of_group p) net.net (opening p))
+    → IfOk r (λ (net : NetParts). RunsCode p net.code net.net) → IfOk r (IsBegun p)
 net_begun p c is is_code of_program (Err e) opened code events stands runs = tt
 net_begun p c is is_code of_program (Ok net) opened code events stands runs = record {
   code = code ∙ is;
@@ -99,11 +122,13 @@ net_begun p c is is_code of_program (Ok net) opened code events stands runs = re
 }
 
 -- the opening of a program's network and its book without an event stand for one solution
-pub begun_stand : (p : ProgramTerms) (net : NetParts) → IsBegun p net → (book : BookKept) → book ≡ begun p → StandForOne book net
+pub begun_stand : (p : ProgramTerms) (net : NetParts) → IsBegun p net → (book : BookKept)
+    → book ≡ begun p → StandForOne book net
 begun_stand p net is book e =
     let at : StandForOne (begun p) net = record {
       of_program = is.of_program;
-      stand = λ n h. subst (Stands (rules_of_group p) net.net) (same_member (opening p) n h) is.stands;
+      stand =
+          λ n h. subst (Stands (rules_of_group p) net.net) (same_member (opening p) n h) is.stands;
       runs = is.runs;
       counted = is.events;
     } in
@@ -112,7 +137,8 @@ begun_stand p net is book e =
 -- a run on free threads
 pub free_made : (p : ProgramTerms) (workers budget : ℕ) (r : Result Done Memory)
     → IfOk r (λ (d : Done). IsFinished p budget d.book)
-    → IfOk r (λ (d : Done). IsFree (length p.sites) (first_workers workers) p budget d.book.journal d.how)
+    → IfOk r
+    (λ (d : Done). IsFree (length p.sites) (first_workers workers) p budget d.book.journal d.how)
     → IfOk r (IsRunBy by.Run workers budget p)
 free_made p workers budget (Err e) finished made = tt
 free_made p workers budget (Ok d) finished made = record { finished = finished; made = made }

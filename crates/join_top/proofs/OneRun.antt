@@ -12,5 +12,6 @@ alone_is_one law p fine workers others budget journal other how told (one, _) (l
     only journal one ∙ sym (only other last)
 
 pub rounds_are_one : SchedulesOfRoundsAreOne → MakesOneRun by.Rounds
-rounds_are_one law p fine workers others budget journal other how told ((is_code, of_program, end, one), _) ((_, _, last, rest), _) =
+rounds_are_one law p fine workers others budget journal other how told
+    ((is_code, of_program, end, one), _) ((_, _, last, rest), _) =
     (law p (code_of p) fine is_code of_program budget journal other end last one rest).0

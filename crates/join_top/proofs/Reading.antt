@@ -14,13 +14,15 @@ pub both : (ring : Option ℕ) (P Q : Type 0) → P → Q → ReadOrRing ring P 
 both None P Q p q = p
 both (Some size) P Q p q = q
 
-pub weaker : (ring : Option ℕ) (P P' Q : Type 0) → (P → P') → ReadOrRing ring P Q → ReadOrRing ring P' Q
+pub weaker : (ring : Option ℕ) (P P' Q : Type 0) → (P → P') → ReadOrRing ring P Q
+    → ReadOrRing ring P' Q
 weaker None P P' Q f p = f p
 weaker (Some size) P P' Q f q = q
 
 module _ {S : Type 0} (left : S → Option (List ℕ)) where
   -- a source that was read to its end, by a run that was asked for with this ring
-  pub read_all : (asked ring : Option ℕ) (status : ℕ) (old new : S) → asked ≡ ring → (status ≡ 2 → ⊥)
+  pub read_all : (asked ring : Option ℕ) (status : ℕ) (old new : S) → asked ≡ ring
+      → (status ≡ 2 → ⊥)
       → ReadsAll ring left old new → ReadOrRing asked (IsReadAt S status left old new) (new ≡ old)
   read_all asked ring status old new e no_usage h =
       let at : IsReadToEnd (left old) (left new) → IsReadAt S status left old new = λ all. record {

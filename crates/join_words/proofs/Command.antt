@@ -1,5 +1,6 @@
 -- What the kit's parser makes of one word, at the command of this crate.
-use Rattle.std.proofs.Common.{◌≡◌, Bool, cond, true, false, refl, List, [], ◌∷◌, Option, Some, None, codes}
+use Rattle.std.proofs.Common.{◌≡◌, Bool, cond, true, false, refl, List, [], ◌∷◌, Option, Some, None}
+use Rattle.std.proofs.Common.{codes}
 use Rattle.std.specs.Prelude.{◌||◌, ◌&&◌, fold}
 use Rattle.std.specs.Str.{bytes_eq}
 use Rattle.clap.specs.declared.builder.value_parser.Reading.TheVariants.{AsWritten}
@@ -47,11 +48,15 @@ kind_rule flag = Some log_rule
 kind_rule unknown = None
 
 pub by_long : (name : Text) → arg_by_long all_rules name ≡ kind_rule (kind_of (45 ∷ 45 ∷ name))
-by_long name = go (bytes_eq (codes "budget") name) (bytes_eq (codes "workers") name) (bytes_eq (codes "by") name) (bytes_eq (codes "log") name)
+by_long name = go (bytes_eq (codes "budget") name) (bytes_eq (codes "workers") name)
+    (bytes_eq (codes "by") name) (bytes_eq (codes "log") name)
   where
-    go : (b w y l : Bool) → cond (b || false) (Some (field_rule budget)) (cond (w || false) (Some (field_rule workers))
+    go : (b w y l : Bool)
+        → cond (b || false) (Some (field_rule budget))
+        (cond (w || false) (Some (field_rule workers))
         (cond (y || false) (Some (field_rule by)) (cond (l || false) (Some log_rule) None)))
-        ≡ kind_rule (cond b (valued budget) (cond w (valued workers) (cond y (valued by) (cond l flag unknown))))
+        ≡ kind_rule (cond b (valued budget)
+        (cond w (valued workers) (cond y (valued by) (cond l flag unknown))))
     go true w y l = refl
     go false true y l = refl
     go false false true l = refl
@@ -70,21 +75,26 @@ text-repeat : (b : Bool) → text_fault (b && true) ≡ repeat b
 text-repeat true = refl
 text-repeat false = refl
 
-pub mode_use : (v : Text) (rows : List Row) → use_fault false mode_rule (v ∷ []) rows ≡ repeat (has_row (codes "mode") rows)
+pub mode_use : (v : Text) (rows : List Row)
+    → use_fault false mode_rule (v ∷ []) rows ≡ repeat (has_row (codes "mode") rows)
 mode_use v rows = text-repeat (has_row (codes "mode") rows)
 
-pub ring_use : (v : Text) (rows : List Row) → use_fault false ring_rule (v ∷ []) rows ≡ repeat (has_row (codes "ring") rows)
+pub ring_use : (v : Text) (rows : List Row)
+    → use_fault false ring_rule (v ∷ []) rows ≡ repeat (has_row (codes "ring") rows)
 ring_use v rows = text-repeat (has_row (codes "ring") rows)
 
-pub field_use : (f : Field) (v : Text) (rows : List Row) → use_fault false (field_rule f) (v ∷ []) rows ≡ repeat (has_row (field_id f) rows)
+pub field_use : (f : Field) (v : Text) (rows : List Row)
+    → use_fault false (field_rule f) (v ∷ []) rows ≡ repeat (has_row (field_id f) rows)
 field_use budget v rows = text-repeat (has_row (codes "budget") rows)
 field_use workers v rows = text-repeat (has_row (codes "workers") rows)
 field_use by v rows = text-repeat (has_row (codes "by") rows)
 
-pub log_use : (rows : List Row) → use_fault false log_rule [] rows ≡ repeat (has_row (codes "log") rows)
+pub log_use : (rows : List Row)
+    → use_fault false log_rule [] rows ≡ repeat (has_row (codes "log") rows)
 log_use rows = text-repeat (has_row (codes "log") rows)
 
-pub field_used : (f : Field) (v : Text) (rows : List Row) → used (field_rule f) (v ∷ []) rows ≡ put (field_id f) AsWritten (v ∷ []) rows
+pub field_used : (f : Field) (v : Text) (rows : List Row)
+    → used (field_rule f) (v ∷ []) rows ≡ put (field_id f) AsWritten (v ∷ []) rows
 field_used budget v rows = refl
 field_used workers v rows = refl
 field_used by v rows = refl
@@ -102,7 +112,8 @@ no_default : (b : Bool) (ks : Kinds) → cond (b || true) [] ks ≡ []
 no_default true ks = refl
 no_default false ks = refl
 
-one_more : (a : Rule) (rest : List Rule) → ((rows : List Row) → default_fault rows a ≡ []) → ((rows : List Row) → defaults_fault rows rest ≡ [])
+one_more : (a : Rule) (rest : List Rule) → ((rows : List Row) → default_fault rows a ≡ [])
+    → ((rows : List Row) → defaults_fault rows rest ≡ [])
     → (rows : List Row) → defaults_fault rows (a ∷ rest) ≡ []
 unfolding defaults_fault
 one_more a rest h t rows = rw (h rows) (t (with_default rows a))
@@ -112,9 +123,12 @@ unfolding defaults_fault
 nothing_left rows = refl
 
 pub defaults_pass : (rows : List Row) → defaults_fault rows all_rules ≡ []
-defaults_pass = one_more mode_rule _ (λ rows. no_default (has_row (codes "mode") rows) _) (one_more ring_rule _ (λ rows. no_default (has_row (codes "ring") rows) _)
-    (one_more (field_rule budget) _ (λ rows. no_default (has_row (codes "budget") rows) _) (one_more (field_rule workers) _ (λ rows. no_default (has_row (codes "workers") rows) _)
-    (one_more (field_rule by) _ (λ rows. no_default (has_row (codes "by") rows) _) (one_more log_rule _ (λ rows. log_default (has_row (codes "log") rows)) nothing_left)))))
+defaults_pass = one_more mode_rule _ (λ rows. no_default (has_row (codes "mode") rows) _)
+    (one_more ring_rule _ (λ rows. no_default (has_row (codes "ring") rows) _)
+    (one_more (field_rule budget) _ (λ rows. no_default (has_row (codes "budget") rows) _)
+    (one_more (field_rule workers) _ (λ rows. no_default (has_row (codes "workers") rows) _)
+    (one_more (field_rule by) _ (λ rows. no_default (has_row (codes "by") rows) _)
+    (one_more log_rule _ (λ rows. log_default (has_row (codes "log") rows)) nothing_left)))))
   where
     log_default : (b : Bool) → cond {A = Kinds} (b || false) [] [] ≡ []
     log_default true = refl

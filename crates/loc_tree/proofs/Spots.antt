@@ -1,5 +1,7 @@
 -- What look-ups find in the entries of a tree, after each change too.
-use Rattle.std.proofs.Common.{◌≡◌, ℕ, zero, suc, ◌+◌, ◌<◌, ◌≤◌, Bool, true, false, cond, [], ◌∷◌, ◌++◌, Some, None, refl, sym, ap, ◌∙◌, arith, ◌&&◌, ◌==◌, eqb-true, eq-eqb}
+use Rattle.std.proofs.Common.{◌≡◌, ℕ, zero, suc, ◌+◌, ◌<◌, ◌≤◌, Bool, true, false, cond, [], ◌∷◌}
+use Rattle.std.proofs.Common.{◌++◌, Some, None, refl, sym, ap, ◌∙◌, arith, ◌&&◌, ◌==◌, eqb-true}
+use Rattle.std.proofs.Common.{eq-eqb}
 use Rattle.std.specs.Prelude.{option_map, Result, Ok, Err, IsOk, OnOk}
 use Rattle.std.specs.Map.{lookup, set_value}
 use Rattle.std.proofs.lemmas.Bool.{and_parts, and_from, eqb-false}
@@ -19,15 +21,22 @@ same_loc_is a b e =
     λ i. record { site = eqb-true a.site b.site h.0 i; k = eqb-true a.k b.k h.1 i }
 
 pub same_loc_refl : (l : Loc) → same_loc l l ≡ true
-same_loc_refl l = and_from (l.site == l.site) (l.k == l.k) (eq-eqb l.site l.site refl) (eq-eqb l.k l.k refl)
+same_loc_refl l =
+    and_from (l.site == l.site) (l.k == l.k) (eq-eqb l.site l.site refl) (eq-eqb l.k l.k refl)
 
 pub same_loc_sym : (a b : Loc) → same_loc a b ≡ same_loc b a
 same_loc_sym a b = go (same_loc a b) refl (same_loc b a) refl
   where
     go : (t : Bool) → same_loc a b ≡ t → (u : Bool) → same_loc b a ≡ u → t ≡ u
     go true c true d = refl
-    go true c false d = let same : same_loc b a ≡ true = ap (λ q. same_loc b q) (same_loc_is a b c) ∙ same_loc_refl b in cc
-    go false c true d = let same : same_loc a b ≡ true = ap (λ q. same_loc a q) (same_loc_is b a d) ∙ same_loc_refl a in cc
+    go true c false d =
+        let same : same_loc b a ≡ true =
+        ap (λ q. same_loc b q) (same_loc_is a b c) ∙ same_loc_refl b in
+        cc
+    go false c true d =
+        let same : same_loc a b ≡ true =
+        ap (λ q. same_loc a q) (same_loc_is b a d) ∙ same_loc_refl a in
+        cc
     go false c false d = refl
 
 -- a location with number 0 is the root of its site
@@ -45,17 +54,24 @@ pair_of_one l q p e = ap (is_pair_of q) (sym (pair_is l p e)) ∙ same_loc_sym q
 
 -- ---- one location changed
 
-pub lookup-change : (l q : Loc) (change : Spot → Spot) (es : Entries) → lookup (is_pair_of q) (change_spot l change es) ≡ cond (same_loc l q) (option_map change (lookup (is_pair_of q) es)) (lookup (is_pair_of q) es)
+pub lookup-change : (l q : Loc) (change : Spot → Spot) (es : Entries)
+    → lookup (is_pair_of q) (change_spot l change es)
+    ≡ cond (same_loc l q) (option_map change (lookup (is_pair_of q) es)) (lookup (is_pair_of q) es)
 lookup-change l q change [] = go (same_loc l q)
   where
     go : (t : Bool) → None ≡ cond t (option_map change None) None
     go true = refl
     go false = refl
-lookup-change l q change (e ∷ es) = go (is_pair_of l e.0) refl (is_pair_of q e.0) refl (lookup-change l q change es)
+lookup-change l q change (e ∷ es) =
+    go (is_pair_of l e.0) refl (is_pair_of q e.0) refl (lookup-change l q change es)
   where
     go : (t : Bool) → is_pair_of l e.0 ≡ t → (u : Bool) → is_pair_of q e.0 ≡ u
-        → lookup (is_pair_of q) (change_spot l change es) ≡ cond (same_loc l q) (option_map change (lookup (is_pair_of q) es)) (lookup (is_pair_of q) es)
-        → lookup (is_pair_of q) (cond t ((e.0, change e.1) ∷ es) (e ∷ change_spot l change es)) ≡ cond (same_loc l q) (option_map change (cond u (Some e.1) (lookup (is_pair_of q) es))) (cond u (Some e.1) (lookup (is_pair_of q) es))
+        → lookup (is_pair_of q) (change_spot l change es)
+        ≡ cond (same_loc l q) (option_map change (lookup (is_pair_of q) es))
+        (lookup (is_pair_of q) es)
+        → lookup (is_pair_of q) (cond t ((e.0, change e.1) ∷ es) (e ∷ change_spot l change es))
+        ≡ cond (same_loc l q) (option_map change (cond u (Some e.1) (lookup (is_pair_of q) es)))
+        (cond u (Some e.1) (lookup (is_pair_of q) es))
     go true c true d ih =
         let same : same_loc l q ≡ true = sym (pair_of_one l q e.0 c) ∙ d in
         rw (d, same) refl
@@ -68,12 +84,17 @@ lookup-change l q change (e ∷ es) = go (is_pair_of l e.0) refl (is_pair_of q e
     go false c false d ih = rw d ih
 
 -- a look-up that found something, written back changed
-pub change_found : (l : Loc) (change : Spot → Spot) (es : Entries) (s : Spot) → lookup (is_pair_of l) es ≡ Some s → set_value (is_pair_of l) es (change s) ≡ change_spot l change es
+pub change_found : (l : Loc) (change : Spot → Spot) (es : Entries) (s : Spot)
+    → lookup (is_pair_of l) es ≡ Some s
+    → set_value (is_pair_of l) es (change s) ≡ change_spot l change es
 change_found l change [] s found = cc
 change_found l change (e ∷ es) s found = go (is_pair_of l e.0) found (change_found l change es s)
   where
-    go : (t : Bool) → cond t (Some e.1) (lookup (is_pair_of l) es) ≡ Some s → (lookup (is_pair_of l) es ≡ Some s → set_value (is_pair_of l) es (change s) ≡ change_spot l change es)
-        → cond t ((e.0, change s) ∷ es) (e ∷ set_value (is_pair_of l) es (change s)) ≡ cond t ((e.0, change e.1) ∷ es) (e ∷ change_spot l change es)
+    go : (t : Bool) → cond t (Some e.1) (lookup (is_pair_of l) es) ≡ Some s
+        → (lookup (is_pair_of l) es ≡ Some s
+        → set_value (is_pair_of l) es (change s) ≡ change_spot l change es)
+        → cond t ((e.0, change s) ∷ es) (e ∷ set_value (is_pair_of l) es (change s))
+        ≡ cond t ((e.0, change e.1) ∷ es) (e ∷ change_spot l change es)
     go true f rest =
         let same : s ≡ e.1 = cc in
         let with_spot : Spot → Entries = λ (r : Spot). (e.0, change r) ∷ es in
@@ -82,13 +103,20 @@ change_found l change (e ∷ es) s found = go (is_pair_of l e.0) found (change_f
 
 -- ---- one location more
 
-pub lookup-birth : (l q : Loc) (s : Spot) (es : Entries) → lookup (is_pair_of l) es ≡ None → lookup (is_pair_of q) (es ++ ((l.site, l.k), s) ∷ []) ≡ cond (same_loc l q) (Some s) (lookup (is_pair_of q) es)
+pub lookup-birth : (l q : Loc) (s : Spot) (es : Entries) → lookup (is_pair_of l) es ≡ None
+    → lookup (is_pair_of q) (es ++ ((l.site, l.k), s) ∷ [])
+    ≡ cond (same_loc l q) (Some s) (lookup (is_pair_of q) es)
 lookup-birth l q s [] gone = ap (λ b. cond b (Some s) None) (same_loc_sym q l)
-lookup-birth l q s (e ∷ es) gone = go (is_pair_of l e.0) refl gone (is_pair_of q e.0) refl (lookup-birth l q s es)
+lookup-birth l q s (e ∷ es) gone =
+    go (is_pair_of l e.0) refl gone (is_pair_of q e.0) refl (lookup-birth l q s es)
   where
-    go : (t : Bool) → is_pair_of l e.0 ≡ t → cond t (Some e.1) (lookup (is_pair_of l) es) ≡ None → (u : Bool) → is_pair_of q e.0 ≡ u
-        → (lookup (is_pair_of l) es ≡ None → lookup (is_pair_of q) (es ++ ((l.site, l.k), s) ∷ []) ≡ cond (same_loc l q) (Some s) (lookup (is_pair_of q) es))
-        → cond u (Some e.1) (lookup (is_pair_of q) (es ++ ((l.site, l.k), s) ∷ [])) ≡ cond (same_loc l q) (Some s) (cond u (Some e.1) (lookup (is_pair_of q) es))
+    go : (t : Bool) → is_pair_of l e.0 ≡ t → cond t (Some e.1) (lookup (is_pair_of l) es) ≡ None
+        → (u : Bool) → is_pair_of q e.0 ≡ u
+        → (lookup (is_pair_of l) es ≡ None
+        → lookup (is_pair_of q) (es ++ ((l.site, l.k), s) ∷ [])
+        ≡ cond (same_loc l q) (Some s) (lookup (is_pair_of q) es))
+        → cond u (Some e.1) (lookup (is_pair_of q) (es ++ ((l.site, l.k), s) ∷ []))
+        ≡ cond (same_loc l q) (Some s) (cond u (Some e.1) (lookup (is_pair_of q) es))
     go true c g u d rest = cc
     go false c g true d rest =
         let other : same_loc l q ≡ false = same_loc_sym l q ∙ sym (pair_of_one q l e.0 d) ∙ c in
@@ -104,12 +132,17 @@ pub record IsAmongRoots (i more : ℕ) (q : Loc) (s : Spot) : Type 0 where
   pub upto : q.site < i + more
   pub own : s.number ≡ q.site
 
-pub found_root : (i more : ℕ) (q : Loc) (s : Spot) → lookup (is_pair_of q) (roots_from i more) ≡ Some s → IsAmongRoots i more q s
+pub found_root : (i more : ℕ) (q : Loc) (s : Spot)
+    → lookup (is_pair_of q) (roots_from i more) ≡ Some s → IsAmongRoots i more q s
 found_root i zero q s found = cc
-found_root i (suc more) q s found = go (is_pair_of q (i, 0)) refl found (found_root (i + 1) more q s)
+found_root i (suc more) q s found =
+    go (is_pair_of q (i, 0)) refl found (found_root (i + 1) more q s)
   where
-    go : (t : Bool) → is_pair_of q (i, 0) ≡ t → cond t (Some (record { number = i; marked = false })) (lookup (is_pair_of q) (roots_from (i + 1) more)) ≡ Some s
-        → (lookup (is_pair_of q) (roots_from (i + 1) more) ≡ Some s → IsAmongRoots (i + 1) more q s) → IsAmongRoots i (suc more) q s
+    go : (t : Bool) → is_pair_of q (i, 0) ≡ t
+        → cond t (Some (record { number = i; marked = false }))
+        (lookup (is_pair_of q) (roots_from (i + 1) more)) ≡ Some s
+        → (lookup (is_pair_of q) (roots_from (i + 1) more) ≡ Some s → IsAmongRoots (i + 1) more q s)
+        → IsAmongRoots i (suc more) q s
     go true c f rest =
         let h = and_parts (q.site == i) (q.k == 0) c in
         let site : q.site ≡ i = eqb-true q.site i h.0 in
@@ -117,30 +150,49 @@ found_root i (suc more) q s found = go (is_pair_of q (i, 0)) refl found (found_r
         record { zeroed = h.1; from = omega arith; upto = omega arith; own = sym number ∙ sym site }
     go false c f rest =
         let there = rest f in
-        record { zeroed = there.zeroed; from = omega (arith, there.from); upto = omega (arith, there.upto); own = there.own }
+        record {
+          zeroed = there.zeroed;
+          from = omega (arith, there.from);
+          upto = omega (arith, there.upto);
+          own = there.own;
+        }
 
-pub root_found : (i more j : ℕ) → i ≤ j → j < i + more → number_in (lookup (is_pair_of (root_of j)) (roots_from i more)) ≡ Some j
+pub root_found : (i more j : ℕ) → i ≤ j → j < i + more
+    → number_in (lookup (is_pair_of (root_of j)) (roots_from i more)) ≡ Some j
 root_found i zero j from upto = absurd (omega arith)
-root_found i (suc more) j from upto = go (j == i) refl (λ behind. root_found (i + 1) more j behind (omega arith))
+root_found i (suc more) j from upto =
+    go (j == i) refl (λ behind. root_found (i + 1) more j behind (omega arith))
   where
-    go : (t : Bool) → (j == i) ≡ t → (i + 1 ≤ j → number_in (lookup (is_pair_of (root_of j)) (roots_from (i + 1) more)) ≡ Some j)
-        → number_in (cond (t && (0 == 0)) (Some (record { number = i; marked = false })) (lookup (is_pair_of (root_of j)) (roots_from (i + 1) more))) ≡ Some j
+    go : (t : Bool) → (j == i) ≡ t
+        → (i + 1 ≤ j
+        → number_in (lookup (is_pair_of (root_of j)) (roots_from (i + 1) more)) ≡ Some j)
+        → number_in (cond (t && (0 == 0)) (Some (record { number = i; marked = false }))
+        (lookup (is_pair_of (root_of j)) (roots_from (i + 1) more))) ≡ Some j
     go true c rest = ap (λ n. Some n) (sym (eqb-true j i c))
     go false c rest = rest (let other = eqb-false j i c in omega arith)
 
 -- a root more goes last
-pub roots_from-next : (i more : ℕ) → roots_from i (more + 1) ≡ roots_from i more ++ ((i + more, 0), record { number = i + more; marked = false }) ∷ []
+pub roots_from-next : (i more : ℕ)
+    → roots_from i (more + 1)
+    ≡ roots_from i more ++ ((i + more, 0), record { number = i + more; marked = false }) ∷ []
 roots_from-next i zero = let same : i + 0 ≡ i = omega arith in rw same refl
 roots_from-next i (suc more) =
     let same : i + 1 + more ≡ i + suc more = omega arith in
     let next : suc more + 1 ≡ suc (more + 1) = omega arith in
-    rw next (ap (λ (es : Entries). ((i, 0), record { number = i; marked = false }) ∷ es) (roots_from-next (i + 1) more ∙ ap (λ n. roots_from (i + 1) more ++ ((n, 0), record { number = n; marked = false }) ∷ []) same))
+    rw next (ap (λ (es : Entries). ((i, 0), record { number = i; marked = false }) ∷ es)
+    (roots_from-next (i + 1) more
+    ∙ ap (λ n. roots_from (i + 1) more ++ ((n, 0), record { number = n; marked = false }) ∷ [])
+    same))
 
-pub no_root_yet : (i more j : ℕ) → i + more ≤ j → lookup (is_pair_of (root_of j)) (roots_from i more) ≡ None
+pub no_root_yet : (i more j : ℕ) → i + more ≤ j
+    → lookup (is_pair_of (root_of j)) (roots_from i more) ≡ None
 no_root_yet i zero j past = refl
 no_root_yet i (suc more) j past = go (j == i) refl (no_root_yet (i + 1) more j (omega arith))
   where
-    go : (t : Bool) → (j == i) ≡ t → lookup (is_pair_of (root_of j)) (roots_from (i + 1) more) ≡ None → cond (t && (0 == 0)) (Some (record { number = i; marked = false })) (lookup (is_pair_of (root_of j)) (roots_from (i + 1) more)) ≡ None
+    go : (t : Bool) → (j == i) ≡ t
+        → lookup (is_pair_of (root_of j)) (roots_from (i + 1) more) ≡ None
+        → cond (t && (0 == 0)) (Some (record { number = i; marked = false }))
+        (lookup (is_pair_of (root_of j)) (roots_from (i + 1) more)) ≡ None
     go true c rest = let same : j ≡ i = eqb-true j i c in absurd (omega arith)
     go false c rest = rest
 
@@ -150,18 +202,29 @@ from_ok (Ok a) P ok p = p
 from_ok (Err e) P ok p = absurd (cc)
 
 -- a new key goes to the end
-pub insert_absent : (es : Entries) (l : Loc) (s : Spot) → lookup (is_pair_of l) es ≡ None → insert_entry same_pair es (l.site, l.k) s ≡ es ++ ((l.site, l.k), s) ∷ []
+pub insert_absent : (es : Entries) (l : Loc) (s : Spot) → lookup (is_pair_of l) es ≡ None
+    → insert_entry same_pair es (l.site, l.k) s ≡ es ++ ((l.site, l.k), s) ∷ []
 insert_absent [] l s none = refl
 insert_absent (e ∷ es) l s none = go (is_pair_of l e.0) none (insert_absent es l s)
   where
-    go : (t : Bool) → cond t (Some e.1) (lookup (is_pair_of l) es) ≡ None → (lookup (is_pair_of l) es ≡ None → insert_entry same_pair es (l.site, l.k) s ≡ es ++ ((l.site, l.k), s) ∷ [])
-        → cond t ((e.0, s) ∷ es) (e ∷ insert_entry same_pair es (l.site, l.k) s) ≡ e ∷ (es ++ ((l.site, l.k), s) ∷ [])
+    go : (t : Bool) → cond t (Some e.1) (lookup (is_pair_of l) es) ≡ None
+        → (lookup (is_pair_of l) es ≡ None
+        → insert_entry same_pair es (l.site, l.k) s ≡ es ++ ((l.site, l.k), s) ∷ [])
+        → cond t ((e.0, s) ∷ es) (e ∷ insert_entry same_pair es (l.site, l.k) s)
+        ≡ e ∷ (es ++ ((l.site, l.k), s) ∷ [])
     go true gone rest = cc
     go false gone rest = ap (λ (fs : Entries). e ∷ fs) (rest gone)
 
 -- a root more, inserted
-pub insert_root : (count : ℕ) → insert_entry same_pair (roots_from 0 count) (count, 0) (record { number = count; marked = false }) ≡ roots_from 0 (count + 1)
-insert_root count = insert_absent (roots_from 0 count) (root_of count) (record { number = count; marked = false }) (no_root_yet 0 count count (omega arith)) ∙ sym (go (omega arith))
+pub insert_root : (count : ℕ)
+    → insert_entry same_pair (roots_from 0 count) (count, 0)
+    (record { number = count; marked = false }) ≡ roots_from 0 (count + 1)
+insert_root count =
+    insert_absent (roots_from 0 count) (root_of count) (record { number = count; marked = false })
+    (no_root_yet 0 count count (omega arith)) ∙ sym (go (omega arith))
   where
-    go : 0 + count ≡ count → roots_from 0 (count + 1) ≡ roots_from 0 count ++ ((count, 0), record { number = count; marked = false }) ∷ []
-    go same = roots_from-next 0 count ∙ ap (λ n. roots_from 0 count ++ ((n, 0), record { number = n; marked = false }) ∷ []) same
+    go : 0 + count ≡ count
+        → roots_from 0 (count + 1)
+        ≡ roots_from 0 count ++ ((count, 0), record { number = count; marked = false }) ∷ []
+    go same = roots_from-next 0 count
+        ∙ ap (λ n. roots_from 0 count ++ ((n, 0), record { number = n; marked = false }) ∷ []) same

@@ -1,5 +1,7 @@
 -- A delivery, from its parts.
-use Rattle.std.proofs.Common.{◌≡◌, ℕ, zero, suc, ◌+◌, ◌<◌, Bool, true, false, cond, List, [], ◌∷◌, ◌++◌, Option, Some, None, Result, Ok, Err, length, slice_get, refl, sym, ap, ◌∙◌, subst, arith, length-append}
+use Rattle.std.proofs.Common.{◌≡◌, ℕ, zero, suc, ◌+◌, ◌<◌, Bool, true, false, cond, List, [], ◌∷◌}
+use Rattle.std.proofs.Common.{◌++◌, Option, Some, None, Result, Ok, Err, length, slice_get, refl}
+use Rattle.std.proofs.Common.{sym, ap, ◌∙◌, subst, arith, length-append}
 use Rattle.std.specs.Prelude.{slice_set, slice_index_or, ◌-◌, IfOk}
 use Rattle.std.proofs.lemmas.Option.{get_or_from_slice_get}
 use Rattle.chem_model.specs.declared.name.Loc.{Loc}
@@ -34,23 +36,34 @@ use Rattle.net_core.proofs.Members.{without_length}
 use Rattle.net_core.proofs.Stepping.{running_on}
 
 -- networks of equal fields
-pub same_net : (a b : Net) → a.version ≡ b.version → a.seen ≡ b.seen → a.sites ≡ b.sites → a.tree ≡ b.tree → a.trace ≡ b.trace → a.packets ≡ b.packets → a ≡ b
-same_net a b version seen sites tree trace packets = λ i. record { version = version i; seen = seen i; sites = sites i; tree = tree i; trace = trace i; packets = packets i }
+pub same_net : (a b : Net) → a.version ≡ b.version → a.seen ≡ b.seen → a.sites ≡ b.sites
+    → a.tree ≡ b.tree → a.trace ≡ b.trace → a.packets ≡ b.packets → a ≡ b
+same_net a b version seen sites tree trace packets = λ i. record {
+  version = version i;
+  seen = seen i;
+  sites = sites i;
+  tree = tree i;
+  trace = trace i;
+  packets = packets i;
+}
 
 pub set_length : {X : Type 0} (xs : List X) (i : ℕ) (x : X) → length (slice_set xs i x) ≡ length xs
 set_length [] i x = refl
 set_length (y ∷ xs) zero x = refl
 set_length (y ∷ xs) (suc i) x = ap suc (set_length xs i x)
 
-pub below_some : {X : Type 0} (xs : List X) (i : ℕ) (x : X) → slice_get xs i ≡ Some x → i < length xs
+pub below_some : {X : Type 0} (xs : List X) (i : ℕ) (x : X) → slice_get xs i ≡ Some x
+    → i < length xs
 below_some [] i x e = cc
 below_some (y ∷ xs) zero x e = omega arith
 below_some (y ∷ xs) (suc i) x e = omega (arith, below_some xs i x e)
 
 -- ---- nothing changed
 
-pub as_before_net : (seen : List ℕ) (old new : Parts) → AreAsBefore old new → net_of seen new ≡ net_of seen old
-as_before_net seen old new h = same_net (net_of seen new) (net_of seen old) h.version refl h.sites h.tree (ap joined h.trace) (ap (λ fs. all_carried (joined fs)) h.flights)
+pub as_before_net : (seen : List ℕ) (old new : Parts) → AreAsBefore old new
+    → net_of seen new ≡ net_of seen old
+as_before_net seen old new h = same_net (net_of seen new) (net_of seen old) h.version refl
+    h.sites h.tree (ap joined h.trace) (ap (λ fs. all_carried (joined fs)) h.flights)
 
 pub as_before_flying : (old new : Parts) → AreAsBefore old new → AreFlying old → AreFlying new
 as_before_flying old new h flying = record {
@@ -59,9 +72,11 @@ as_before_flying old new h flying = record {
   few = omega (arith, h.under_way, flying.few);
 }
 
-pub as_before_whole : (c : CodeParts) (old new : Parts) (events : ℕ) → AreAsBefore old new → IsWhole c old events → IsWhole c new events
+pub as_before_whole : (c : CodeParts) (old new : Parts) (events : ℕ) → AreAsBefore old new
+    → IsWhole c old events → IsWhole c new events
 as_before_whole c old new events h whole = record {
-  running = subst (λ (n : Net). IsRunning c n events) (sym (as_before_net c.seen old new h)) whole.running;
+  running = subst (λ (n : Net). IsRunning c n events) (sym (as_before_net c.seen old new h))
+      whole.running;
   flying = as_before_flying old new h whole.flying;
 }
 
@@ -72,55 +87,88 @@ module _ (t : Tree) (sites : List Site) (f : Flight) (d new : Site) where
   abbrev here : Site
   here = slice_index_or sites f.target d
 
-  brought_at : (s : Site) → slice_get sites f.target ≡ Some s → (o : Option ℕ) → IsBroughtTo t s (message_in f.bytes) o new → IsBrought t f.target s (message_in f.bytes) o sites (slice_set sites f.target new)
+  brought_at : (s : Site) → slice_get sites f.target ≡ Some s → (o : Option ℕ)
+      → IsBroughtTo t s (message_in f.bytes) o new
+      → IsBrought t f.target s (message_in f.bytes) o sites (slice_set sites f.target new)
   brought_at s at None b = (b.0, ap (slice_set sites f.target) b.1)
-  brought_at s at (Some target) b = (b.0, b.1, ap (slice_set sites f.target) b.2 ∙ set_same sites f.target s at)
+  brought_at s at (Some target) b =
+      (b.0, b.1, ap (slice_set sites f.target) b.2 ∙ set_same sites f.target s at)
 
-  flight_at : (more : List Flight) → IsFlightBrought t here f more new → (s : Site) → slice_get sites f.target ≡ Some s → IsFlightBroughtAt t s f more sites (slice_set sites f.target new)
+  flight_at : (more : List Flight) → IsFlightBrought t here f more new → (s : Site)
+      → slice_get sites f.target ≡ Some s
+      → IsFlightBroughtAt t s f more sites (slice_set sites f.target new)
   flight_at more b s at =
       let same : here ≡ s = get_or_from_slice_get sites f.target s d at in
-      record { on = b.on; brought = brought_at s at b.on (subst (λ (u : Site). IsBroughtTo t u (message_in f.bytes) b.on new) same b.brought); goes = b.goes }
+      record {
+        on = b.on;
+        brought = brought_at s at b.on
+            (subst (λ (u : Site). IsBroughtTo t u (message_in f.bytes) b.on new) same b.brought);
+        goes = b.goes;
+      }
 
-  pub flight_brought : {E : Type 0} (r : Result (List Flight) E) → IfOk r (λ more. IsFlightBrought t here f more new) → IfOk r (λ more. (s : Site) → slice_get sites f.target ≡ Some s → IsFlightBroughtAt t s f more sites (slice_set sites f.target new))
+  pub flight_brought : {E : Type 0} (r : Result (List Flight) E)
+      → IfOk r (λ more. IsFlightBrought t here f more new)
+      → IfOk r (λ more. (s : Site) → slice_get sites f.target ≡ Some s
+      → IsFlightBroughtAt t s f more sites (slice_set sites f.target new))
   flight_brought (Ok more) b = flight_at more b
   flight_brought (Err e) b = tt
 
-  pub brought_fit : f.target < length sites → ((c : CodeParts) → IsReadyForCalls c t here → IsReadyForCalls c t new) → (c : CodeParts) → AllFit c t sites → AllFit c t (slice_set sites f.target new)
+  pub brought_fit : f.target < length sites
+      → ((c : CodeParts) → IsReadyForCalls c t here → IsReadyForCalls c t new) → (c : CodeParts)
+      → AllFit c t sites → AllFit c t (slice_set sites f.target new)
   brought_fit below ready c fit =
       let at = get_some sites f.target below in
       let fits = fits_at c t sites f.target at.0 fit at.1 in
-      let old : IsReadyForCalls c t at.0 = record { in_tree = fits.in_tree; in_code = fits.in_code; draws = fits.draws } in
-      let now = ready c (subst (IsReadyForCalls c t) (sym (get_or_from_slice_get sites f.target at.0 d at.1)) old) in
-      all_fit_set c t sites f.target new fit (record { in_tree = now.in_tree; in_code = now.in_code; draws = now.draws })
+      let old : IsReadyForCalls c t at.0 =
+      record { in_tree = fits.in_tree; in_code = fits.in_code; draws = fits.draws } in
+      let now = ready c
+      (subst (IsReadyForCalls c t) (sym (get_or_from_slice_get sites f.target at.0 d at.1)) old) in
+      all_fit_set c t sites f.target new fit
+      (record { in_tree = now.in_tree; in_code = now.in_code; draws = now.draws })
 
 -- ---- that it may be delivered
 
-pub flight_spelled : (p : Parts) (f : ℕ) (flight : Flight) → AreFlying p → slice_get (joined p.flights.items) f ≡ Some flight → IsMessageFlight flight
-flight_spelled p f flight flying at = each_get IsMessageFlight (joined p.flights.items) f flight at flying.spelled
+pub flight_spelled : (p : Parts) (f : ℕ) (flight : Flight) → AreFlying p
+    → slice_get (joined p.flights.items) f ≡ Some flight → IsMessageFlight flight
+flight_spelled p f flight flying at =
+    each_get IsMessageFlight (joined p.flights.items) f flight at flying.spelled
 
-pub target_below : (c : CodeParts) (p : Parts) (events f : ℕ) (flight : Flight) → IsWhole c p events → slice_get (joined p.flights.items) f ≡ Some flight → flight.target < length p.sites.items
+pub target_below : (c : CodeParts) (p : Parts) (events f : ℕ) (flight : Flight) → IsWhole c p events
+    → slice_get (joined p.flights.items) f ≡ Some flight → flight.target < length p.sites.items
 target_below c p events f flight h at =
     let net = net_of c.seen p in
-    (each_get (IsOnItsWay (length p.sites.items)) net.packets f (carried flight) (carried_at (joined p.flights.items) f flight at) h.running.some.runs.keeps.packets).1
+    (each_get (IsOnItsWay (length p.sites.items)) net.packets f (carried flight)
+    (carried_at (joined p.flights.items) f flight at) h.running.some.runs.keeps.packets).1
 
-pub flight_may : (c : CodeParts) (p : Parts) (events f : ℕ) (flight : Flight) (s : Site) → IsWhole c p events → slice_get (joined p.flights.items) f ≡ Some flight → slice_get p.sites.items flight.target ≡ Some s → can_deliver p.tree s (message_in flight.bytes) ≡ true
+pub flight_may : (c : CodeParts) (p : Parts) (events f : ℕ) (flight : Flight) (s : Site)
+    → IsWhole c p events → slice_get (joined p.flights.items) f ≡ Some flight
+    → slice_get p.sites.items flight.target ≡ Some s
+    → can_deliver p.tree s (message_in flight.bytes) ≡ true
 flight_may c p events f flight s h at here =
     let net = net_of c.seen p in
     let some = h.running.some in
     let flies = carried_at (joined p.flights.items) f flight at in
-    may_be_delivered (rules_of_group some.program) net some.solution some.stands f (carried flight) s flies here
-    (each_get (IsOnItsWay (length p.sites.items)) net.packets f (carried flight) flies some.runs.keeps.packets)
+    may_be_delivered (rules_of_group some.program) net some.solution some.stands f (carried flight)
+    s flies here
+    (each_get (IsOnItsWay (length p.sites.items)) net.packets f (carried flight) flies
+    some.runs.keeps.packets)
 
 -- ---- what it leaves
 
-pub goes_few : (f : Flight) (more : List Flight) (on : Option ℕ) → GoesOn f on more → length more < 2
+pub goes_few : (f : Flight) (more : List Flight) (on : Option ℕ) → GoesOn f on more
+    → length more < 2
 goes_few f more None g = omega (arith, ap length g)
 goes_few f more (Some target) g = omega (arith, ap length g)
 
-module _ (c : CodeParts) (old new : Parts) (events f : ℕ) (flight : Flight) (on : Option ℕ) (more : List Flight) (s : Site) (h : IsWhole c old events)
-    (at : slice_get (joined old.flights.items) f ≡ Some flight) (here : slice_get old.sites.items flight.target ≡ Some s)
-    (brought : IsBrought old.tree flight.target s (message_in flight.bytes) on old.sites.items new.sites.items) (goes : GoesOn flight on more)
-    (version : new.version ≡ old.version) (tree : new.tree ≡ old.tree) (trace : new.trace.items ≡ old.trace.items) (flights : joined new.flights.items ≡ without f (joined old.flights.items) ++ more) where
+module _ (c : CodeParts) (old new : Parts) (events f : ℕ) (flight : Flight) (on : Option ℕ)
+    (more : List Flight) (s : Site) (h : IsWhole c old events)
+    (at : slice_get (joined old.flights.items) f ≡ Some flight)
+    (here : slice_get old.sites.items flight.target ≡ Some s)
+    (brought : IsBrought old.tree flight.target s (message_in flight.bytes) on
+    old.sites.items new.sites.items) (goes : GoesOn flight on more)
+    (version : new.version ≡ old.version) (tree : new.tree ≡ old.tree)
+    (trace : new.trace.items ≡ old.trace.items)
+    (flights : joined new.flights.items ≡ without f (joined old.flights.items) ++ more) where
   abbrev msg : MessageParts
   msg = message_in flight.bytes
 
@@ -133,28 +181,46 @@ module _ (c : CodeParts) (old new : Parts) (events f : ℕ) (flight : Flight) (o
   at_home : home_at s msg ≡ home
   at_home = ap (λ (i : ℕ). home_or (root_of i) msg.on) number
 
-  packets : all_carried (joined new.flights.items) ≡ without_packet f (all_carried (joined old.flights.items)) ++ all_carried more
+  packets :
+      all_carried (joined new.flights.items)
+      ≡ without_packet f (all_carried (joined old.flights.items)) ++ all_carried more
   packets =
       ap all_carried flights ∙ carried_append (without f (joined old.flights.items)) more
       ∙ ap (λ ps. ps ++ all_carried more) (carried_without (joined old.flights.items) f)
 
-  left : (seen : List ℕ) (o : Option ℕ) → IsBrought old.tree flight.target s msg o old.sites.items new.sites.items → GoesOn flight o more → net_of seen new ≡ delivered (net_of seen old) f (carried flight) s home
+  left : (seen : List ℕ) (o : Option ℕ)
+      → IsBrought old.tree flight.target s msg o old.sites.items new.sites.items
+      → GoesOn flight o more
+      → net_of seen new ≡ delivered (net_of seen old) f (carried flight) s home
   left seen None b g =
       let others = without_packet f (all_carried (joined old.flights.items)) in
       let there : among s.locs home ≡ true = ap (among s.locs) (sym at_home) ∙ b.0 in
-      let sites : new.sites.items ≡ slice_set old.sites.items flight.target (put home msg s) = b.1 ∙ ap (λ (l : Loc). slice_set old.sites.items flight.target (put l msg s)) at_home in
-      let put_net : Net = record (net_of seen old) { sites = slice_set old.sites.items flight.target (put home msg s); packets = others } in
-      let on_net : Net = record (net_of seen old) { packets = others ++ record { target = address old.tree home; msg = msg } ∷ [] } in
-      let same = same_net (net_of seen new) put_net version refl sites (ap bare tree) (ap joined trace) (packets ∙ ap (λ (fs : List Flight). others ++ all_carried fs) g ∙ append_nil others) in
+      let sites : new.sites.items ≡ slice_set old.sites.items flight.target (put home msg s) =
+      b.1 ∙ ap (λ (l : Loc). slice_set old.sites.items flight.target (put l msg s)) at_home in
+      let put_net : Net = record (net_of seen
+      old) { sites = slice_set old.sites.items flight.target (put home msg s); packets = others } in
+      let on_net : Net = record (net_of seen old) {
+        packets =
+            others ++ record { target = address old.tree home; msg = msg } ∷ [];
+      } in
+      let same =
+      same_net (net_of seen new) put_net version refl sites (ap bare tree) (ap joined trace)
+      (packets ∙ ap (λ (fs : List Flight). others ++ all_carried fs) g ∙ append_nil others) in
       subst (λ (u : Bool). net_of seen new ≡ cond u put_net on_net) (sym there) same
   left seen (Some target) b g =
       let others = without_packet f (all_carried (joined old.flights.items)) in
       let away : among s.locs home ≡ false = ap (among s.locs) (sym at_home) ∙ b.0 in
       let to : target ≡ address old.tree home = b.1 ∙ ap (address old.tree) at_home in
-      let put_net : Net = record (net_of seen old) { sites = slice_set old.sites.items flight.target (put home msg s); packets = others } in
-      let on_net : Net = record (net_of seen old) { packets = others ++ record { target = address old.tree home; msg = msg } ∷ [] } in
-      let last : all_carried more ≡ record { target = address old.tree home; msg = msg } ∷ [] = ap all_carried g ∙ ap (λ (t : ℕ). record { target = t; msg = msg } ∷ []) to in
-      let same = same_net (net_of seen new) on_net version refl b.2 (ap bare tree) (ap joined trace) (packets ∙ ap (λ (ps : List Addressed). others ++ ps) last) in
+      let put_net : Net = record (net_of seen
+      old) { sites = slice_set old.sites.items flight.target (put home msg s); packets = others } in
+      let on_net : Net = record (net_of seen old) {
+        packets =
+            others ++ record { target = address old.tree home; msg = msg } ∷ [];
+      } in
+      let last : all_carried more ≡ record { target = address old.tree home; msg = msg } ∷ [] =
+      ap all_carried g ∙ ap (λ (t : ℕ). record { target = t; msg = msg } ∷ []) to in
+      let same = same_net (net_of seen new) on_net version refl b.2 (ap bare tree) (ap joined trace)
+      (packets ∙ ap (λ (ps : List Addressed). others ++ ps) last) in
       subst (λ (u : Bool). net_of seen new ≡ cond u put_net on_net) (sym away) same
 
   pub delivers : (seen : List ℕ) → Delivers (net_of seen old) f (net_of seen new)
@@ -166,40 +232,77 @@ module _ (c : CodeParts) (old new : Parts) (events f : ℕ) (flight : Flight) (o
     new_is = left seen on brought goes;
   }
 
-  many_sites : (o : Option ℕ) → IsBrought old.tree flight.target s msg o old.sites.items new.sites.items → length new.sites.items ≡ length old.sites.items
-  many_sites None b = ap length b.1 ∙ set_length old.sites.items flight.target (put (home_at s msg) msg s)
+  many_sites : (o : Option ℕ)
+      → IsBrought old.tree flight.target s msg o old.sites.items new.sites.items
+      → length new.sites.items ≡ length old.sites.items
+  many_sites None b =
+      ap length b.1 ∙ set_length old.sites.items flight.target (put (home_at s msg) msg s)
   many_sites (Some target) b = ap length b.2
 
   more_spelled : (o : Option ℕ) → GoesOn flight o more → Each IsMessageFlight more
   more_spelled None g = subst (Each IsMessageFlight) (sym g) tt
-  more_spelled (Some target) g = subst (Each IsMessageFlight) (sym g) (flight_spelled old f flight h.flying at, tt)
+  more_spelled (Some target) g =
+      subst (Each IsMessageFlight) (sym g) (flight_spelled old f flight h.flying at, tt)
 
-  pub delivered_whole : AllFit c new.tree new.sites.items → new.under_way ≡ old.under_way - 1 + length more → IsWhole c new events
+  pub delivered_whole : AllFit c new.tree new.sites.items
+      → new.under_way ≡ old.under_way - 1 + length more → IsWhole c new events
   delivered_whole fit count = record {
     running =
         let e : events + 0 ≡ events = omega arith in
-        subst (IsRunning c (net_of c.seen new)) e (running_on c (net_of c.seen old) (net_of c.seen new) None events h.running (deliver f _ (delivers c.seen)) (fit_bare c new.tree new.sites.items fit) (many_sites on brought));
+        subst (IsRunning c (net_of c.seen new)) e (running_on c (net_of c.seen old)
+        (net_of c.seen new) None events h.running (deliver f _ (delivers c.seen))
+        (fit_bare c new.tree new.sites.items fit) (many_sites on brought));
     flying = record {
-      spelled = subst (Each IsMessageFlight) (sym flights) (Each-append IsMessageFlight (without f (joined old.flights.items)) more (each_without IsMessageFlight (joined old.flights.items) f h.flying.spelled) (more_spelled on goes));
-      counted = omega (arith, count, h.flying.counted, ap length flights, length-append (without f (joined old.flights.items)) more, without_length (joined old.flights.items) f (below_some (joined old.flights.items) f flight at));
-      few = omega (arith, count, h.flying.few, goes_few flight more on goes, h.flying.counted, below_some (joined old.flights.items) f flight at);
+      spelled = subst (Each IsMessageFlight) (sym flights)
+          (Each-append IsMessageFlight (without f (joined old.flights.items)) more
+          (each_without IsMessageFlight (joined old.flights.items) f h.flying.spelled)
+          (more_spelled on goes));
+      counted = omega (
+        arith,
+        count,
+        h.flying.counted,
+        ap length flights,
+        length-append (without f (joined old.flights.items)) more,
+        without_length (joined old.flights.items) f
+            (below_some (joined old.flights.items) f flight at),
+      );
+      few = omega (
+        arith,
+        count,
+        h.flying.few,
+        goes_few flight more on goes,
+        h.flying.counted,
+        below_some (joined old.flights.items) f flight at,
+      );
     };
   }
 
 -- ---- for the code
 
-pub flight_found : (ps qs rs ss : List (List Flight)) (f i j : ℕ) (x : Flight) → qs ≡ ps → rs ≡ qs → ss ≡ qs → IsPlace rs f i j → ((place : ℕ) → IsPlace ss place i j → slice_get (joined ss) place ≡ Some x) → slice_get (joined ps) f ≡ Some x
+pub flight_found : (ps qs rs ss : List (List Flight)) (f i j : ℕ) (x : Flight) → qs ≡ ps → rs ≡ qs
+    → ss ≡ qs → IsPlace rs f i j
+    → ((place : ℕ) → IsPlace ss place i j → slice_get (joined ss) place ≡ Some x)
+    → slice_get (joined ps) f ≡ Some x
 flight_found ps qs rs ss f i j x kept first second at is =
     let same : ss ≡ ps = second ∙ kept in
-    let here : IsPlace ss f i j = subst (λ (us : List (List Flight)). IsPlace us f i j) (first ∙ sym second) at in
+    let here : IsPlace ss f i j =
+    subst (λ (us : List (List Flight)). IsPlace us f i j) (first ∙ sym second) at in
     ap (λ (us : List (List Flight)). slice_get (joined us) f) (sym same) ∙ is f here
 
-pub flights_left : (ps qs rs news : List (List Flight)) (f i j : ℕ) (more : List Flight) → qs ≡ ps → rs ≡ qs → IsPlace rs f i j → ((place : ℕ) → IsPlace qs place i j → joined news ≡ without place (joined qs) ++ more) → joined news ≡ without f (joined ps) ++ more
+pub flights_left : (ps qs rs news : List (List Flight)) (f i j : ℕ) (more : List Flight) → qs ≡ ps
+    → rs ≡ qs → IsPlace rs f i j
+    → ((place : ℕ) → IsPlace qs place i j → joined news ≡ without place (joined qs) ++ more)
+    → joined news ≡ without f (joined ps) ++ more
 flights_left ps qs rs news f i j more kept first at is =
     let here : IsPlace qs f i j = subst (λ (us : List (List Flight)). IsPlace us f i j) first at in
     is f here ∙ ap (λ (us : List (List Flight)). without f (joined us) ++ more) kept
 
-pub brought_in : (t : Tree) (f : Flight) (s : Site) (more : List Flight) (olds sites news : List Site) → olds ≡ sites → ((u : Site) → slice_get olds f.target ≡ Some u → IsFlightBroughtAt t u f more olds news) → slice_get sites f.target ≡ Some s → IsFlightBroughtAt t s f more sites news
+pub brought_in :
+    (t : Tree) (f : Flight) (s : Site) (more : List Flight) (olds sites news : List Site)
+    → olds ≡ sites
+    → ((u : Site) → slice_get olds f.target ≡ Some u → IsFlightBroughtAt t u f more olds news)
+    → slice_get sites f.target ≡ Some s → IsFlightBroughtAt t s f more sites news
 brought_in t f s more olds sites news kept brought at =
-    let here : slice_get olds f.target ≡ Some s = ap (λ (us : List Site). slice_get us f.target) kept ∙ at in
+    let here : slice_get olds f.target ≡ Some s =
+    ap (λ (us : List Site). slice_get us f.target) kept ∙ at in
     subst (λ (us : List Site). IsFlightBroughtAt t s f more us news) kept (brought s here)

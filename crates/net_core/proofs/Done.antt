@@ -1,5 +1,6 @@
 -- What a choice that was made has done.
-use Rattle.std.proofs.Common.{◌≡◌, ℕ, ◌+◌, ◌<◌, true, arith, Option, Some, None, Result, Ok, Err, sym, ap, ◌∙◌, subst}
+use Rattle.std.proofs.Common.{◌≡◌, ℕ, ◌+◌, ◌<◌, true, arith, Option, Some, None, Result, Ok, Err}
+use Rattle.std.proofs.Common.{sym, ap, ◌∙◌, subst}
 use Rattle.std.specs.Prelude.{IfOk, OnOk}
 use Rattle.chem_model.specs.declared.event.AtomId.{AtomId}
 use Rattle.chem_model.specs.declared.event.Event.{Event}
@@ -32,63 +33,103 @@ use Rattle.net_core.proofs.Reaching.{fires_full}
 use Rattle.net_core.proofs.SiteReactions.{reacts_fires}
 use Rattle.net_core.proofs.Playing.{one_leads}
 
-pub acts_does : (c : CodeParts) (net new : Net) (x : Choice) (o : Option Event) → Acts c net x o new → Does c net o new
+pub acts_does : (c : CodeParts) (net new : Net) (x : Choice) (o : Option Event) → Acts c net x o new
+    → Does c net o new
 acts_does c net new x o (acts.react i p e _ h) = does.react i p.group p.guard e new h
 acts_does c net new x o (acts.deliver f _ h) = does.deliver f new h
 acts_does c net new x o (acts.move a _ h) = does.move a new h
 acts_does c net new x o (acts.halt a _ h) = does.halt a new h
 acts_does c net new x o (acts.detect a _ h) = does.detect a new h
 
-acts_falls : (c : CodeParts) (net new : Net) (x : Choice) (o : Option Event) → RunsSome c net → Acts c net x o new → Falls net o new
+acts_falls : (c : CodeParts) (net new : Net) (x : Choice) (o : Option Event) → RunsSome c net
+    → Acts c net x o new → Falls net o new
 acts_falls c net new x o some (acts.react i p e _ h) = tt
-acts_falls c net new x o some (acts.deliver f _ h) = deliveries_fall (rules_of_group some.program) net new some.solution f some.stands some.runs.keeps.packets h
+acts_falls c net new x o some (acts.deliver f _ h) = deliveries_fall (rules_of_group some.program)
+    net new some.solution f some.stands some.runs.keeps.packets h
 acts_falls c net new x o some (acts.move a _ h) = tt
 acts_falls c net new x o some (acts.halt a _ h) = tt
 acts_falls c net new x o some (acts.detect a _ h) = tt
 
-pub has_acted : (old new : NetParts) (x : Choice) (o : Option Event) (events : ℕ) → IsRunning old.code old.net events → Acts old.code old.net x o new.net → new.code ≡ old.code → new.events ≡ old.events + counted o → HasActed old x o new
+pub has_acted : (old new : NetParts) (x : Choice) (o : Option Event) (events : ℕ)
+    → IsRunning old.code old.net events → Acts old.code old.net x o new.net → new.code ≡ old.code
+    → new.events ≡ old.events + counted o → HasActed old x o new
 has_acted old new x o events running made code count = record {
   acts = made;
   code = code;
   events = count;
-  leads = one_leads old.code old.net new.net o running.code (acts_does old.code old.net new.net x o made);
+  leads = one_leads old.code old.net new.net o
+      running.code (acts_does old.code old.net new.net x o made);
   falls = acts_falls old.code old.net new.net x o running.some made;
 }
 
 -- ---- a request that was met, as the choice that meets it
 
 module _ {E : Type 0} (c : CodeParts) (net new : Net) (x : Choice) (a : AtomId) where
-  pub moved_acts : (r : Result Event E) → x ≡ choice.Move a → IfOk r (λ e. e ≡ event.Move a) → OnOk r (Moves net a new) → IfOk r (λ e. Acts c net x (Some e) new)
-  moved_acts (Ok e) is same done = subst (λ (y : Choice). Acts c net y (Some e) new) (sym is) (subst (λ (v : Event). Acts c net (choice.Move a) (Some v) new) (sym same) (acts.move a new done))
+  pub moved_acts : (r : Result Event E) → x ≡ choice.Move a → IfOk r (λ e. e ≡ event.Move a)
+      → OnOk r (Moves net a new) → IfOk r (λ e. Acts c net x (Some e) new)
+  moved_acts (Ok e) is same done = subst (λ (y : Choice). Acts c net y (Some e) new) (sym is)
+      (subst (λ (v : Event). Acts c net (choice.Move a) (Some v) new) (sym same)
+      (acts.move a new done))
   moved_acts (Err f) is same done = tt
 
-  pub detected_acts : (r : Result Event E) → x ≡ choice.Detect a → IfOk r (λ e. e ≡ event.Detect a) → OnOk r (Detects net a new) → IfOk r (λ e. Acts c net x (Some e) new)
-  detected_acts (Ok e) is same done = subst (λ (y : Choice). Acts c net y (Some e) new) (sym is) (subst (λ (v : Event). Acts c net (choice.Detect a) (Some v) new) (sym same) (acts.detect a new done))
+  pub detected_acts : (r : Result Event E) → x ≡ choice.Detect a → IfOk r (λ e. e ≡ event.Detect a)
+      → OnOk r (Detects net a new) → IfOk r (λ e. Acts c net x (Some e) new)
+  detected_acts (Ok e) is same done = subst (λ (y : Choice). Acts c net y (Some e) new) (sym is)
+      (subst (λ (v : Event). Acts c net (choice.Detect a) (Some v) new) (sym same)
+      (acts.detect a new done))
   detected_acts (Err f) is same done = tt
 
-pub halted_acts : (c : CodeParts) (net new : Net) (x : Choice) (a : AtomId) (e : Event) → x ≡ choice.Halt a → e ≡ event.Halt a → Halts net a new → Acts c net x (Some e) new
-halted_acts c net new x a e is same done = subst (λ (y : Choice). Acts c net y (Some e) new) (sym is) (subst (λ (v : Event). Acts c net (choice.Halt a) (Some v) new) (sym same) (acts.halt a new done))
+pub halted_acts : (c : CodeParts) (net new : Net) (x : Choice) (a : AtomId) (e : Event)
+    → x ≡ choice.Halt a → e ≡ event.Halt a → Halts net a new → Acts c net x (Some e) new
+halted_acts c net new x a e is same done = subst (λ (y : Choice). Acts c net y (Some e) new)
+    (sym is) (subst (λ (v : Event). Acts c net (choice.Halt a) (Some v) new) (sym same)
+    (acts.halt a new done))
 
-pub reacted_acts : (c : CodeParts) (net new : Net) (x : Choice) (i : ℕ) (p : Pick) (e : Event) → x ≡ choice.React i p → Reacts c net i p.group p.guard e new → Acts c net x (Some e) new
-reacted_acts c net new x i p e is done = subst (λ (y : Choice). Acts c net y (Some e) new) (sym is) (acts.react i p e new done)
+pub reacted_acts : (c : CodeParts) (net new : Net) (x : Choice) (i : ℕ) (p : Pick) (e : Event)
+    → x ≡ choice.React i p → Reacts c net i p.group p.guard e new → Acts c net x (Some e) new
+reacted_acts c net new x i p e is done =
+    subst (λ (y : Choice). Acts c net y (Some e) new) (sym is) (acts.react i p e new done)
 
-pub delivered_acts : (c : CodeParts) (net new : Net) (x : Choice) (f : ℕ) → x ≡ choice.Deliver f → Delivers net f new → Acts c net x None new
-delivered_acts c net new x f is done = subst (λ (y : Choice). Acts c net y None new) (sym is) (acts.deliver f new done)
+pub delivered_acts : (c : CodeParts) (net new : Net) (x : Choice) (f : ℕ) → x ≡ choice.Deliver f
+    → Delivers net f new → Acts c net x None new
+delivered_acts c net new x f is done =
+    subst (λ (y : Choice). Acts c net y None new) (sym is) (acts.deliver f new done)
 
 -- ---- what an enabled choice needs of the parts
 
-pub may_react : (c : CodeParts) (kept : IsCode c) (p : Parts) (i : ℕ) (pick : Pick) → MayReact c (net_of c.seen p) i pick → MayReactAt c p.tree p.sites.items i pick
+pub may_react : (c : CodeParts) (kept : IsCode c) (p : Parts) (i : ℕ) (pick : Pick)
+    → MayReact c (net_of c.seen p) i pick → MayReactAt c p.tree p.sites.items i pick
 may_react c kept p i pick may =
     let f = reacts_fires c (net_of c.seen p) kept i pick may in
-    record { site = may.by.site; site_is = may.by.site_is; pick = f.0; fires = fires_full c p.tree may.by.site pick f.0 f.1 }
+    record {
+      site = may.by.site;
+      site_is = may.by.site_is;
+      pick = f.0;
+      fires = fires_full c p.tree may.by.site pick f.0 f.1;
+    }
 
-pub may_meet : (c : CodeParts) (p : Parts) (x : Choice) (a : AtomId) → request_of x ≡ Some a → Allows c (net_of c.seen p) x → (i : ℕ) × IsMet p.version p.sites.items p.tree x i
+pub may_meet : (c : CodeParts) (p : Parts) (x : Choice) (a : AtomId) → request_of x ≡ Some a
+    → Allows c (net_of c.seen p) x → (i : ℕ) × IsMet p.version p.sites.items p.tree x i
 may_meet c p x a asks allowed =
     let net = net_of c.seen p in
     let seen = allowed_seen c net x a asks allowed in
-    let met : meets p.version (bare p.tree) x seen.site ≡ true = ap (λ (y : Choice). meets p.version (bare p.tree) y seen.site) (sym seen.is) ∙ seen.meetable.met in
-    (seen.number, record { site = seen.site; site_is = seen.site_is; met = sym (meets_bare p.version p.tree x seen.site) ∙ met })
+    let met : meets p.version (bare p.tree) x seen.site ≡ true =
+    ap (λ (y : Choice). meets p.version (bare p.tree) y seen.site) (sym seen.is)
+    ∙ seen.meetable.met in (
+      seen.number,
+      record {
+        site = seen.site;
+        site_is = seen.site_is;
+        met = sym (meets_bare p.version p.tree x seen.site) ∙ met;
+      },
+    )
 
-pub may_deliver : (c : CodeParts) (p : Parts) (f : ℕ) → AreFlying p → MayDeliver (net_of c.seen p) f → f < p.under_way
+pub may_deliver : (c : CodeParts) (p : Parts) (f : ℕ) → AreFlying p → MayDeliver (net_of c.seen p) f
+    → f < p.under_way
 may_deliver c p f flying may =
-    omega (arith, get_below (all_carried (joined p.flights.items)) f may.packet may.packet_is, carried_length (joined p.flights.items), flying.counted)
+    omega (
+      arith,
+      get_below (all_carried (joined p.flights.items)) f may.packet may.packet_is,
+      carried_length (joined p.flights.items),
+      flying.counted,
+    )

@@ -1,6 +1,9 @@
 -- Requests of sites: which may be met, and which of them has the least id.
-use Rattle.std.proofs.Common.{◌≡◌, ℕ, zero, suc, ◌+◌, ◌<◌, ◌≤◌, List, [], ◌∷◌, length, Option, Some, None, Bool, true, false, cond, refl, sym, ap, ◌∙◌, subst, arith, inl, inr}
-use Rattle.std.specs.Prelude.{slice_get, nat_lt, ◌==◌, ◌||◌, ◌&&◌, ◌↔◌, IsTrue, IfNone, IfSome, is_some}
+use Rattle.std.proofs.Common.{◌≡◌, ℕ, zero, suc, ◌+◌, ◌<◌, ◌≤◌, List, [], ◌∷◌, length, Option, Some}
+use Rattle.std.proofs.Common.{None, Bool, true, false, cond, refl, sym, ap, ◌∙◌, subst, arith, inl}
+use Rattle.std.proofs.Common.{inr}
+use Rattle.std.specs.Prelude.{slice_get, nat_lt, ◌==◌, ◌||◌, ◌&&◌, ◌↔◌, IsTrue, IfNone, IfSome}
+use Rattle.std.specs.Prelude.{is_some}
 use Rattle.std.proofs.lemmas.Bool.{and_parts}
 use Rattle.std.proofs.lemmas.Bool.Decides.{nat_tests}
 use Rattle.std.proofs.lemmas.Option.{slice_get_within}
@@ -42,7 +45,8 @@ use Rattle.net_core.proofs.SiteReactions.{below_or, one_member, alive_bare, dead
 after_not_before : (a b : AtomId) → precedes a b ≡ true → precedes b a ≡ false
 after_not_before a b e = pairs a.site a.k b.site b.k e
   where
-    pairs : (s k t j : ℕ) → nat_lt s t || ((s == t) && nat_lt k j) ≡ true → nat_lt t s || ((t == s) && nat_lt j k) ≡ false
+    pairs : (s k t j : ℕ) → nat_lt s t || ((s == t) && nat_lt k j) ≡ true
+        → nat_lt t s || ((t == s) && nat_lt j k) ≡ false
     pairs s k t j e = grind (arith, nat_tests)
 
 not_itself : (a : AtomId) → precedes a a ≡ false
@@ -54,58 +58,74 @@ not_itself a = pairs a.site a.k
 before_is_other : (a b : AtomId) → precedes a b ≡ true → same_atom a b ≡ false
 before_is_other a b e = pairs a.site a.k b.site b.k e
   where
-    pairs : (s k t j : ℕ) → nat_lt s t || ((s == t) && nat_lt k j) ≡ true → (s == t) && (k == j) ≡ false
+    pairs : (s k t j : ℕ) → nat_lt s t || ((s == t) && nat_lt k j) ≡ true
+        → (s == t) && (k == j) ≡ false
     pairs s k t j e = grind (arith, nat_tests)
 
 -- what comes before a lesser one comes before a greater one
 not_before : (a b c : AtomId) → precedes b c ≡ true → precedes a c ≡ false → precedes a b ≡ false
 not_before a b c e f = pairs a.site a.k b.site b.k c.site c.k e f
   where
-    pairs : (s k t j u i : ℕ) → nat_lt t u || ((t == u) && nat_lt j i) ≡ true → nat_lt s u || ((s == u) && nat_lt k i) ≡ false → nat_lt s t || ((s == t) && nat_lt k j) ≡ false
+    pairs : (s k t j u i : ℕ) → nat_lt t u || ((t == u) && nat_lt j i) ≡ true
+        → nat_lt s u || ((s == u) && nat_lt k i) ≡ false
+        → nat_lt s t || ((s == t) && nat_lt k j) ≡ false
     pairs s k t j u i e f = grind (arith, nat_tests)
 
 -- what doesn't come before a greater one doesn't before a lesser one
 not_after : (a b c : AtomId) → precedes b c ≡ false → precedes a b ≡ false → precedes a c ≡ false
 not_after a b c e f = pairs a.site a.k b.site b.k c.site c.k e f
   where
-    pairs : (s k t j u i : ℕ) → nat_lt t u || ((t == u) && nat_lt j i) ≡ false → nat_lt s t || ((s == t) && nat_lt k j) ≡ false → nat_lt s u || ((s == u) && nat_lt k i) ≡ false
+    pairs : (s k t j u i : ℕ) → nat_lt t u || ((t == u) && nat_lt j i) ≡ false
+        → nat_lt s t || ((s == t) && nat_lt k j) ≡ false
+        → nat_lt s u || ((s == u) && nat_lt k i) ≡ false
     pairs s k t j u i e f = grind (arith, nat_tests)
 
 -- ---- requests in the order of their ids
 
-after_at : (a : AtomId) (qs : List RequestParts) (k : ℕ) (q : RequestParts) → AllAfter a qs → slice_get qs k ≡ Some q → precedes a q.id ≡ true
+after_at : (a : AtomId) (qs : List RequestParts) (k : ℕ) (q : RequestParts) → AllAfter a qs
+    → slice_get qs k ≡ Some q → precedes a q.id ≡ true
 after_at a [] k q all e = cc
-after_at a (x ∷ qs) zero q all e = let same : x ≡ q = cc in subst (λ (y : RequestParts). precedes a y.id ≡ true) same all.0
+after_at a (x ∷ qs) zero q all e =
+    let same : x ≡ q = cc in
+    subst (λ (y : RequestParts). precedes a y.id ≡ true) same all.0
 after_at a (x ∷ qs) (suc k) q all e = after_at a qs k q all.1 e
 
-later_not_before : (qs : List RequestParts) (i k : ℕ) (q r : RequestParts) → Rising qs → i ≤ k → slice_get qs i ≡ Some q → slice_get qs k ≡ Some r → precedes r.id q.id ≡ false
+later_not_before : (qs : List RequestParts) (i k : ℕ) (q r : RequestParts) → Rising qs → i ≤ k
+    → slice_get qs i ≡ Some q → slice_get qs k ≡ Some r → precedes r.id q.id ≡ false
 later_not_before [] i k q r rising order e f = cc
 later_not_before (x ∷ qs) zero zero q r rising order e f =
     let same : q ≡ r = cc in
     subst (λ (y : RequestParts). precedes y.id q.id ≡ false) same (not_itself q.id)
 later_not_before (x ∷ qs) zero (suc k) q r rising order e f =
     let same : x ≡ q = cc in
-    after_not_before q.id r.id (subst (λ (y : RequestParts). precedes y.id r.id ≡ true) same (after_at x.id qs k r rising.0 f))
+    after_not_before q.id r.id
+    (subst (λ (y : RequestParts). precedes y.id r.id ≡ true) same (after_at x.id qs k r rising.0 f))
 later_not_before (x ∷ qs) (suc i) zero q r rising order e f = absurd (omega arith)
-later_not_before (x ∷ qs) (suc i) (suc k) q r rising order e f = later_not_before qs i k q r rising.1 (omega arith) e f
+later_not_before (x ∷ qs) (suc i) (suc k) q r rising order e f =
+    later_not_before qs i k q r rising.1 (omega arith) e f
 
 -- a member is the first with its id
-found_at : (qs : List RequestParts) (i : ℕ) (q : RequestParts) → Rising qs → slice_get qs i ≡ Some q → request_with q.id qs ≡ Some q
+found_at : (qs : List RequestParts) (i : ℕ) (q : RequestParts) → Rising qs → slice_get qs i ≡ Some q
+    → request_with q.id qs ≡ Some q
 found_at [] i q rising e = cc
 found_at (x ∷ qs) zero q rising e =
     let same : x ≡ q = cc in
-    let own : same_atom x.id q.id ≡ true = ap (λ (y : RequestParts). same_atom x.id y.id) (sym same) ∙ same_atom_refl x.id in
+    let own : same_atom x.id q.id ≡ true =
+    ap (λ (y : RequestParts). same_atom x.id y.id) (sym same) ∙ same_atom_refl x.id in
     ap (λ b. cond b (Some x) (request_with q.id qs)) own ∙ ap (λ (y : RequestParts). Some y) same
 found_at (x ∷ qs) (suc i) q rising e =
     let other = before_is_other x.id q.id (after_at x.id qs i q rising.0 e) in
     ap (λ b. cond b (Some x) (request_with q.id qs)) other ∙ found_at qs i q rising.1 e
 
 -- and what is found is a member
-place_of : (qs : List RequestParts) (a : AtomId) (q : RequestParts) → request_with a qs ≡ Some q → (k : ℕ) × (slice_get qs k ≡ Some q)
+place_of : (qs : List RequestParts) (a : AtomId) (q : RequestParts) → request_with a qs ≡ Some q
+    → (k : ℕ) × (slice_get qs k ≡ Some q)
 place_of [] a q e = cc
 place_of (x ∷ qs) a q e = go (same_atom x.id a) e (place_of qs a q)
   where
-    go : (u : Bool) → cond u (Some x) (request_with a qs) ≡ Some q → (request_with a qs ≡ Some q → (k : ℕ) × (slice_get qs k ≡ Some q)) → (k : ℕ) × (slice_get (x ∷ qs) k ≡ Some q)
+    go : (u : Bool) → cond u (Some x) (request_with a qs) ≡ Some q
+        → (request_with a qs ≡ Some q → (k : ℕ) × (slice_get qs k ≡ Some q))
+        → (k : ℕ) × (slice_get (x ∷ qs) k ≡ Some q)
     go true f ih = (0, f)
     go false f ih = let later = ih f in (suc later.0, later.1)
 
@@ -118,18 +138,22 @@ module _ (version : ℕ) (t : Tree) (s : Site) where
   not_both : (b : Bool) → b ≡ true → b ≡ false → ⊥
   not_both b e f = cc
 
-  pub none_next : (i : ℕ) (q : RequestParts) → slice_get s.requests i ≡ Some q → meets version t (choice_for q) s ≡ false → NoneMeetable version t s i → NoneMeetable version t s (i + 1)
+  pub none_next : (i : ℕ) (q : RequestParts) → slice_get s.requests i ≡ Some q
+      → meets version t (choice_for q) s ≡ false → NoneMeetable version t s i
+      → NoneMeetable version t s (i + 1)
   none_next i q here not none k r below e may =
       elim (below_or i k below) [
         | inl lower ↦ none k r lower e may
         | inr same ↦
             let at : slice_get s.requests i ≡ Some r = ap (slice_get s.requests) (sym same) ∙ e in
             let is : q ≡ r = one_member (slice_get s.requests i) q r here at in
-            let no : meets version t (choice_for r) s ≡ false = subst (λ (y : RequestParts). meets version t (choice_for y) s ≡ false) is not in
+            let no : meets version t (choice_for r) s ≡ false =
+            subst (λ (y : RequestParts). meets version t (choice_for y) s ≡ false) is not in
             not_both (meets version t (choice_for r) s) may.met no
       ]
 
-  pub none_at_all : (i : ℕ) → slice_get s.requests i ≡ None → NoneMeetable version t s i → (r : RequestParts) → IsMeetable version t s r → ⊥
+  pub none_at_all : (i : ℕ) → slice_get s.requests i ≡ None → NoneMeetable version t s i
+      → (r : RequestParts) → IsMeetable version t s r → ⊥
   none_at_all i past none r may =
       let at = place_of s.requests r.id r may.here in
       let long = past_end s.requests i past in
@@ -141,7 +165,9 @@ module _ (version : ℕ) (t : Tree) (s : Site) where
       past_end (x ∷ qs) zero e = cc
       past_end (x ∷ qs) (suc i) e = let rest = past_end qs i e in omega arith
 
-  pub least_here : (i : ℕ) (q : RequestParts) → Rising s.requests → slice_get s.requests i ≡ Some q → meets version t (choice_for q) s ≡ true → NoneMeetable version t s i → IsLeastAt version t s q
+  pub least_here : (i : ℕ) (q : RequestParts) → Rising s.requests → slice_get s.requests i ≡ Some q
+      → meets version t (choice_for q) s ≡ true → NoneMeetable version t s i
+      → IsLeastAt version t s q
   least_here i q rising here met none = record {
     meetable = record { here = found_at s.requests i q rising here; met = met };
     least = λ r may.
@@ -149,18 +175,23 @@ module _ (version : ℕ) (t : Tree) (s : Site) where
         by_order r may at.0 at.1 (nat_lt at.0 i) refl;
   }
     where
-      by_order : (r : RequestParts) → IsMeetable version t s r → (k : ℕ) → slice_get s.requests k ≡ Some r → (b : Bool) → nat_lt k i ≡ b → precedes r.id q.id ≡ false
+      by_order : (r : RequestParts) → IsMeetable version t s r → (k : ℕ)
+          → slice_get s.requests k ≡ Some r → (b : Bool) → nat_lt k i ≡ b
+          → precedes r.id q.id ≡ false
       by_order r may k e true less = absurd (none k r (grind (arith, nat_tests)) e may)
-      by_order r may k e false less = later_not_before s.requests i k q r rising (grind (arith, nat_tests)) here e
+      by_order r may k e false less =
+          later_not_before s.requests i k q r rising (grind (arith, nat_tests)) here e
 
 -- ---- the requests of all sites
 
 module _ (version : ℕ) (sites : List Site) (t : Tree) where
   -- one site more
   more_of : (n : ℕ) (s : Site) (q : RequestParts) → slice_get sites n ≡ Some s
-      → ((i : ℕ) (u : Site) (r : RequestParts) → i < n → slice_get sites i ≡ Some u → IsMeetable version t u r → precedes r.id q.id ≡ false)
+      → ((i : ℕ) (u : Site) (r : RequestParts) → i < n → slice_get sites i ≡ Some u
+      → IsMeetable version t u r → precedes r.id q.id ≡ false)
       → ((r : RequestParts) → IsMeetable version t s r → precedes r.id q.id ≡ false)
-      → (i : ℕ) (u : Site) (r : RequestParts) → i < n + 1 → slice_get sites i ≡ Some u → IsMeetable version t u r → precedes r.id q.id ≡ false
+      → (i : ℕ) (u : Site) (r : RequestParts) → i < n + 1 → slice_get sites i ≡ Some u
+      → IsMeetable version t u r → precedes r.id q.id ≡ false
   more_of n s q here before at i u r below e may =
       elim (below_or n i below) [
         | inl lower ↦ before i u r lower e may
@@ -170,7 +201,8 @@ module _ (version : ℕ) (sites : List Site) (t : Tree) where
             at r (subst (λ (v : Site). IsMeetable version t v r) is may)
       ]
 
-  none_more : (n : ℕ) (s : Site) → slice_get sites n ≡ Some s → IsLeast version sites t n None → ((r : RequestParts) → IsMeetable version t s r → ⊥) → IsLeast version sites t (n + 1) None
+  none_more : (n : ℕ) (s : Site) → slice_get sites n ≡ Some s → IsLeast version sites t n None
+      → ((r : RequestParts) → IsMeetable version t s r → ⊥) → IsLeast version sites t (n + 1) None
   none_more n s here none last i u r below e may =
       elim (below_or n i below) [
         | inl lower ↦ none i u r lower e may
@@ -185,11 +217,15 @@ module _ (version : ℕ) (sites : List Site) (t : Tree) where
   IsAnswer s None = (r : RequestParts) → IsMeetable version t s r → ⊥
   IsAnswer s (Some q) = IsLeastAt version t s q
 
-  pub answer_is : (s : Site) (o : Option RequestParts) → IfNone o ((r : RequestParts) → IsMeetable version t s r → ⊥) → IfSome o (IsLeastAt version t s) → IsAnswer s o
+  pub answer_is : (s : Site) (o : Option RequestParts)
+      → IfNone o ((r : RequestParts) → IsMeetable version t s r → ⊥)
+      → IfSome o (IsLeastAt version t s) → IsAnswer s o
   answer_is s None none some = none
   answer_is s (Some q) none some = some
 
-  pub least_step : (n : ℕ) (s : Site) (best answer : Option RequestParts) → slice_get sites n ≡ Some s → IsLeast version sites t n best → IsAnswer s answer → IsLeast version sites t (n + 1) (lesser_of best answer)
+  pub least_step : (n : ℕ) (s : Site) (best answer : Option RequestParts)
+      → slice_get sites n ≡ Some s → IsLeast version sites t n best → IsAnswer s answer
+      → IsLeast version sites t (n + 1) (lesser_of best answer)
   least_step n s None None here before at = none_more n s here before at
   least_step n s None (Some r) here before at = record {
     number = n;
@@ -207,25 +243,30 @@ module _ (version : ℕ) (sites : List Site) (t : Tree) where
   }
   least_step n s (Some q) (Some r) here before at = by_order (precedes r.id q.id) refl
     where
-      by_order : (b : Bool) → precedes r.id q.id ≡ b → IsLeast version sites t (n + 1) (cond b (Some r) (Some q))
+      by_order : (b : Bool) → precedes r.id q.id ≡ b
+          → IsLeast version sites t (n + 1) (cond b (Some r) (Some q))
       by_order true e = record {
         number = n;
         site = s;
         site_is = here;
         meetable = at.meetable;
-        least = more_of n s r here (λ i u o below f may. not_before o.id r.id q.id e (before.least i u o below f may)) at.least;
+        least = more_of n s r here
+            (λ i u o below f may. not_before o.id r.id q.id e (before.least i u o below f may))
+            at.least;
       }
       by_order false e = record {
         number = before.number;
         site = before.site;
         site_is = before.site_is;
         meetable = before.meetable;
-        least = more_of n s q here before.least (λ o may. not_after o.id r.id q.id e (at.least o may));
+        least =
+            more_of n s q here before.least (λ o may. not_after o.id r.id q.id e (at.least o may));
       }
 
 -- ---- choices of a network
 
-some_request : (o : Option RequestParts) (test : Option RequestParts → Bool) → test None ≡ false → test o ≡ true → (q : RequestParts) × (o ≡ Some q)
+some_request : (o : Option RequestParts) (test : Option RequestParts → Bool) → test None ≡ false
+    → test o ≡ true → (q : RequestParts) × (o ≡ Some q)
 some_request None test none e = let no : true ≡ false = sym e ∙ none in cc
 some_request (Some q) test none e = (q, refl)
 
@@ -234,8 +275,10 @@ module _ (net : Net) (i : ℕ) (s : Site) (here : slice_get net.sites i ≡ Some
   asks_at a q e = record { number = i; site = s; request = q; site_is = here; request_is = e }
 
   -- each test of a site is what enables the choice
-  go_of : (a : AtomId) (q : RequestParts) → request_with a s.requests ≡ Some q → (k : Ask) → q.ask ≡ k → moves.goes net.version net.tree q.loc k ≡ true → MayGo net a
-  go_of a q e (request.Go (name.Place b) k) is may = record { asks = asks_at a q e; target = b; cont = k; is = is; can = may }
+  go_of : (a : AtomId) (q : RequestParts) → request_with a s.requests ≡ Some q → (k : Ask)
+      → q.ask ≡ k → moves.goes net.version net.tree q.loc k ≡ true → MayGo net a
+  go_of a q e (request.Go (name.Place b) k) is may =
+      record { asks = asks_at a q e; target = b; cont = k; is = is; can = may }
   go_of a q e (request.Go (name.Seen n) k) is may = cc
   go_of a q e (request.Go (name.Chan n m h) k) is may = cc
   go_of a q e (request.Go (name.Num n) k) is may = cc
@@ -243,28 +286,38 @@ module _ (net : Net) (i : ℕ) (s : Site) (here : slice_get net.sites i ≡ Some
   go_of a q e (request.Fail b k) is may = cc
   go_of a q e request.Halt is may = cc
 
-  halt_of : (a : AtomId) (q : RequestParts) → request_with a s.requests ≡ Some q → (k : Ask) → q.ask ≡ k → halts.is_halt k && is_alive net.tree q.loc ≡ true → MayHalt net a
+  halt_of : (a : AtomId) (q : RequestParts) → request_with a s.requests ≡ Some q → (k : Ask)
+      → q.ask ≡ k → halts.is_halt k && is_alive net.tree q.loc ≡ true → MayHalt net a
   halt_of a q e request.Halt is may = record { asks = asks_at a q e; is = is; alive = may }
   halt_of a q e (request.Go b k) is may = cc
   halt_of a q e (request.Fail b k) is may = cc
 
-  detect_of : (a : AtomId) (q : RequestParts) → request_with a s.requests ≡ Some q → (k : Ask) → q.ask ≡ k → deaths.is_told net.tree q.loc k ≡ true → MayDetect net a
+  detect_of : (a : AtomId) (q : RequestParts) → request_with a s.requests ≡ Some q → (k : Ask)
+      → q.ask ≡ k → deaths.is_told net.tree q.loc k ≡ true → MayDetect net a
   detect_of a q e (request.Fail (name.Place b) k) is may =
       let both = and_parts (is_alive net.tree q.loc) (is_dead net.tree b) may in
       record { asks = asks_at a q e; target = b; cont = k; is = is; alive = both.0; dead = both.1 }
-  detect_of a q e (request.Fail (name.Seen n) k) is may = let both = and_parts (is_alive net.tree q.loc) false may in absurd (not_true both.1)
+  detect_of a q e (request.Fail (name.Seen n) k) is may =
+      let both = and_parts (is_alive net.tree q.loc) false may in
+      absurd (not_true both.1)
     where
       not_true : false ≡ true → ⊥
       not_true e = cc
-  detect_of a q e (request.Fail (name.Chan n m h) k) is may = let both = and_parts (is_alive net.tree q.loc) false may in absurd (not_true both.1)
+  detect_of a q e (request.Fail (name.Chan n m h) k) is may =
+      let both = and_parts (is_alive net.tree q.loc) false may in
+      absurd (not_true both.1)
     where
       not_true : false ≡ true → ⊥
       not_true e = cc
-  detect_of a q e (request.Fail (name.Num n) k) is may = let both = and_parts (is_alive net.tree q.loc) false may in absurd (not_true both.1)
+  detect_of a q e (request.Fail (name.Num n) k) is may =
+      let both = and_parts (is_alive net.tree q.loc) false may in
+      absurd (not_true both.1)
     where
       not_true : false ≡ true → ⊥
       not_true e = cc
-  detect_of a q e (request.Fail (name.Op n) k) is may = let both = and_parts (is_alive net.tree q.loc) false may in absurd (not_true both.1)
+  detect_of a q e (request.Fail (name.Op n) k) is may =
+      let both = and_parts (is_alive net.tree q.loc) false may in
+      absurd (not_true both.1)
     where
       not_true : false ≡ true → ⊥
       not_true e = cc
@@ -275,11 +328,13 @@ module _ (net : Net) (i : ℕ) (s : Site) (here : slice_get net.sites i ≡ Some
   sees true e h = refl
   sees false e h = cc
 
-  pub met_allows : (c : CodeParts) (x : Choice) → meets net.version net.tree x s ≡ true → Allows c net x
+  pub met_allows : (c : CodeParts) (x : Choice) → meets net.version net.tree x s ≡ true
+      → Allows c net x
   met_allows c (choice.React j p) e = cc
   met_allows c (choice.Deliver f) e = cc
   met_allows c (choice.Move a) e =
-      let found = some_request (request_with a s.requests) (moves.is_ready net.version net.tree) refl e in
+      let found =
+      some_request (request_with a s.requests) (moves.is_ready net.version net.tree) refl e in
       let q = found.0 in
       go_of a q found.1 q.ask refl (ap (moves.is_ready net.version net.tree) (sym found.1) ∙ e)
   met_allows c (choice.Halt a) e =
@@ -293,7 +348,8 @@ module _ (net : Net) (i : ℕ) (s : Site) (here : slice_get net.sites i ≡ Some
       detect_of a q found.1 q.ask refl (ap (deaths.sees_death net.tree) (sym found.1) ∙ saw)
 
 -- the tree's room is read by none of them
-go_bare : (version : ℕ) (t : Tree) (l : Loc) (k : Ask) → moves.goes version (bare t) l k ≡ moves.goes version t l k
+go_bare : (version : ℕ) (t : Tree) (l : Loc) (k : Ask)
+    → moves.goes version (bare t) l k ≡ moves.goes version t l k
 go_bare version t l (request.Go (name.Place b) k) = move_bare version t l b
 go_bare version t l (request.Go (name.Seen n) k) = refl
 go_bare version t l (request.Go (name.Chan n m h) k) = refl
@@ -305,18 +361,21 @@ go_bare version t l request.Halt = refl
 told_bare : (t : Tree) (l : Loc) (k : Ask) → deaths.is_told (bare t) l k ≡ deaths.is_told t l k
 told_bare t l (request.Go b k) = refl
 told_bare t l request.Halt = refl
-told_bare t l (request.Fail (name.Place a) k) = ap (λ b. b && is_dead (bare t) a) (alive_bare t l) ∙ ap (λ b. is_alive t l && b) (dead_bare t a)
+told_bare t l (request.Fail (name.Place a) k) =
+    ap (λ b. b && is_dead (bare t) a) (alive_bare t l) ∙ ap (λ b. is_alive t l && b) (dead_bare t a)
 told_bare t l (request.Fail (name.Seen n) k) = ap (λ b. b && false) (alive_bare t l)
 told_bare t l (request.Fail (name.Chan n m h) k) = ap (λ b. b && false) (alive_bare t l)
 told_bare t l (request.Fail (name.Num n) k) = ap (λ b. b && false) (alive_bare t l)
 told_bare t l (request.Fail (name.Op n) k) = ap (λ b. b && false) (alive_bare t l)
 
-pub meets_bare : (version : ℕ) (t : Tree) (x : Choice) (s : Site) → meets version (bare t) x s ≡ meets version t x s
+pub meets_bare : (version : ℕ) (t : Tree) (x : Choice) (s : Site)
+    → meets version (bare t) x s ≡ meets version t x s
 meets_bare version t (choice.React i p) s = refl
 meets_bare version t (choice.Deliver f) s = refl
 meets_bare version t (choice.Move a) s = by_request (request_with a s.requests)
   where
-    by_request : (o : Option RequestParts) → moves.is_ready version (bare t) o ≡ moves.is_ready version t o
+    by_request : (o : Option RequestParts)
+        → moves.is_ready version (bare t) o ≡ moves.is_ready version t o
     by_request None = refl
     by_request (Some q) = go_bare version t q.loc q.ask
 meets_bare version t (choice.Halt a) s = by_request (request_with a s.requests)
@@ -324,7 +383,8 @@ meets_bare version t (choice.Halt a) s = by_request (request_with a s.requests)
     by_request : (o : Option RequestParts) → halts.is_ready (bare t) o ≡ halts.is_ready t o
     by_request None = refl
     by_request (Some q) = ap (λ b. halts.is_halt q.ask && b) (alive_bare t q.loc)
-meets_bare version t (choice.Detect a) s = ap (λ b. is_some (cond b (Some (event.Detect a)) None)) (by_request (request_with a s.requests))
+meets_bare version t (choice.Detect a) s =
+    ap (λ b. is_some (cond b (Some (event.Detect a)) None)) (by_request (request_with a s.requests))
   where
     by_request : (o : Option RequestParts) → deaths.sees_death (bare t) o ≡ deaths.sees_death t o
     by_request None = refl
@@ -341,7 +401,8 @@ pub record IsSeen (version : ℕ) (t : Tree) (net : Net) (x : Choice) (a : AtomI
   pub meetable : IsMeetable version t site request
 
 module _ (c : CodeParts) (net : Net) where
-  seen_by : (a : AtomId) (asks : Asks net a) (x : Choice) → choice_by asks.request.ask a ≡ x → meets net.version net.tree x asks.site ≡ true → IsSeen net.version net.tree net x a
+  seen_by : (a : AtomId) (asks : Asks net a) (x : Choice) → choice_by asks.request.ask a ≡ x
+      → meets net.version net.tree x asks.site ≡ true → IsSeen net.version net.tree net x a
   seen_by a asks x is met =
       let q = asks.request in
       let id = request_id asks.site.requests a q asks.request_is in
@@ -359,28 +420,40 @@ module _ (c : CodeParts) (net : Net) where
         };
       }
 
-  pub allowed_seen : (x : Choice) (a : AtomId) → request_of x ≡ Some a → Allows c net x → IsSeen net.version net.tree net x a
+  pub allowed_seen : (x : Choice) (a : AtomId) → request_of x ≡ Some a → Allows c net x
+      → IsSeen net.version net.tree net x a
   allowed_seen (choice.React i p) a e may = cc
   allowed_seen (choice.Deliver f) a e may = cc
   allowed_seen (choice.Move b) a e may =
       let same : b ≡ a = cc in
       let q = may.asks.request in
-      let asked : moves.goes net.version net.tree q.loc q.ask ≡ true = ap (moves.goes net.version net.tree q.loc) may.is ∙ may.can in
-      let met : moves.can_go net.version net.tree b may.asks.site ≡ true = ap (moves.is_ready net.version net.tree) may.asks.request_is ∙ asked in
-      subst (IsSeen net.version net.tree net (choice.Move b)) same (seen_by b may.asks (choice.Move b) (ap (λ k. choice_by k b) may.is) met)
+      let asked : moves.goes net.version net.tree q.loc q.ask ≡ true =
+      ap (moves.goes net.version net.tree q.loc) may.is ∙ may.can in
+      let met : moves.can_go net.version net.tree b may.asks.site ≡ true =
+      ap (moves.is_ready net.version net.tree) may.asks.request_is ∙ asked in
+      subst (IsSeen net.version net.tree net (choice.Move b)) same
+      (seen_by b may.asks (choice.Move b) (ap (λ k. choice_by k b) may.is) met)
   allowed_seen (choice.Halt b) a e may =
       let same : b ≡ a = cc in
       let q = may.asks.request in
-      let asked : halts.is_halt q.ask && is_alive net.tree q.loc ≡ true = ap (λ k. halts.is_halt k && is_alive net.tree q.loc) may.is ∙ may.alive in
-      let met : halts.can_halt net.tree b may.asks.site ≡ true = ap (halts.is_ready net.tree) may.asks.request_is ∙ asked in
-      subst (IsSeen net.version net.tree net (choice.Halt b)) same (seen_by b may.asks (choice.Halt b) (ap (λ k. choice_by k b) may.is) met)
+      let asked : halts.is_halt q.ask && is_alive net.tree q.loc ≡ true =
+      ap (λ k. halts.is_halt k && is_alive net.tree q.loc) may.is ∙ may.alive in
+      let met : halts.can_halt net.tree b may.asks.site ≡ true =
+      ap (halts.is_ready net.tree) may.asks.request_is ∙ asked in
+      subst (IsSeen net.version net.tree net (choice.Halt b)) same
+      (seen_by b may.asks (choice.Halt b) (ap (λ k. choice_by k b) may.is) met)
   allowed_seen (choice.Detect b) a e may =
       let same : b ≡ a = cc in
       let q = may.asks.request in
-      let asked : deaths.is_told net.tree q.loc q.ask ≡ true = ap (deaths.is_told net.tree q.loc) may.is ∙ true_both (is_alive net.tree q.loc) (is_dead net.tree may.target) may.alive may.dead in
-      let saw : deaths.sees_death net.tree (request_with b may.asks.site.requests) ≡ true = ap (deaths.sees_death net.tree) may.asks.request_is ∙ asked in
-      let met : is_some (deaths.dead_for net.tree b may.asks.site) ≡ true = ap (λ h. is_some (cond h (Some (event.Detect b)) None)) saw in
-      subst (IsSeen net.version net.tree net (choice.Detect b)) same (seen_by b may.asks (choice.Detect b) (ap (λ k. choice_by k b) may.is) met)
+      let asked : deaths.is_told net.tree q.loc q.ask ≡ true =
+      ap (deaths.is_told net.tree q.loc) may.is
+      ∙ true_both (is_alive net.tree q.loc) (is_dead net.tree may.target) may.alive may.dead in
+      let saw : deaths.sees_death net.tree (request_with b may.asks.site.requests) ≡ true =
+      ap (deaths.sees_death net.tree) may.asks.request_is ∙ asked in
+      let met : is_some (deaths.dead_for net.tree b may.asks.site) ≡ true =
+      ap (λ h. is_some (cond h (Some (event.Detect b)) None)) saw in
+      subst (IsSeen net.version net.tree net (choice.Detect b)) same
+      (seen_by b may.asks (choice.Detect b) (ap (λ k. choice_by k b) may.is) met)
 
 -- ---- what the code answers, by the parts of the network
 
@@ -393,16 +466,20 @@ request_is q = by_ask q.ask
     by_ask request.Halt = refl
 
 module _ (version : ℕ) (sites : List Site) (t : Tree) where
-  pub meets_next : (x : Choice) (n : ℕ) (s : Site) → slice_get sites n ≡ Some s → meets version t x s ≡ false → NoneMeets version sites t x n → NoneMeets version sites t x (n + 1)
+  pub meets_next : (x : Choice) (n : ℕ) (s : Site) → slice_get sites n ≡ Some s
+      → meets version t x s ≡ false → NoneMeets version sites t x n
+      → NoneMeets version sites t x (n + 1)
   meets_next x n s here not none i u below e =
       elim (below_or n i below) [
         | inl lower ↦ none i u lower e
         | inr same ↦
             let there : slice_get sites n ≡ Some u = ap (slice_get sites) (sym same) ∙ e in
-            subst (λ (v : Site). meets version t x v ≡ false) (one_member (slice_get sites n) s u here there) not
+            subst (λ (v : Site). meets version t x v ≡ false)
+            (one_member (slice_get sites n) s u here there) not
       ]
 
-  module _ (c : CodeParts) (net : Net) (parts : HasSites sites t net) (same : net.version ≡ version) where
+  module _ (c : CodeParts) (net : Net) (parts : HasSites sites t net)
+      (same : net.version ≡ version) where
     in_net : (i : ℕ) (s : Site) → slice_get sites i ≡ Some s → slice_get net.sites i ≡ Some s
     in_net i s e = ap (λ ss. slice_get ss i) parts.sites_are ∙ e
 
@@ -410,9 +487,13 @@ module _ (version : ℕ) (sites : List Site) (t : Tree) where
     in_sites i s e = ap (λ ss. slice_get ss i) (sym parts.sites_are) ∙ e
 
     pub is_met_allows : (x : Choice) (i : ℕ) → IsMet version sites t x i → Allows c net x
-    is_met_allows x i met = met_allows net i met.site (in_net i met.site met.site_is) c x (ap (λ (v : ℕ). meets v net.tree x met.site) same ∙ ap (λ (u : Tree). meets version u x met.site) parts.tree_is ∙ meets_bare version t x met.site ∙ met.met)
+    is_met_allows x i met = met_allows net i met.site (in_net i met.site met.site_is) c x
+        (ap (λ (v : ℕ). meets v net.tree x met.site) same
+        ∙ ap (λ (u : Tree). meets version u x met.site) parts.tree_is
+        ∙ meets_bare version t x met.site ∙ met.met)
 
-    seen_here : (x : Choice) (a : AtomId) → IsSeen net.version net.tree net x a → IsSeen version t net x a
+    seen_here : (x : Choice) (a : AtomId) → IsSeen net.version net.tree net x a
+        → IsSeen version t net x a
     seen_here x a seen =
         let q = seen.request in
         record {
@@ -424,39 +505,54 @@ module _ (version : ℕ) (sites : List Site) (t : Tree) where
           is = seen.is;
           meetable = record {
             here = seen.meetable.here;
-            met = sym (meets_bare version t (choice_for q) seen.site) ∙ ap (λ (u : Tree). meets version u (choice_for q) seen.site) (sym parts.tree_is) ∙ ap (λ (v : ℕ). meets v net.tree (choice_for q) seen.site) (sym same) ∙ seen.meetable.met;
+            met = sym (meets_bare version t (choice_for q) seen.site)
+                ∙ ap (λ (u : Tree). meets version u (choice_for q) seen.site) (sym parts.tree_is)
+                ∙ ap (λ (v : ℕ). meets v net.tree (choice_for q) seen.site) (sym same)
+                ∙ seen.meetable.met;
           };
         }
 
-    pub none_meets_none : (x : Choice) (a : AtomId) → request_of x ≡ Some a → NoneMeets version sites t x (length sites) → Allows c net x → ⊥
+    pub none_meets_none : (x : Choice) (a : AtomId) → request_of x ≡ Some a
+        → NoneMeets version sites t x (length sites) → Allows c net x → ⊥
     none_meets_none x a asks none may =
         let seen = seen_here x a (allowed_seen c net x a asks may) in
         let at = in_sites seen.number seen.site seen.site_is in
-        let no : meets version t x seen.site ≡ false = none seen.number seen.site (slice_get_within sites seen.number seen.site at) at in
-        let yes : meets version t x seen.site ≡ true = ap (λ (y : Choice). meets version t y seen.site) (sym seen.is) ∙ seen.meetable.met in
+        let no : meets version t x seen.site ≡ false =
+        none seen.number seen.site (slice_get_within sites seen.number seen.site at) at in
+        let yes : meets version t x seen.site ≡ true =
+        ap (λ (y : Choice). meets version t y seen.site) (sym seen.is) ∙ seen.meetable.met in
         let both : true ≡ false = sym yes ∙ no in
         cc
 
-    pub site_tells : (x : Choice) (a : AtomId) (o : Option ℕ) (r : Bool) → request_of x ≡ Some a → r ≡ is_some o → IfNone o (NoneMeets version sites t x (length sites)) → IfSome o (IsMet version sites t x) → IsTrue r ↔ Allows c net x
-    site_tells x a None r asks is none some = ((λ e. let no : true ≡ false = sym e ∙ is in cc), (λ may. absurd (none_meets_none x a asks none may)))
+    pub site_tells : (x : Choice) (a : AtomId) (o : Option ℕ) (r : Bool) → request_of x ≡ Some a
+        → r ≡ is_some o → IfNone o (NoneMeets version sites t x (length sites))
+        → IfSome o (IsMet version sites t x) → IsTrue r ↔ Allows c net x
+    site_tells x a None r asks is none some = (
+      (λ e. let no : true ≡ false = sym e ∙ is in cc),
+      (λ may. absurd (none_meets_none x a asks none may)),
+    )
     site_tells x a (Some i) r asks is none some = ((λ e. is_met_allows x i some), (λ may. is))
 
     pub none_least_none : IsLeast version sites t (length sites) None → NoneMeetsAny c net
     none_least_none none x a asks may =
         let seen = seen_here x a (allowed_seen c net x a asks may) in
         let at = in_sites seen.number seen.site seen.site_is in
-        none seen.number seen.site seen.request (slice_get_within sites seen.number seen.site at) at seen.meetable
+        none seen.number seen.site seen.request (slice_get_within sites seen.number seen.site at) at
+        seen.meetable
 
-    pub least_first : (q : RequestParts) → IsLeastOf version sites t (length sites) q → IsFirstMeeting c net (choice_for q)
+    pub least_first : (q : RequestParts) → IsLeastOf version sites t (length sites) q
+        → IsFirstMeeting c net (choice_for q)
     least_first q least = (
       q.id,
       record {
         meets = request_is q;
-        allowed = is_met_allows (choice_for q) least.number (record { site = least.site; site_is = least.site_is; met = least.meetable.met });
+        allowed = is_met_allows (choice_for q) least.number
+            (record { site = least.site; site_is = least.site_is; met = least.meetable.met });
         least = λ y b asks may.
             let seen = seen_here y b (allowed_seen c net y b asks may) in
             let at = in_sites seen.number seen.site seen.site_is in
-            let not = least.least seen.number seen.site seen.request (slice_get_within sites seen.number seen.site at) at seen.meetable in
+            let not = least.least seen.number seen.site seen.request
+            (slice_get_within sites seen.number seen.site at) at seen.meetable in
             ap (λ (d : AtomId). precedes d q.id) (sym seen.id) ∙ not;
       },
     )

@@ -1,5 +1,7 @@
 -- What an event of a site leaves of a network, from its parts.
-use Rattle.std.proofs.Common.{◌≡◌, ℕ, suc, ◌+◌, ◌<◌, ◌≤◌, ◌^◌, Bool, true, false, cond, List, [], ◌∷◌, ◌++◌, Option, Some, None, length, slice_get, refl, sym, ap, ◌∙◌, subst, arith, length-append}
+use Rattle.std.proofs.Common.{◌≡◌, ℕ, suc, ◌+◌, ◌<◌, ◌≤◌, ◌^◌, Bool, true, false, cond, List, []}
+use Rattle.std.proofs.Common.{◌∷◌, ◌++◌, Option, Some, None, length, slice_get, refl, sym, ap, ◌∙◌}
+use Rattle.std.proofs.Common.{subst, arith, length-append}
 use Rattle.std.specs.Prelude.{slice_set, ◌&&◌, is_some}
 use Rattle.std.proofs.lemmas.Bool.{and_parts}
 use Rattle.chem_model.specs.declared.name.Loc.{Loc}
@@ -54,16 +56,22 @@ post_bare t (a_request q) s = refl
 all_bare : (t : Tree) (ps : List Posted) (s : Site) → post_all (bare t) ps s ≡ post_all t ps s
 all_bare t [] s = refl
 all_bare t (p ∷ ps) s =
-    ap (λ (o : Outcome). let later = post_all (bare t) ps o.site in record { site = later.site; sends = o.sends ++ later.sends }) (post_bare t p s)
-    ∙ ap (λ (later : Outcome). record { site = later.site; sends = (post t p s).sends ++ later.sends }) (all_bare t ps (post t p s).site)
+    ap (λ (o : Outcome). let later = post_all (bare t) ps o.site in
+    record { site = later.site; sends = o.sends ++ later.sends }) (post_bare t p s)
+    ∙ ap
+    (λ (later : Outcome). record { site = later.site; sends = (post t p s).sends ++ later.sends })
+    (all_bare t ps (post t p s).site)
 
 pub sent_bare : (t : Tree) (a : Made) (s : Site) → sent_here (bare t) a s ≡ sent_here t a s
 sent_bare t a s = all_bare t (posted_of a.atoms) (host_all [] (record s { made = a.next }))
 
-pub run_bare : (c : CodeParts) (t : Tree) (a : Ran) (s : Site) → run_here c (bare t) a s ≡ run_here c t a s
-run_bare c t a s = all_bare t (posted_of a.atoms) (lay_all (all_told (told_by c) a.groups) (host_all a.births (record s { made = a.next })))
+pub run_bare : (c : CodeParts) (t : Tree) (a : Ran) (s : Site)
+    → run_here c (bare t) a s ≡ run_here c t a s
+run_bare c t a s = all_bare t (posted_of a.atoms)
+    (lay_all (all_told (told_by c) a.groups) (host_all a.births (record s { made = a.next })))
 
-pub births_bare : (t : Tree) (i : ℕ) (ls : List Loc) → with_births (bare t) i ls ≡ bare (with_births t i ls)
+pub births_bare : (t : Tree) (i : ℕ) (ls : List Loc)
+    → with_births (bare t) i ls ≡ bare (with_births t i ls)
 births_bare t i [] = refl
 births_bare t i (l ∷ ls) = births_bare (with_birth t l i) i ls
 
@@ -76,7 +84,9 @@ new_full t i (l ∷ ls) h = (h.0, new_full (with_birth t l i) i ls h.1)
 one_sent : (t : Tree) (p : Posted) (s : Site) → length (post t p s).sends ≤ 1
 one_sent t (a_message l m) s = go (among s.locs l)
   where
-    go : (u : Bool) → length (cond {A = Outcome} u (record { site = put l m s; sends = [] }) (record { site = s; sends = record { target = address t l; msg = m } ∷ [] })).sends ≤ 1
+    go : (u : Bool)
+        → length (cond {A = Outcome} u (record { site = put l m s; sends = [] })
+        (record { site = s; sends = record { target = address t l; msg = m } ∷ [] })).sends ≤ 1
     go true = omega arith
     go false = omega arith
 one_sent t (a_request q) s = omega arith
@@ -85,31 +95,48 @@ few_sent : (t : Tree) (ps : List Posted) (s : Site) → length (post_all t ps s)
 few_sent t [] s = omega arith
 few_sent t (p ∷ ps) s =
     let first = post t p s in
-    omega (arith, one_sent t p s, few_sent t ps first.site, length-append first.sends (post_all t ps first.site).sends)
+    omega (
+      arith,
+      one_sent t p s,
+      few_sent t ps first.site,
+      length-append first.sends (post_all t ps first.site).sends,
+    )
 
 -- a continuation is one message at most
-one_made : (seen : List ℕ) (i : ℕ) (l : Loc) (k : ℕ) (cont : Name) → length (posted_of (continuation_made seen i l k cont).atoms) ≤ 1
+one_made : (seen : List ℕ) (i : ℕ) (l : Loc) (k : ℕ) (cont : Name)
+    → length (posted_of (continuation_made seen i l k cont).atoms) ≤ 1
 one_made seen i l k (name.Seen j) = go (is_count (slice_get seen j) 0) refl
   where
-    go : (u : Bool) → is_count (slice_get seen j) 0 ≡ u → length (posted_of (continuation_made seen i l k (name.Seen j)).atoms) ≤ 1
+    go : (u : Bool) → is_count (slice_get seen j) 0 ≡ u
+        → length (posted_of (continuation_made seen i l k (name.Seen j)).atoms) ≤ 1
     go true e = rw e (omega arith)
     go false e = rw e (omega arith)
 one_made seen i l k (name.Place a) = omega arith
 one_made seen i l k (name.Chan s j h) = omega arith
 one_made seen i l k (name.Num n) = omega arith
-one_made seen i l k (name.Op n) = subst (λ (o : Option Became). length (posted_of (operated_made seen i l k n [] o).atoms) ≤ 1) (sym (operated_none n)) (omega arith)
+one_made seen i l k (name.Op n) =
+    subst (λ (o : Option Became). length (posted_of (operated_made seen i l k n [] o).atoms) ≤ 1)
+    (sym (operated_none n)) (omega arith)
 
-pub continuation_few : (t : Tree) (seen : List ℕ) (i : ℕ) (l : Loc) (k : ℕ) (cont : Name) (s : Site) → length (sent_here t (continuation_made seen i l k cont) s).sends ≤ 1
+pub continuation_few : (t : Tree) (seen : List ℕ) (i : ℕ) (l : Loc) (k : ℕ) (cont : Name) (s : Site)
+    → length (sent_here t (continuation_made seen i l k cont) s).sends ≤ 1
 continuation_few t seen i l k cont s =
     let a = continuation_made seen i l k cont in
-    omega (arith, few_sent t (posted_of a.atoms) (host_all [] (record s { made = a.next })), one_made seen i l k cont)
+    omega (
+      arith,
+      few_sent t (posted_of a.atoms) (host_all [] (record s { made = a.next })),
+      one_made seen i l k cont,
+    )
 
 -- and what a move makes is that or nothing
-pub moved_few : (t : Tree) (alive : Bool) (seen : List ℕ) (i : ℕ) (l : Loc) (k : ℕ) (cont : Name) (s : Site) → length (sent_here t (moved_made alive seen i l k cont) s).sends ≤ 1
+pub moved_few :
+    (t : Tree) (alive : Bool) (seen : List ℕ) (i : ℕ) (l : Loc) (k : ℕ) (cont : Name) (s : Site)
+    → length (sent_here t (moved_made alive seen i l k cont) s).sends ≤ 1
 moved_few t true seen i l k cont s = continuation_few t seen i l k cont s
 moved_few t false seen i l k cont s = omega arith
 
-pub flights_long : (ps : List Addressed) (fs : List Flight) → AreFlights ps fs → length fs ≡ length ps
+pub flights_long : (ps : List Addressed) (fs : List Flight) → AreFlights ps fs
+    → length fs ≡ length ps
 flights_long [] [] h = refl
 flights_long [] (f ∷ fs) h = absurd h
 flights_long (p ∷ ps) [] h = absurd h
@@ -117,15 +144,22 @@ flights_long (p ∷ ps) (f ∷ fs) h = ap suc (flights_long ps fs h.1)
 
 -- ---- what a site answers, as what the network hands out
 
-pub outcome_net : (seen : List ℕ) (old new : Parts) → new.version ≡ old.version → (i : ℕ) (t : Tree) (o : Outcome) (outs : List Out) (births : List Loc) (after : Site) (e : Effects) → new.sites.items ≡ slice_set old.sites.items i after
-    → Answers o outs births after e → bare new.tree ≡ with_births t i births → joined new.trace.items ≡ joined old.trace.items ++ e.outs → joined new.flights.items ≡ joined old.flights.items ++ e.sends
+pub outcome_net : (seen : List ℕ) (old new : Parts) → new.version ≡ old.version
+    → (i : ℕ) (t : Tree) (o : Outcome) (outs : List Out) (births : List Loc) (after : Site)
+    (e : Effects) → new.sites.items ≡ slice_set old.sites.items i after
+    → Answers o outs births after e → bare new.tree ≡ with_births t i births
+    → joined new.trace.items ≡ joined old.trace.items ++ e.outs
+    → joined new.flights.items ≡ joined old.flights.items ++ e.sends
     → net_of seen new ≡ with_outcome (record (net_of seen old) { tree = t }) i o outs births
 outcome_net seen old new version i t o outs births after e sites answers tree trace flights =
-    same_net (net_of seen new) (with_outcome (record (net_of seen old) { tree = t }) i o outs births) version refl
+    same_net (net_of seen new)
+    (with_outcome (record (net_of seen old) { tree = t }) i o outs births) version refl
     (sites ∙ ap (slice_set old.sites.items i) answers.site)
     tree
     (trace ∙ ap (λ (os : List Out). joined old.trace.items ++ os) answers.outs)
-    (ap all_carried flights ∙ carried_append (joined old.flights.items) e.sends ∙ ap (λ (ps : List Addressed). all_carried (joined old.flights.items) ++ ps) (all_carry o.sends e.sends answers.sends).0)
+    (ap all_carried flights ∙ carried_append (joined old.flights.items) e.sends
+    ∙ ap (λ (ps : List Addressed). all_carried (joined old.flights.items) ++ ps)
+    (all_carry o.sends e.sends answers.sends).0)
 
 -- ---- halts
 
@@ -134,17 +168,25 @@ halt_is (request.Go b k) e = absurd (cc)
 halt_is (request.Fail a k) e = absurd (cc)
 halt_is request.Halt e = refl
 
-pub halts_net : (seen : List ℕ) (old new : Parts) → new.version ≡ old.version → (i : ℕ) (a : AtomId) (s : Site) → slice_get old.sites.items i ≡ Some s → can_halt old.tree a s ≡ true → HaltsAt old.tree new.tree i a s old.sites.items new.sites.items
-    → new.trace.items ≡ old.trace.items → new.flights.items ≡ old.flights.items → Halts (net_of seen old) a (net_of seen new)
+pub halts_net : (seen : List ℕ) (old new : Parts) → new.version ≡ old.version
+    → (i : ℕ) (a : AtomId) (s : Site) → slice_get old.sites.items i ≡ Some s
+    → can_halt old.tree a s ≡ true → HaltsAt old.tree new.tree i a s old.sites.items new.sites.items
+    → new.trace.items ≡ old.trace.items → new.flights.items ≡ old.flights.items
+    → Halts (net_of seen old) a (net_of seen new)
 halts_net seen old new version i a s at can halts trace flights =
     let q = halts.halts.asked in
-    let ready : is_halt q.ask && is_alive old.tree q.loc ≡ true = ap (is_ready old.tree) (sym halts.halts.here) ∙ can in
+    let ready : is_halt q.ask && is_alive old.tree q.loc ≡ true =
+    ap (is_ready old.tree) (sym halts.halts.here) ∙ can in
     let both = and_parts (is_halt q.ask) (is_alive old.tree q.loc) ready in
     record {
-      asks = record { number = i; site = s; request = q; site_is = at; request_is = halts.halts.here };
+      asks =
+          record { number = i; site = s; request = q; site_is = at; request_is = halts.halts.here };
       is = halt_is q.ask both.0;
       alive = both.1;
-      new_is = same_net (net_of seen new) (record (net_of seen old) { sites = slice_set old.sites.items i (drop_request a s); tree = with_mark (bare old.tree) q.loc }) version refl
+      new_is = same_net (net_of seen new) (record (net_of seen old) {
+        sites = slice_set old.sites.items i (drop_request a s);
+        tree = with_mark (bare old.tree) q.loc;
+      }) version refl
           (halts.sites ∙ ap (slice_set old.sites.items i) halts.halts.site)
           (ap bare halts.halts.tree)
           (ap joined trace)
@@ -157,20 +199,29 @@ some_if : (u : Bool) (e : Event) → is_some (cond u (Some e) None) ≡ true →
 some_if true e h = refl
 some_if false e h = absurd (cc)
 
-pub detects_net : (seen : List ℕ) (old new : Parts) → new.version ≡ old.version → (i : ℕ) (a : AtomId) (s : Site) (e : Effects) → slice_get old.sites.items i ≡ Some s → s.number ≡ i → is_some (dead_for old.tree a s) ≡ true
+pub detects_net : (seen : List ℕ) (old new : Parts) → new.version ≡ old.version
+    → (i : ℕ) (a : AtomId) (s : Site) (e : Effects) → slice_get old.sites.items i ≡ Some s
+    → s.number ≡ i → is_some (dead_for old.tree a s) ≡ true
     → DetectsAt seen old.tree i a s old.sites.items new.sites.items e
-    → bare new.tree ≡ bare old.tree → joined new.trace.items ≡ joined old.trace.items ++ e.outs → joined new.flights.items ≡ joined old.flights.items ++ e.sends
+    → bare new.tree ≡ bare old.tree → joined new.trace.items ≡ joined old.trace.items ++ e.outs
+    → joined new.flights.items ≡ joined old.flights.items ++ e.sends
     → Detects (net_of seen old) a (net_of seen new)
 detects_net seen old new version i a s e at number dead detects tree trace flights =
     let d = detects.detects in
     let q = d.asked in
-    let sees : sees_death old.tree (Some q) ≡ true = ap (sees_death old.tree) (sym d.here) ∙ some_if (sees_death old.tree (request_with a s.requests)) (event.Detect a) dead in
-    let told : is_alive old.tree q.loc && is_dead old.tree d.target ≡ true = ap (λ (v : Ask). sees_death old.tree (Some (record q { ask = v }))) (sym d.asks) ∙ sees in
+    let sees : sees_death old.tree (Some q) ≡ true =
+    ap (sees_death old.tree) (sym d.here)
+    ∙ some_if (sees_death old.tree (request_with a s.requests)) (event.Detect a) dead in
+    let told : is_alive old.tree q.loc && is_dead old.tree d.target ≡ true =
+    ap (λ (v : Ask). sees_death old.tree (Some (record q { ask = v }))) (sym d.asks) ∙ sees in
     let both = and_parts (is_alive old.tree q.loc) (is_dead old.tree d.target) told in
     let from = λ (k : ℕ). continuation_made seen k q.loc s.made d.cont in
-    let answers : Answers (sent_here (bare old.tree) (from i) (drop_request a s)) (from i).outs [] detects.after e =
-    subst (λ (k : ℕ). Answers (sent_here (bare old.tree) (from k) (drop_request a s)) (from k).outs [] detects.after e) number
-    (subst (λ (o : Outcome). Answers o (from s.number).outs [] detects.after e) (sym (sent_bare old.tree (from s.number) (drop_request a s))) d.answers) in
+    let answers : Answers (sent_here (bare old.tree) (from i) (drop_request a s)) (from i).outs []
+    detects.after e =
+    subst (λ (k : ℕ). Answers (sent_here (bare old.tree) (from k) (drop_request a s))
+    (from k).outs [] detects.after e) number
+    (subst (λ (o : Outcome). Answers o (from s.number).outs [] detects.after e)
+    (sym (sent_bare old.tree (from s.number) (drop_request a s))) d.answers) in
     record {
       asks = record { number = i; site = s; request = q; site_is = at; request_is = d.here };
       target = d.target;
@@ -178,21 +229,38 @@ detects_net seen old new version i a s e at number dead detects tree trace fligh
       is = d.asks;
       alive = both.0;
       dead = both.1;
-      new_is = outcome_net seen old new version i (bare old.tree) (sent_here (bare old.tree) (from i) (drop_request a s)) (from i).outs [] detects.after e detects.sites answers tree trace flights;
+      new_is = outcome_net seen old new version i (bare old.tree)
+          (sent_here (bare old.tree) (from i) (drop_request a s)) (from i).outs [] detects.after e
+          detects.sites answers tree trace flights;
     }
 
 -- ---- the facts of the type, after an event
 
-pub event_whole : (c : CodeParts) (old new : Parts) (e : Event) (events : ℕ) → IsWhole c old events → events < 2 ^ 32 → Does c (net_of c.seen old) (Some e) (net_of c.seen new) → AllStayFit c (bare new.tree) new.sites.items → length new.sites.items ≡ length old.sites.items
-    → (more : List Flight) → Each IsMessageFlight more → joined new.flights.items ≡ joined old.flights.items ++ more → new.under_way ≡ old.under_way + length more → new.under_way < 2 ^ 32 → IsWhole c new (events + 1)
+pub event_whole : (c : CodeParts) (old new : Parts) (e : Event) (events : ℕ) → IsWhole c old events
+    → events < 2 ^ 32 → Does c (net_of c.seen old) (Some e) (net_of c.seen new)
+    → AllStayFit c (bare new.tree) new.sites.items → length new.sites.items ≡ length old.sites.items
+    → (more : List Flight) → Each IsMessageFlight more
+    → joined new.flights.items ≡ joined old.flights.items ++ more
+    → new.under_way ≡ old.under_way + length more → new.under_way < 2 ^ 32
+    → IsWhole c new (events + 1)
 event_whole c old new e events h few does fit many more spelled flights count low = record {
-  running = event_running c (net_of c.seen old) (net_of c.seen new) e events h.running does fit many few;
+  running =
+      event_running c (net_of c.seen old) (net_of c.seen new) e events h.running does fit many few;
   flying = record {
-    spelled = subst (Each IsMessageFlight) (sym flights) (Each-append IsMessageFlight (joined old.flights.items) more h.flying.spelled spelled);
-    counted = omega (arith, count, h.flying.counted, ap length flights, length-append (joined old.flights.items) more);
+    spelled = subst (Each IsMessageFlight) (sym flights)
+        (Each-append IsMessageFlight (joined old.flights.items) more h.flying.spelled spelled);
+    counted = omega (
+      arith,
+      count,
+      h.flying.counted,
+      ap length flights,
+      length-append (joined old.flights.items) more,
+    );
     few = low;
   };
 }
 
-pub stay_bare : (c : CodeParts) (t : Tree) (sites : List Site) → AllStayFit c t sites → AllStayFit c (bare t) sites
-stay_bare c t sites h = record { in_tree = h.in_tree; in_code = h.in_code; drawn = h.drawn; fresh = h.fresh }
+pub stay_bare : (c : CodeParts) (t : Tree) (sites : List Site) → AllStayFit c t sites
+    → AllStayFit c (bare t) sites
+stay_bare c t sites h =
+    record { in_tree = h.in_tree; in_code = h.in_code; drawn = h.drawn; fresh = h.fresh }

@@ -1,10 +1,12 @@
 -- Mail of a site among packets under way.
-use Rattle.std.proofs.Common.{◌≡◌, ℕ, zero, suc, ◌+◌, ◌==◌, Bool, true, false, cond, List, [], ◌∷◌, ◌++◌, drop, Some, refl, sym, ap, ◌∙◌, arith, slice_get, eqb-true}
+use Rattle.std.proofs.Common.{◌≡◌, ℕ, zero, suc, ◌+◌, ◌==◌, Bool, true, false, cond, List, [], ◌∷◌}
+use Rattle.std.proofs.Common.{◌++◌, drop, Some, refl, sym, ap, ◌∙◌, arith, slice_get, eqb-true}
 use Rattle.net_laws.specs.Net.{Addressed, without_packet}
 use Rattle.net_core.specs.Lending.{mail_to}
 
 -- the first message of the mail stands at this place
-pub record IsFirstMail (i : ℕ) (ps : List Addressed) (p : Addressed) (rest : List Addressed) : Type 0 where
+pub record IsFirstMail (i : ℕ) (ps : List Addressed) (p : Addressed)
+    (rest : List Addressed) : Type 0 where
   pub place : ℕ
   pub at : slice_get ps place ≡ Some p
   pub target : p.target ≡ i
@@ -16,11 +18,13 @@ same_first p q ps qs e = cc
 same_rest : (p q : Addressed) (ps qs : List Addressed) → p ∷ ps ≡ q ∷ qs → ps ≡ qs
 same_rest p q ps qs e = cc
 
-pub first_mail : (i : ℕ) (ps : List Addressed) (p : Addressed) (rest : List Addressed) → mail_to i ps ≡ p ∷ rest → IsFirstMail i ps p rest
+pub first_mail : (i : ℕ) (ps : List Addressed) (p : Addressed) (rest : List Addressed)
+    → mail_to i ps ≡ p ∷ rest → IsFirstMail i ps p rest
 first_mail i [] p rest e = cc
 first_mail i (q ∷ qs) p rest e = go (q.target == i) refl e (first_mail i qs p rest)
   where
-    go : (u : Bool) → (q.target == i) ≡ u → cond u (q ∷ mail_to i qs) (mail_to i qs) ≡ p ∷ rest → (mail_to i qs ≡ p ∷ rest → IsFirstMail i qs p rest) → IsFirstMail i (q ∷ qs) p rest
+    go : (u : Bool) → (q.target == i) ≡ u → cond u (q ∷ mail_to i qs) (mail_to i qs) ≡ p ∷ rest
+        → (mail_to i qs ≡ p ∷ rest → IsFirstMail i qs p rest) → IsFirstMail i (q ∷ qs) p rest
     go true is same ih =
         let one = same_first q p (mail_to i qs) rest same in
         record {
@@ -35,25 +39,32 @@ first_mail i (q ∷ qs) p rest e = go (q.target == i) refl e (first_mail i qs p 
           place = suc later.place;
           at = later.at;
           target = later.target;
-          left = ap (λ b. cond b (q ∷ mail_to i (without_packet later.place qs)) (mail_to i (without_packet later.place qs))) is ∙ later.left;
+          left = ap (λ b. cond b (q ∷ mail_to i (without_packet later.place qs))
+              (mail_to i (without_packet later.place qs))) is ∙ later.left;
         }
 
-pub mail_append : (i : ℕ) (ps qs : List Addressed) → mail_to i (ps ++ qs) ≡ mail_to i ps ++ mail_to i qs
+pub mail_append : (i : ℕ) (ps qs : List Addressed)
+    → mail_to i (ps ++ qs) ≡ mail_to i ps ++ mail_to i qs
 mail_append i [] qs = refl
 mail_append i (p ∷ ps) qs = go (p.target == i) (mail_append i ps qs)
   where
-    go : (u : Bool) → mail_to i (ps ++ qs) ≡ mail_to i ps ++ mail_to i qs → cond u (p ∷ mail_to i (ps ++ qs)) (mail_to i (ps ++ qs)) ≡ cond u (p ∷ mail_to i ps) (mail_to i ps) ++ mail_to i qs
+    go : (u : Bool) → mail_to i (ps ++ qs) ≡ mail_to i ps ++ mail_to i qs
+        → cond u (p ∷ mail_to i (ps ++ qs)) (mail_to i (ps ++ qs))
+        ≡ cond u (p ∷ mail_to i ps) (mail_to i ps) ++ mail_to i qs
     go true ih = ap (λ rs. p ∷ rs) ih
     go false ih = ih
 
-pub mail_here : (i : ℕ) (p : Addressed) (ps : List Addressed) → p.target == i ≡ true → mail_to i (p ∷ ps) ≡ p ∷ mail_to i ps
+pub mail_here : (i : ℕ) (p : Addressed) (ps : List Addressed) → p.target == i ≡ true
+    → mail_to i (p ∷ ps) ≡ p ∷ mail_to i ps
 mail_here i p ps e = ap (λ b. cond b (p ∷ mail_to i ps) (mail_to i ps)) e
 
-pub mail_elsewhere : (i : ℕ) (p : Addressed) (ps : List Addressed) → p.target == i ≡ false → mail_to i (p ∷ ps) ≡ mail_to i ps
+pub mail_elsewhere : (i : ℕ) (p : Addressed) (ps : List Addressed) → p.target == i ≡ false
+    → mail_to i (p ∷ ps) ≡ mail_to i ps
 mail_elsewhere i p ps e = ap (λ b. cond b (p ∷ mail_to i ps) (mail_to i ps)) e
 
 -- what is left of a list begins with its next member
-pub drop_next : {X : Type 0} (xs : List X) (n : ℕ) (x : X) → slice_get xs n ≡ Some x → drop n xs ≡ x ∷ drop (n + 1) xs
+pub drop_next : {X : Type 0} (xs : List X) (n : ℕ) (x : X) → slice_get xs n ≡ Some x
+    → drop n xs ≡ x ∷ drop (n + 1) xs
 drop_next [] n x e = cc
 drop_next (y ∷ xs) zero x e = let same : y ≡ x = cc in ap (λ z. z ∷ xs) same
 drop_next (y ∷ xs) (suc n) x e =

@@ -17,4 +17,5 @@ NoneReady c sites t n =
 -- of the first n requests of the site none is
 abbrev pub NoneMeetable : ℕ → Tree → Site → ℕ → Type 0
 NoneMeetable version t s n =
-    (k : ℕ) (q : RequestParts) → k < n → slice_get s.requests k ≡ Some q → IsMeetable version t s q → ⊥
+    (k : ℕ) (q : RequestParts) → k < n → slice_get s.requests k ≡ Some q → IsMeetable version t s q
+    → ⊥

@@ -1,5 +1,7 @@
 -- At each site a reaction is ready, or none may fire.
-use Rattle.std.proofs.Common.{◌≡◌, ℕ, zero, suc, ◌+◌, ◌<◌, ◌≤◌, List, [], ◌∷◌, length, Option, Some, None, Bool, true, false, refl, sym, ap, ◌∙◌, subst, arith, slice_get, ◌⊎◌, inl, inr}
+use Rattle.std.proofs.Common.{◌≡◌, ℕ, zero, suc, ◌+◌, ◌<◌, ◌≤◌, List, [], ◌∷◌, length, Option, Some}
+use Rattle.std.proofs.Common.{None, Bool, true, false, refl, sym, ap, ◌∙◌, subst, arith, slice_get}
+use Rattle.std.proofs.Common.{◌⊎◌, inl, inr}
 use Rattle.std.specs.Prelude.{slice_index_or, nat_lt, ◌==◌, ◌||◌, ◌&&◌}
 use Rattle.std.proofs.lemmas.Bool.Decides.{nat_tests}
 use Rattle.std.proofs.lemmas.Option.{slice_get_within}
@@ -56,13 +58,16 @@ pick_of j n = record { group = j; guard = n }
 
 -- ---- the order of rules
 
-not_later : (s k t j m : ℕ) → k ≤ m → nat_lt s t || ((s == t) && nat_lt k j) ≡ false → nat_lt s t || ((s == t) && nat_lt m j) ≡ false
+not_later : (s k t j m : ℕ) → k ≤ m → nat_lt s t || ((s == t) && nat_lt k j) ≡ false
+    → nat_lt s t || ((s == t) && nat_lt m j) ≡ false
 not_later s k t j m h e = grind (arith, nat_tests)
 
 not_itself : (s k m : ℕ) → k ≤ m → nat_lt s s || ((s == s) && nat_lt m k) ≡ false
 not_itself s k m h = grind (arith, nat_tests)
 
-not_before : (s k t j u i : ℕ) → nat_lt t u || ((t == u) && nat_lt j i) ≡ true → nat_lt s u || ((s == u) && nat_lt k i) ≡ false → nat_lt s t || ((s == t) && nat_lt k j) ≡ false
+not_before : (s k t j u i : ℕ) → nat_lt t u || ((t == u) && nat_lt j i) ≡ true
+    → nat_lt s u || ((s == u) && nat_lt k i) ≡ false
+    → nat_lt s t || ((s == t) && nat_lt k j) ≡ false
 not_before s k t j u i h e = grind (arith, nat_tests)
 
 module _ (c : CodeParts) (t : Tree) (s : Site) (code : IsCode c) where
@@ -70,14 +75,20 @@ module _ (c : CodeParts) (t : Tree) (s : Site) (code : IsCode c) where
   MayFireAt j n = (x : Picked) × Fires c t s (pick_of j n) x
 
   -- one guard of one group
-  guard_fires : (j n : ℕ) (g : Group) (v : Level) (u : Guard) → slice_get s.groups j ≡ Some g → slice_get c.levels g.told.inst.level ≡ Some v → slice_get c.guards n ≡ Some u → Decides (MayFireAt j n)
+  guard_fires : (j n : ℕ) (g : Group) (v : Level) (u : Guard) → slice_get s.groups j ≡ Some g
+      → slice_get c.levels g.told.inst.level ≡ Some v → slice_get c.guards n ≡ Some u
+      → Decides (MayFireAt j n)
   guard_fires j n g v u here at is =
       let at_guard = code.guards n u is in
       as_other
       (λ h. (
         record { group = g; level = v; guard = u },
         record {
-          covers = record { picks = record { group = here; level = at; guard = is; from = h.0; below = h.1.0 }; held = fronts_held (length at_guard.level.counts) g.queues u.chans u.mask.words at_guard.mask h.1.1.0 };
+          covers = record {
+            picks = record { group = here; level = at; guard = is; from = h.0; below = h.1.0 };
+            held = fronts_held (length at_guard.level.counts)
+                g.queues u.chans u.mask.words at_guard.mask h.1.1.0;
+          };
           live = h.1.1.1;
         },
       ))
@@ -85,18 +96,26 @@ module _ (c : CodeParts) (t : Tree) (s : Site) (code : IsCode c) where
       let x = m.0 in
       let picks = m.1.covers.picks in
       let group : x.group ≡ g = one_of (slice_get s.groups j) x.group g picks.group here in
-      let level : x.level ≡ v = one_of (slice_get c.levels g.told.inst.level) x.level v (ap (λ (h : Group). slice_get c.levels h.told.inst.level) (sym group) ∙ picks.level) at in
+      let level : x.level ≡ v =
+      one_of (slice_get c.levels g.told.inst.level) x.level v
+      (ap (λ (h : Group). slice_get c.levels h.told.inst.level) (sym group) ∙ picks.level) at in
       let guard : x.guard ≡ u = one_of (slice_get c.guards n) x.guard u picks.guard is in
       let own = code.guards n x.guard picks.guard in
-      let held = held_fronts (length own.level.counts) x.group.queues x.guard.chans x.guard.mask.words own.mask m.1.covers.held in
-      let first : HaveFronts g.queues x.guard.chans = subst (λ (h : Group). HaveFronts h.queues x.guard.chans) group held in (
+      let held = held_fronts (length own.level.counts)
+      x.group.queues x.guard.chans x.guard.mask.words own.mask m.1.covers.held in
+      let first : HaveFronts g.queues x.guard.chans =
+      subst (λ (h : Group). HaveFronts h.queues x.guard.chans) group held in (
         subst (λ (w : Level). w.first ≤ n) level picks.from,
         (
           subst (λ (w : Level). n < w.first + w.guards) level picks.below,
-          (subst (λ (w : Guard). HaveFronts g.queues w.chans) guard first, subst (λ (h : Group). is_alive t h.told.inst.loc ≡ true) group m.1.live),
+          (
+            subst (λ (w : Guard). HaveFronts g.queues w.chans) guard first,
+            subst (λ (h : Group). is_alive t h.told.inst.loc ≡ true) group m.1.live,
+          ),
         ),
       ))
-      (both (at_most v.first n) (both (below n (v.first + v.guards)) (both (fronts g.queues u.chans) (is_true (is_alive t g.told.inst.loc)))))
+      (both (at_most v.first n) (both (below n (v.first + v.guards))
+      (both (fronts g.queues u.chans) (is_true (is_alive t g.told.inst.loc)))))
 
   none_there : {X : Type 0} (o : Option X) (x : X) → o ≡ None → o ≡ Some x → ⊥
   none_there o x e f = let clash : None ≡ Some x = sym e ∙ f in cc
@@ -104,14 +123,21 @@ module _ (c : CodeParts) (t : Tree) (s : Site) (code : IsCode c) where
   fires_at : (j n : ℕ) → Decides (MayFireAt j n)
   fires_at j n = group (slice_get s.groups j) refl
     where
-      guarded : (g : Group) → slice_get s.groups j ≡ Some g → (v : Level) → slice_get c.levels g.told.inst.level ≡ Some v → (o : Option Guard) → slice_get c.guards n ≡ o → Decides (MayFireAt j n)
-      guarded g here v at None e = inr (λ m. none_there (slice_get c.guards n) m.0.guard e m.1.covers.picks.guard)
+      guarded : (g : Group) → slice_get s.groups j ≡ Some g → (v : Level)
+          → slice_get c.levels g.told.inst.level ≡ Some v → (o : Option Guard)
+          → slice_get c.guards n ≡ o → Decides (MayFireAt j n)
+      guarded g here v at None e =
+          inr (λ m. none_there (slice_get c.guards n) m.0.guard e m.1.covers.picks.guard)
       guarded g here v at (Some u) e = guard_fires j n g v u here at e
 
-      level : (g : Group) → slice_get s.groups j ≡ Some g → (o : Option Level) → slice_get c.levels g.told.inst.level ≡ o → Decides (MayFireAt j n)
+      level : (g : Group) → slice_get s.groups j ≡ Some g → (o : Option Level)
+          → slice_get c.levels g.told.inst.level ≡ o → Decides (MayFireAt j n)
       level g here None e = inr (λ m.
-          let group : m.0.group ≡ g = one_of (slice_get s.groups j) m.0.group g m.1.covers.picks.group here in
-          none_there (slice_get c.levels g.told.inst.level) m.0.level e (ap (λ (h : Group). slice_get c.levels h.told.inst.level) (sym group) ∙ m.1.covers.picks.level))
+          let group : m.0.group ≡ g =
+          one_of (slice_get s.groups j) m.0.group g m.1.covers.picks.group here in
+          none_there (slice_get c.levels g.told.inst.level) m.0.level e
+          (ap (λ (h : Group). slice_get c.levels h.told.inst.level) (sym group)
+          ∙ m.1.covers.picks.level))
       level g here (Some v) e = guarded g here v e (slice_get c.guards n) refl
 
       group : (o : Option Group) → slice_get s.groups j ≡ o → Decides (MayFireAt j n)
@@ -142,7 +168,8 @@ module _ (c : CodeParts) (t : Tree) (s : Site) (code : IsCode c) where
   first_below j zero = inr (λ k less h. absurd (omega arith))
   first_below j (suc m) = step (first_below j m) (fires_at j m)
     where
-      step : FirstBelow j m ⊎ NoneBelow j m → Decides (MayFireAt j m) → FirstBelow j (suc m) ⊎ NoneBelow j (suc m)
+      step : FirstBelow j m ⊎ NoneBelow j m → Decides (MayFireAt j m)
+          → FirstBelow j (suc m) ⊎ NoneBelow j (suc m)
       step (inl f) d = inl (record { n = f.n; fires = f.fires; first = f.first })
       step (inr none) (inl h) = inl (record { n = m; fires = h; first = none })
       step (inr none) (inr not) = inr (last_too j m none not)
@@ -156,22 +183,30 @@ module _ (c : CodeParts) (t : Tree) (s : Site) (code : IsCode c) where
     site : u.site ≡ r.site
     k : r.k ≤ u.k
 
-  later : (j n m : ℕ) (x y : Picked) → Fires c t s (pick_of j n) x → Fires c t s (pick_of j m) y → n ≤ m → IsLater (rule_of (pick_of j n) x) (rule_of (pick_of j m) y)
+  later : (j n m : ℕ) (x y : Picked) → Fires c t s (pick_of j n) x → Fires c t s (pick_of j m) y
+      → n ≤ m → IsLater (rule_of (pick_of j n) x) (rule_of (pick_of j m) y)
   later j n m x y f g le =
       let a = f.covers.picks in
       let b = g.covers.picks in
-      let group : y.group ≡ x.group = one_of (slice_get s.groups j) y.group x.group b.group a.group in
-      let level : y.level ≡ x.level = one_of (slice_get c.levels x.group.told.inst.level) y.level x.level (ap (λ (h : Group). slice_get c.levels h.told.inst.level) (sym group) ∙ b.level) a.level in
-      let sites : y.group.told.inst.rules.site ≡ x.group.told.inst.rules.site = ap (λ (h : Group). h.told.inst.rules.site) group in
-      let numbers : y.group.told.inst.rules.k ≡ x.group.told.inst.rules.k = ap (λ (h : Group). h.told.inst.rules.k) group in
+      let group : y.group ≡ x.group =
+      one_of (slice_get s.groups j) y.group x.group b.group a.group in
+      let level : y.level ≡ x.level =
+      one_of (slice_get c.levels x.group.told.inst.level) y.level x.level
+      (ap (λ (h : Group). slice_get c.levels h.told.inst.level) (sym group) ∙ b.level) a.level in
+      let sites : y.group.told.inst.rules.site ≡ x.group.told.inst.rules.site =
+      ap (λ (h : Group). h.told.inst.rules.site) group in
+      let numbers : y.group.told.inst.rules.k ≡ x.group.told.inst.rules.k =
+      ap (λ (h : Group). h.told.inst.rules.k) group in
       let firsts : y.level.first ≡ x.level.first = ap (λ (v : Level). v.first) level in
       record { site = sites; k = omega arith }
 
   later_least : (r u : RuleId) → IsLater r u → precedes u r ≡ false
-  later_least r u h = subst (λ k. nat_lt k r.site || ((k == r.site) && nat_lt u.k r.k) ≡ false) (sym h.site) (not_itself r.site r.k u.k h.k)
+  later_least r u h = subst (λ k. nat_lt k r.site || ((k == r.site) && nat_lt u.k r.k) ≡ false)
+      (sym h.site) (not_itself r.site r.k u.k h.k)
 
   later_not : (r u b : RuleId) → IsLater r u → precedes r b ≡ false → precedes u b ≡ false
-  later_not r u b h e = subst (λ k. nat_lt k b.site || ((k == b.site) && nat_lt u.k b.k) ≡ false) (sym h.site) (not_later r.site r.k b.site b.k u.k h.k e)
+  later_not r u b h e = subst (λ k. nat_lt k b.site || ((k == b.site) && nat_lt u.k b.k) ≡ false)
+      (sym h.site) (not_later r.site r.k b.site b.k u.k h.k e)
 
   -- ---- the best of the first i groups
 
@@ -180,13 +215,16 @@ module _ (c : CodeParts) (t : Tree) (s : Site) (code : IsCode c) where
     names : Picked
     fires : Fires c t s pick names
     low : pick.group < i
-    least : (q : Pick) (y : Picked) → q.group < i → Fires c t s q y → precedes (rule_of q y) (rule_of pick names) ≡ false
-    first : (q : Pick) (y : Picked) → q.group < i → Fires c t s q y → rule_of q y ≡ rule_of pick names → pick.group ≤ q.group
+    least : (q : Pick) (y : Picked) → q.group < i → Fires c t s q y
+        → precedes (rule_of q y) (rule_of pick names) ≡ false
+    first : (q : Pick) (y : Picked) → q.group < i → Fires c t s q y
+        → rule_of q y ≡ rule_of pick names → pick.group ≤ q.group
 
   below_or : (k i : ℕ) → k < suc i → (k < i) ⊎ (k ≡ i)
   below_or k i h = grind arith
 
-  at_group : (q : Pick) (y : Picked) (i : ℕ) → q.group ≡ i → Fires c t s q y → Fires c t s (pick_of i q.guard) y
+  at_group : (q : Pick) (y : Picked) (i : ℕ) → q.group ≡ i → Fires c t s q y
+      → Fires c t s (pick_of i q.guard) y
   at_group q y i e f = subst (λ (j : ℕ). Fires c t s (pick_of j q.guard) y) e f
 
   not_less : (n k : ℕ) → (k < n → ⊥) → n ≤ k
@@ -206,7 +244,8 @@ module _ (c : CodeParts) (t : Tree) (s : Site) (code : IsCode c) where
     own_later : (q : Pick) (y : Picked) → q.group ≡ i → Fires c t s q y → IsLater rule (rule_of q y)
     own_later q y same h =
         let here = at_group q y i same h in
-        later i f.n q.guard f.fires.0 y f.fires.1 here (not_less f.n q.guard (λ less. f.first q.guard less (y, here)))
+        later i f.n q.guard f.fires.0 y f.fires.1 here
+        (not_less f.n q.guard (λ less. f.first q.guard less (y, here)))
 
     alone : NoneFiresBelow i → IsBest (suc i)
     alone none = record {
@@ -234,12 +273,15 @@ module _ (c : CodeParts) (t : Tree) (s : Site) (code : IsCode c) where
       low = omega arith;
       least = λ q y less h.
           elim (below_or q.group i less) [
-            | inl lower ↦ (let r = rule_of q y in let u = rule_of b.pick b.names in not_before r.site r.k rule.site rule.k u.site u.k e (b.least q y lower h))
+            | inl lower ↦ (let r = rule_of q y in let u = rule_of b.pick b.names in
+                not_before r.site r.k rule.site rule.k u.site u.k e (b.least q y lower h))
             | inr same ↦ later_least rule (rule_of q y) (own_later q y same h)
           ];
       first = λ q y less h same_rule.
           elim (below_or q.group i less) [
-            | inl lower ↦ absurd (clash (precedes rule (rule_of b.pick b.names)) e (ap (λ (r : RuleId). precedes r (rule_of b.pick b.names)) (sym same_rule) ∙ b.least q y lower h))
+            | inl lower ↦ absurd (clash (precedes rule (rule_of b.pick b.names)) e
+                (ap (λ (r : RuleId). precedes r (rule_of b.pick b.names)) (sym same_rule)
+                ∙ b.least q y lower h))
             | inr same ↦ omega arith
           ];
     }
@@ -257,7 +299,8 @@ module _ (c : CodeParts) (t : Tree) (s : Site) (code : IsCode c) where
       least = λ q y less h.
           elim (below_or q.group i less) [
             | inl lower ↦ b.least q y lower h
-            | inr same ↦ later_not rule (rule_of q y) (rule_of b.pick b.names) (own_later q y same h) e
+            | inr same ↦
+                later_not rule (rule_of q y) (rule_of b.pick b.names) (own_later q y same h) e
           ];
       first = λ q y less h same_rule.
           elim (below_or q.group i less) [
@@ -281,21 +324,26 @@ module _ (c : CodeParts) (t : Tree) (s : Site) (code : IsCode c) where
         none q.guard (slice_get_within c.guards q.guard y.guard here.covers.picks.guard) (y, here)
 
     without_offer : IsBest i ⊎ NoneFiresBelow i → IsBest (suc i) ⊎ NoneFiresBelow (suc i)
-    without_offer (inr not) = inr (λ q y less h. elim (below_or q.group i less) [ inl lower ↦ not q y lower h | inr same ↦ nobody q y same h ])
+    without_offer (inr not) = inr (λ q y less h. elim (below_or q.group i
+        less) [ inl lower ↦ not q y lower h | inr same ↦ nobody q y same h ])
     without_offer (inl b) = inl (record {
       pick = b.pick;
       names = b.names;
       fires = b.fires;
       low = omega (arith, b.low);
-      least = λ q y less h. elim (below_or q.group i less) [ inl lower ↦ b.least q y lower h | inr same ↦ absurd (nobody q y same h) ];
-      first = λ q y less h e. elim (below_or q.group i less) [ inl lower ↦ b.first q y lower h e | inr same ↦ absurd (nobody q y same h) ];
+      least = λ q y less h. elim (below_or q.group i
+          less) [ inl lower ↦ b.least q y lower h | inr same ↦ absurd (nobody q y same h) ];
+      first = λ q y less h e. elim (below_or q.group i
+          less) [ inl lower ↦ b.first q y lower h e | inr same ↦ absurd (nobody q y same h) ];
     })
 
   best : (i : ℕ) → IsBest i ⊎ NoneFiresBelow i
   best zero = inr (λ q y less h. absurd (omega arith))
   best (suc i) = step (best i) (first_below i (length c.guards))
     where
-      step : IsBest i ⊎ NoneFiresBelow i → FirstBelow i (length c.guards) ⊎ NoneBelow i (length c.guards) → IsBest (suc i) ⊎ NoneFiresBelow (suc i)
+      step : IsBest i ⊎ NoneFiresBelow i
+          → FirstBelow i (length c.guards) ⊎ NoneBelow i (length c.guards)
+          → IsBest (suc i) ⊎ NoneFiresBelow (suc i)
       step b (inl f) = inl (with_offer i f b)
       step b (inr none) = without_offer i none b
 
@@ -305,7 +353,8 @@ module _ (c : CodeParts) (t : Tree) (s : Site) (code : IsCode c) where
       inside : (q : Pick) (y : Picked) → Fires c t s q y → q.group < length s.groups
       inside q y h = slice_get_within s.groups q.group y.group h.covers.picks.group
 
-      go : IsBest (length s.groups) ⊎ NoneFiresBelow (length s.groups) → ((q : Pick) × IsReady c t s q) ⊎ NoneFires c t s
+      go : IsBest (length s.groups) ⊎ NoneFiresBelow (length s.groups)
+          → ((q : Pick) × IsReady c t s q) ⊎ NoneFires c t s
       go (inr none) = inr (λ q y h. none q y (inside q y h) h)
       go (inl b) = inl (
         b.pick,

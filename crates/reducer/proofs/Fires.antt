@@ -22,26 +22,32 @@ less_is a b = ((λ e. below e), (λ less. above less))
     above less = grind (arith, nat_tests)
 
 module _ (c : CodeParts) (s : Site) (p : Pick) where
-  module _ (g : Group) (v : Level) (held : slice_get s.groups p.group ≡ Some g) (level : slice_get c.levels g.told.inst.level ≡ Some v) where
+  module _ (g : Group) (v : Level) (held : slice_get s.groups p.group ≡ Some g)
+      (level : slice_get c.levels g.told.inst.level ≡ Some v) where
     level_is : (x : Picked) → Picks c s p x → x.level ≡ v
     level_is x picks = level_same c s p x g v picks held level
 
-    pub within : IsCode c → v.first ≤ p.guard → IsTrue (nat_lt (p.guard - v.first) v.guards) ↔ IsPick c s p
+    pub within : IsCode c → v.first ≤ p.guard → IsTrue (nat_lt (p.guard - v.first) v.guards)
+        ↔ IsPick c s p
     within code from = (to, back)
       where
         tells : (nat_lt (p.guard - v.first) v.guards ≡ true) ↔ (p.guard - v.first < v.guards)
         tells = less_is (p.guard - v.first) v.guards
 
         to : IsTrue (nat_lt (p.guard - v.first) v.guards) → IsPick c s p
-        to e = let less = tells.0 e in pick_there c s p.group g v held level p.guard code from (omega arith)
+        to e =
+            let less = tells.0 e in
+            pick_there c s p.group g v held level p.guard code from (omega arith)
 
         back : IsPick c s p → IsTrue (nat_lt (p.guard - v.first) v.guards)
         back pick =
             let below = pick.1.below in
-            let first : pick.0.level.first + pick.0.level.guards ≡ v.first + v.guards = ap (λ (w : Level). w.first + w.guards) (level_is pick.0 pick.1) in
+            let first : pick.0.level.first + pick.0.level.guards ≡ v.first + v.guards =
+            ap (λ (w : Level). w.first + w.guards) (level_is pick.0 pick.1) in
             tells.1 (omega arith)
 
-  pub covered_by : (x : Picked) → Picks c s p x → (r : Bool) → (IsTrue r ↔ AllHeld x.group.queues x.guard.mask.words) → IsTrue r ↔ IsCovered c s p
+  pub covered_by : (x : Picked) → Picks c s p x → (r : Bool)
+      → (IsTrue r ↔ AllHeld x.group.queues x.guard.mask.words) → IsTrue r ↔ IsCovered c s p
   covered_by x picks r tells = (to, back)
     where
       to : IsTrue r → IsCovered c s p
@@ -50,4 +56,5 @@ module _ (c : CodeParts) (s : Site) (p : Pick) where
       back : IsCovered c s p → IsTrue r
       back (y, covers) =
           let same : y ≡ x = picks_same c s p y x covers.picks picks in
-          tells.1 (subst (λ (z : Picked). AllHeld z.group.queues z.guard.mask.words) same covers.held)
+          tells.1
+          (subst (λ (z : Picked). AllHeld z.group.queues z.guard.mask.words) same covers.held)

@@ -20,20 +20,47 @@ here x = record { group = x.group; level = x.level; guard = x.guard }
 abbrev there : Picked → site.Picked
 there x = record { group = x.group; level = x.level; guard = x.guard }
 
-fires_here : (c : CodeParts) (t : Tree) (s : Site) (j n : ℕ) (x : site.Picked) → FiresAt c t s.groups j n x → Fires c t s (pick_of j n) (here x)
+fires_here : (c : CodeParts) (t : Tree) (s : Site) (j n : ℕ) (x : site.Picked)
+    → FiresAt c t s.groups j n x → Fires c t s (pick_of j n) (here x)
 fires_here c t s j n x f =
     let p = f.covers.picks in
-    record { covers = record { picks = record { group = p.group; level = p.level; guard = p.guard; from = p.from; below = p.below }; held = f.covers.held }; live = f.live }
+    record {
+      covers = record {
+        picks = record {
+          group = p.group;
+          level = p.level;
+          guard = p.guard;
+          from = p.from;
+          below = p.below;
+        };
+        held = f.covers.held;
+      };
+      live = f.live;
+    }
 
-fires_there : (c : CodeParts) (t : Tree) (s : Site) (q : Pick) (y : Picked) → Fires c t s q y → FiresAt c t s.groups q.group q.guard (there y)
+fires_there : (c : CodeParts) (t : Tree) (s : Site) (q : Pick) (y : Picked) → Fires c t s q y
+    → FiresAt c t s.groups q.group q.guard (there y)
 fires_there c t s q y f =
     let p = f.covers.picks in
-    record { covers = record { picks = record { group = p.group; level = p.level; guard = p.guard; from = p.from; below = p.below }; held = f.covers.held }; live = f.live }
+    record {
+      covers = record {
+        picks = record {
+          group = p.group;
+          level = p.level;
+          guard = p.guard;
+          from = p.from;
+          below = p.below;
+        };
+        held = f.covers.held;
+      };
+      live = f.live;
+    }
 
 pub none_told : (c : CodeParts) (t : Tree) (s : Site) → NothingFires c t s.groups → NoneFires c t s
 none_told c t s none q y f = none q.group q.guard (there y) (fires_there c t s q y f)
 
-pub found_told : (c : CodeParts) (t : Tree) (s : Site) (j n : ℕ) → FiresFirst c t s.groups j n → IsReady c t s (pick_of j n)
+pub found_told : (c : CodeParts) (t : Tree) (s : Site) (j n : ℕ) → FiresFirst c t s.groups j n
+    → IsReady c t s (pick_of j n)
 found_told c t s j n h = record {
   pick = here h.pick;
   fires = fires_here c t s j n h.pick h.fires;
@@ -42,6 +69,7 @@ found_told c t s j n h = record {
 }
 
 -- where nothing fires, no rule reacts
-pub quiet_where : (c : CodeParts) (t : Tree) (s : Site) (r : Option Pick) → IsCode c → IfNone r (NoneFires c t s) → IfNone r (NoRuleReacts c t s)
+pub quiet_where : (c : CodeParts) (t : Tree) (s : Site) (r : Option Pick) → IsCode c
+    → IfNone r (NoneFires c t s) → IfNone r (NoRuleReacts c t s)
 quiet_where c t s None code none = no_rule_reacts c t s code none
 quiet_where c t s (Some p) code none = tt

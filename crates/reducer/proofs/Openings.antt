@@ -1,5 +1,7 @@
 -- What the opening of a site leaves.
-use Rattle.std.proofs.Common.{◌≡◌, ℕ, zero, suc, ◌+◌, ◌<◌, ◌≤◌, ◌^◌, List, [], ◌∷◌, ◌++◌, length, Option, Some, None, Bool, true, false, refl, sym, ap, ◌∙◌, subst, arith, eq-eqb}
+use Rattle.std.proofs.Common.{◌≡◌, ℕ, zero, suc, ◌+◌, ◌<◌, ◌≤◌, ◌^◌, List, [], ◌∷◌, ◌++◌, length}
+use Rattle.std.proofs.Common.{Option, Some, None, Bool, true, false, refl, sym, ap, ◌∙◌, subst}
+use Rattle.std.proofs.Common.{arith, eq-eqb}
 use Rattle.std.specs.Prelude.{slice_get, ◌&&◌, ◌||◌, ◌==◌, not, nat_lt}
 use Rattle.chem_model.specs.declared.name.Loc.{Loc}
 use Rattle.chem_model.specs.declared.event.Out.{Out}
@@ -34,7 +36,15 @@ abbrev pub bare : ℕ → Site
 bare i = empty_site i 1 (root_of i ∷ [])
 
 pub bare_kept : (i : ℕ) → IsKept (bare i)
-bare_kept i = record { queues = tt; stuck = tt; apart = tt; groups_here = tt; stuck_here = tt; stuck_home = tt; requests_here = tt }
+bare_kept i = record {
+  queues = tt;
+  stuck = tt;
+  apart = tt;
+  groups_here = tt;
+  stuck_here = tt;
+  stuck_home = tt;
+  requests_here = tt;
+}
 
 or_true : (b : Bool) → (b || true) && true ≡ true
 or_true true = refl
@@ -51,21 +61,34 @@ pub root_here : (i : ℕ) → among (root_of i ∷ []) (loc_at i 0) ≡ true
 root_here i = ap (λ b. b || false) (same_loc_refl (loc_at i 0))
 
 -- what it makes may be left at the root alone
-pub opening_leaves : (c : CodeParts) (i : ℕ) (s : Site) (r : Run) → s ≡ bare i → HasRunFacts c i (loc_at i 0) [] 1 r → CanLeave r.births (all_told (told_by c) r.groups) (all_posted r.posts) s
+pub opening_leaves : (c : CodeParts) (i : ℕ) (s : Site) (r : Run) → s ≡ bare i
+    → HasRunFacts c i (loc_at i 0) [] 1 r
+    → CanLeave r.births (all_told (told_by c) r.groups) (all_posted r.posts) s
 opening_leaves c i s r same run =
-    subst (λ (u : Site). CanLeave r.births (all_told (told_by c) r.groups) (all_posted r.posts) u) (sym same)
-    (run-leaves c (bare i) (loc_at i 0) [] r run (root_here i) (bare_kept i) (λ j. omega arith) (bare_drawn i) (omega (arith, run.below)))
+    subst (λ (u : Site). CanLeave r.births (all_told (told_by c) r.groups) (all_posted r.posts) u)
+    (sym same)
+    (run-leaves c (bare i) (loc_at i 0) [] r run (root_here i) (bare_kept i) (λ j. omega arith)
+    (bare_drawn i) (omega (arith, run.below)))
 
 -- ---- what is left, and handed out
 
 abbrev pub IsLeft : CodeParts → Tree → Site → Run → Site → Effects → Type 0
-IsLeft c t s r new e = Answers (pour_here t r.next r.births (all_told (told_by c) r.groups) (all_posted r.posts) (taken_at 0 [] s)) r.outs r.births new e
+IsLeft c t s r new e = Answers (pour_here t r.next r.births (all_told (told_by c) r.groups)
+    (all_posted r.posts) (taken_at 0 [] s)) r.outs r.births new e
 
-pub as_opens : (c : CodeParts) (t : Tree) (i : ℕ) (site : SiteCode) (r : Run) (s new : Site) (made e : Effects) → s ≡ bare i → r ≡ run_of (site_made c i site) → IsLeft c t s r new made → e.sends ≡ made.sends → e.outs ≡ made.outs → e.births ≡ not_in t made.births → Opens c t i site new e
+pub as_opens :
+    (c : CodeParts) (t : Tree) (i : ℕ) (site : SiteCode) (r : Run) (s new : Site) (made e : Effects)
+    → s ≡ bare i → r ≡ run_of (site_made c i site) → IsLeft c t s r new made → e.sends ≡ made.sends
+    → e.outs ≡ made.outs → e.births ≡ not_in t made.births → Opens c t i site new e
 as_opens c t i site r s new made e same run left sends outs births =
     let a = site_made c i site in
-    let at : IsLeft c t (bare i) (run_of a) new made = subst (λ (u : Site). IsLeft c t u (run_of a) new made) same (subst (λ (q : Run). IsLeft c t s q new made) run left) in
-    let back : Answers (opened_by c t i site) a.outs a.births new made = subst (λ (ps : List Posted). Answers (pour_here t a.next a.births (all_told (told_by c) a.groups) ps (bare i)) a.outs a.births new made) (posted_back (posted_of a.atoms)) at in
+    let at : IsLeft c t (bare i) (run_of a) new made =
+    subst (λ (u : Site). IsLeft c t u (run_of a) new made) same
+    (subst (λ (q : Run). IsLeft c t s q new made) run left) in
+    let back : Answers (opened_by c t i site) a.outs a.births new made =
+    subst (λ (ps : List Posted).
+    Answers (pour_here t a.next a.births (all_told (told_by c) a.groups) ps (bare i))
+    a.outs a.births new made) (posted_back (posted_of a.atoms)) at in
     record {
       site = back.site;
       sends = subst (λ fs. AreFlights (opened_by c t i site).sends fs) (sym sends) back.sends;

@@ -40,17 +40,25 @@ module _ (t : Tree) (s : Site) (a : AtomId) (met : may_meet 2 t s a ≡ true) wh
     pub own_met : may_meet 2 t s q.id ≡ true
     own_met = ap (may_meet 2 t s) own ∙ met
 
-    pub ask_event : (c : CodeParts) (e : Event) → e ≡ event_for q.ask q.id → IsEventOf c s (choice.Ask a) e
+    pub ask_event : (c : CodeParts) (e : Event) → e ≡ event_for q.ask q.id
+        → IsEventOf c s (choice.Ask a) e
     ask_event c e is = (q, (here, is ∙ ap (event_for q.ask) own))
 
-    module _ (e : Event) (is : e ≡ event_for q.ask q.id) (fits : Type 0) (test : fits ↔ FitsHere s (event_for q.ask q.id)) (old : BookKept) (held : PassKept) (turn : Turn) (new : BookKept) (after : PassKept) (offered : Offers fits old held e turn new after) where
+    module _ (e : Event) (is : e ≡ event_for q.ask q.id) (fits : Type 0)
+        (test : fits ↔ FitsHere s (event_for q.ask q.id)) (old : BookKept) (held : PassKept)
+        (turn : Turn) (new : BookKept) (after : PassKept)
+        (offered : Offers fits old held e turn new after) where
       pub offers_ask : Offers (FitsHere s e) old held e turn new after
-      offers_ask = offers_as old held e fits (FitsHere s e) turn new after (λ f. subst (FitsHere s) (sym is) (test.0 f)) (λ f. test.1 (subst (FitsHere s) is f)) offered
+      offers_ask = offers_as old held e fits (FitsHere s e) turn new after
+          (λ f. subst (FitsHere s) (sym is) (test.0 f)) (λ f. test.1 (subst (FitsHere s) is f))
+          offered
 
       pub ask_fits : (place : ℕ) → turn ≡ Did place → FitsHere s (event_for q.ask q.id)
       ask_fits place at = test.0 (made_fits old held e fits turn place new after offered at)
 
-    pub ask_does : (turn : Turn) (counts seen : List ℕ) (u : Tree) (new : Site) (e : Effects) → counts ≡ seen → AfterAsk turn q.ask counts t s q.id u new e → (r : RequestParts) → request_with a s.requests ≡ Some r → AfterAsk turn r.ask seen t s a u new e
+    pub ask_does : (turn : Turn) (counts seen : List ℕ) (u : Tree) (new : Site) (e : Effects)
+        → counts ≡ seen → AfterAsk turn q.ask counts t s q.id u new e → (r : RequestParts)
+        → request_with a s.requests ≡ Some r → AfterAsk turn r.ask seen t s a u new e
     ask_does turn counts seen u new e same h r there =
         let is : q ≡ r = one_member (request_with a s.requests) q r here there in
         subst (λ (x : RequestParts). AfterAsk turn x.ask seen t s a u new e) is
@@ -63,5 +71,7 @@ module _ (t : Tree) (s : Site) (a : AtomId) (met : may_meet 2 t s a ≡ true) wh
     pub go_can : can_go 2 t a s ≡ true
     go_can = can_go_now 2 t s a goes.asked goes.here met goes.target goes.cont goes.asks
 
-    pub go_event : (c : CodeParts) (e : Event) → e ≡ event_for (request.Go goes.target goes.cont) a → IsEventOf c s (choice.Ask a) e
-    go_event c e is = (goes.asked, (goes.here, is ∙ ap (λ (v : Ask). event_for v a) (sym goes.asks)))
+    pub go_event : (c : CodeParts) (e : Event) → e ≡ event_for (request.Go goes.target goes.cont) a
+        → IsEventOf c s (choice.Ask a) e
+    go_event c e is =
+        (goes.asked, (goes.here, is ∙ ap (λ (v : Ask). event_for v a) (sym goes.asks)))

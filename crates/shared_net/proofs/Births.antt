@@ -1,5 +1,6 @@
 -- A reaction bears as many locations as its guard tells, where the site runs a program.
-use Rattle.std.proofs.Common.{◌≡◌, List, [], ◌∷◌, ◌++◌, length, true, refl, ap, ◌∙◌, subst, inl, inr}
+use Rattle.std.proofs.Common.{◌≡◌, List, [], ◌∷◌, ◌++◌, length, true, refl, ap, ◌∙◌, subst, inl}
+use Rattle.std.proofs.Common.{inr}
 use Rattle.chem_model.specs.Binders.{params_of}
 use Rattle.chem_model.specs.ProgramFacts.{ProgramTerms}
 use Rattle.env_store.specs.declared.code.Guard.{Guard}
@@ -26,14 +27,18 @@ use Rattle.shared_net.specs.Choosing.{OpensNone}
 use Rattle.shared_net.specs.Making.{AfterPick, BearsNone}
 use Rattle.shared_net.proofs.Acting.{pick_born}
 
-module _ (q : ProgramTerms) (c : CodeParts) (t : Tree) (s : Site) (p : Pick) (x : Picked) (code : IsCode c) (kept : IsKept s) (coded : is_in_code c t s ≡ true) (covers : Covers c s p x) (runs : RunsProgram q c s) where
+module _ (q : ProgramTerms) (c : CodeParts) (t : Tree) (s : Site) (p : Pick) (x : Picked)
+    (code : IsCode c) (kept : IsKept s) (coded : is_in_code c t s ≡ true) (covers : Covers c s p x)
+    (runs : RunsProgram q c s) where
   fronts : HaveFronts x.group.queues x.guard.chans
   fronts =
       let is = code.guards p.guard x.guard covers.picks.guard in
-      held_fronts (length is.level.counts) x.group.queues x.guard.chans x.guard.mask.words is.mask covers.held
+      held_fronts (length is.level.counts)
+      x.group.queues x.guard.chans x.guard.mask.words is.mask covers.held
 
   group : IsGroupIn q x.group.told.inst
-  group = each_get (λ (d : Told). IsGroupIn q d.inst) (told_in s.groups) p.group x.group.told (laid_at s.groups p.group x.group covers.picks.group) runs.groups
+  group = each_get (λ (d : Told). IsGroupIn q d.inst) (told_in s.groups)
+      p.group x.group.told (laid_at s.groups p.group x.group covers.picks.group) runs.groups
 
   has : HasRule q c p x
   has = has_rule q c s p x runs.program code runs.code group covers.picks
@@ -42,28 +47,39 @@ module _ (q : ProgramTerms) (c : CodeParts) (t : Tree) (s : Site) (p : Pick) (x 
   received_all =
       let of = level_at c t s p.group x.group coded covers.picks.group in
       let counts = (told_as c s p x covers.picks of).counts in
-      fronts_args x.group.told.inst x.group.told.counts x.group.queues x.guard.chans (queues_at s p.group x.group kept covers.picks.group) fronts
+      fronts_args x.group.told.inst x.group.told.counts x.group.queues x.guard.chans
+      (queues_at s p.group x.group kept covers.picks.group) fronts
       ∙ ap (λ ns. received ns x.guard.chans) counts
 
   args_long : length (args_of (taken_by x)) ≡ length (params_of has.rule.pats)
   args_long =
       let inst = x.group.told.inst in
-      let on : AreOn inst x.level.counts has.rule.pats x.guard.chans = subst (λ (u : Guard). AreOn inst x.level.counts has.rule.pats u.chans) has.guard has.reacts.chans in
+      let on : AreOn inst x.level.counts has.rule.pats x.guard.chans =
+      subst (λ (u : Guard). AreOn inst x.level.counts has.rule.pats u.chans)
+      has.guard has.reacts.chans in
       received_all ∙ received_is inst x.level.counts has.rule.pats x.guard.chans on
 
   pub births_counted : length (ran_by c s x).births ≡ x.guard.births
   births_counted =
       let inst = x.group.told.inst in
-      let counted : IsCounted x.guard.births x.guard.sends (ran_by c s x) = subst (λ (u : Guard). IsCounted u.births u.sends (code_made c s.number u.body (inst.env ++ args_of (taken_by x)) inst.loc s.made)) has.guard (has.reacts.counted (args_of (taken_by x)) args_long s.number inst.loc s.made) in
+      let counted : IsCounted x.guard.births x.guard.sends (ran_by c s x) =
+      subst (λ (u : Guard). IsCounted u.births u.sends
+      (code_made c s.number u.body (inst.env ++ args_of (taken_by x)) inst.loc s.made))
+      has.guard (has.reacts.counted (args_of (taken_by x)) args_long s.number inst.loc s.made) in
       counted.births_are
 
 nothing_long : {X : Type 0} (xs : List X) → length xs ≡ 0 → xs ≡ []
 nothing_long [] e = refl
 nothing_long (x ∷ xs) e = cc
 
-pub bears_none : (c : CodeParts) (t : Tree) (s : Site) (p : Pick) (x : Picked) (turn : Turn) (new : Site) (e : Effects) → IsCode c → IsKept s → is_in_code c t s ≡ true → Covers c s p x → OpensNone c s p → AfterPick c t s p turn new e → BearsNone c s e
+pub bears_none :
+    (c : CodeParts) (t : Tree) (s : Site) (p : Pick) (x : Picked) (turn : Turn) (new : Site)
+    (e : Effects) → IsCode c → IsKept s → is_in_code c t s ≡ true → Covers c s p x → OpensNone c s p
+    → AfterPick c t s p turn new e → BearsNone c s e
 bears_none c t s p x turn new e code kept coded covers none after q runs =
     elim (pick_born c t s p x covers.picks new e turn after) [
-      | inl born ↦ born ∙ nothing_long (ran_by c s x).births (births_counted q c t s p x code kept coded covers runs ∙ none x covers.picks)
+      | inl born ↦ born
+          ∙ nothing_long (ran_by c s x).births
+          (births_counted q c t s p x code kept coded covers runs ∙ none x covers.picks)
       | inr born ↦ born
     ]

@@ -1,9 +1,12 @@
 -- Lists of passes whose members agree one by one have the same owners.
-use Rattle.std.proofs.Common.{◌≡◌, ℕ, suc, ◌<◌, List, [], ◌∷◌, length, get_or, map, refl, ap, ◌∙◌, arith}
+use Rattle.std.proofs.Common.{◌≡◌, ℕ, suc, ◌<◌, List, [], ◌∷◌, length, get_or, map, refl, ap, ◌∙◌}
+use Rattle.std.proofs.Common.{arith}
 use Rattle.shared_net.specs.Passes.{PassKept}
 use Rattle.shared_net.specs.Turning.{owner, HaveSameOwners}
 
-pub same_owners : (xs ys : List PassKept) → length ys ≡ length xs → ((i : ℕ) (d : PassKept) → i < length xs → owner (get_or ys i d) ≡ owner (get_or xs i d)) → HaveSameOwners xs ys
+pub same_owners : (xs ys : List PassKept) → length ys ≡ length xs
+    → ((i : ℕ) (d : PassKept) → i < length xs → owner (get_or ys i d) ≡ owner (get_or xs i d))
+    → HaveSameOwners xs ys
 same_owners [] [] l each = refl
 same_owners [] (y ∷ ys) l each = absurd (omega arith)
 same_owners (x ∷ xs) [] l each = absurd (omega arith)

@@ -14,7 +14,12 @@ use Rattle.shared_net.specs.inside.Crosses.{PartsAreShared}
 budget_is_shared : IsSync u32
 budget_is_shared = search sendable
 
-pub all_shared : ProgramIsShared → CodeIsShared → LockedTreeIsShared → LockedSitesAreShared → LockedMailIsShared → PartsAreShared
+pub all_shared : ProgramIsShared → CodeIsShared → LockedTreeIsShared → LockedSitesAreShared
+    → LockedMailIsShared → PartsAreShared
 all_shared p c t s m =
-    let inner : IsSync parts.TheInside.the_row = declared_sync parts.TheInside.the_type (as_row_sync program.the_field p, (as_row_sync code.the_field c, (as_row_sync u32-field budget_is_shared, (t, (s, (m, tt)))))) in
-    view_sync parts.TheInside.the_row declared.Parts declared.the_code declared.TheView.view declared.TheView.invariant inner
+    let inner : IsSync parts.TheInside.the_row = declared_sync parts.TheInside.the_type (
+      as_row_sync program.the_field p,
+      (as_row_sync code.the_field c, (as_row_sync u32-field budget_is_shared, (t, (s, (m, tt))))),
+    ) in
+    view_sync parts.TheInside.the_row declared.Parts declared.the_code declared.TheView.view
+    declared.TheView.invariant inner

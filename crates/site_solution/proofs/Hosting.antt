@@ -1,5 +1,6 @@
 -- Locations as pairs of a set.
-use Rattle.std.proofs.Common.{◌≡◌, ℕ, suc, List, [], ◌∷◌, ◌++◌, length, Bool, false, Result, Ok, Err, refl, ap, ◌∙◌, if◌then◌else◌}
+use Rattle.std.proofs.Common.{◌≡◌, ℕ, suc, List, [], ◌∷◌, ◌++◌, length, Bool, false, Result, Ok}
+use Rattle.std.proofs.Common.{Err, refl, ap, ◌∙◌, if◌then◌else◌}
 use Rattle.std.specs.Prelude.{IsOk, IfOk, ◌||◌}
 use Rattle.std.specs.List.{list_any}
 use Rattle.loc_tree.proofs.Spots.{same_loc_sym}
@@ -9,14 +10,19 @@ use Rattle.net_laws.specs.Net.{among}
 use Rattle.site_solution.specs.inside.Hosted.{locs_of}
 use Rattle.site_solution.proofs.SamePair.{same_pair_as}
 
-same-there : (p : ℕ × ℕ) (l : Loc) → same_pair_as (l.site, l.k) p ≡ same_loc (record { site = p.0; k = p.1 }) l
+same-there : (p : ℕ × ℕ) (l : Loc)
+    → same_pair_as (l.site, l.k) p ≡ same_loc (record { site = p.0; k = p.1 }) l
 same-there p l = same_loc_sym l (record { site = p.0; k = p.1 })
 
-pub pairs-among : (ps : List (ℕ × ℕ)) (l : Loc) → list_any (same_pair_as (l.site, l.k)) ps ≡ among (locs_of ps) l
+pub pairs-among : (ps : List (ℕ × ℕ)) (l : Loc)
+    → list_any (same_pair_as (l.site, l.k)) ps ≡ among (locs_of ps) l
 pairs-among [] l = refl
-pairs-among (p ∷ ps) l = ap (λ (b : Bool). b || list_any (same_pair_as (l.site, l.k)) ps) (same-there p l) ∙ ap (λ (b : Bool). same_loc (record { site = p.0; k = p.1 }) l || b) (pairs-among ps l)
+pairs-among (p ∷ ps) l =
+    ap (λ (b : Bool). b || list_any (same_pair_as (l.site, l.k)) ps) (same-there p l)
+    ∙ ap (λ (b : Bool). same_loc (record { site = p.0; k = p.1 }) l || b) (pairs-among ps l)
 
-pub locs-more : (ps : List (ℕ × ℕ)) (p : ℕ × ℕ) → locs_of (ps ++ p ∷ []) ≡ locs_of ps ++ record { site = p.0; k = p.1 } ∷ []
+pub locs-more : (ps : List (ℕ × ℕ)) (p : ℕ × ℕ)
+    → locs_of (ps ++ p ∷ []) ≡ locs_of ps ++ record { site = p.0; k = p.1 } ∷ []
 locs-more [] p = refl
 locs-more (q ∷ ps) p = ap (λ (ls : List Loc). record { site = q.0; k = q.1 } ∷ ls) (locs-more ps p)
 
@@ -24,11 +30,15 @@ pub length-locs_of : (ps : List (ℕ × ℕ)) → length (locs_of ps) ≡ length
 length-locs_of [] = refl
 length-locs_of (p ∷ ps) = ap suc (length-locs_of ps)
 
-pub if-ok : {A E : Type 0} (r : Result A E) (P : A → Type 0) (Q : Type 0) → IsOk r → IfOk r P → ((a : A) → P a → Q) → Q
+pub if-ok : {A E : Type 0} (r : Result A E) (P : A → Type 0) (Q : Type 0) → IsOk r → IfOk r P
+    → ((a : A) → P a → Q) → Q
 if-ok (Ok a) P Q ok p f = f a p
 if-ok (Err e) P Q ok p f = absurd (cc)
 
-pub inserted : (ps : List (ℕ × ℕ)) (l : Loc) (new : List (ℕ × ℕ)) → among (locs_of ps) l ≡ false → new ≡ (if list_any (same_pair_as (l.site, l.k)) ps then ps else ps ++ (l.site, l.k) ∷ []) → locs_of new ≡ locs_of ps ++ l ∷ []
+pub inserted : (ps : List (ℕ × ℕ)) (l : Loc) (new : List (ℕ × ℕ)) → among (locs_of ps) l ≡ false
+    → new ≡ (if list_any (same_pair_as (l.site, l.k)) ps then ps else ps ++ (l.site, l.k) ∷ [])
+    → locs_of new ≡ locs_of ps ++ l ∷ []
 inserted ps l new absent is =
     let none : list_any (same_pair_as (l.site, l.k)) ps ≡ false = pairs-among ps l ∙ absent in
-    ap locs_of (is ∙ ap (λ (b : Bool). if b then ps else ps ++ (l.site, l.k) ∷ []) none) ∙ locs-more ps (l.site, l.k)
+    ap locs_of (is ∙ ap (λ (b : Bool). if b then ps else ps ++ (l.site, l.k) ∷ []) none)
+    ∙ locs-more ps (l.site, l.k)

@@ -1,5 +1,6 @@
 -- What a site keeps where a location leaves it.
-use Rattle.std.proofs.Common.{◌≡◌, ℕ, suc, ◌+◌, ◌≤◌, Bool, true, false, cond, List, [], ◌∷◌, length, refl, sym, ap, subst, ◌∙◌, arith}
+use Rattle.std.proofs.Common.{◌≡◌, ℕ, suc, ◌+◌, ◌≤◌, Bool, true, false, cond, List, [], ◌∷◌, length}
+use Rattle.std.proofs.Common.{refl, sym, ap, subst, ◌∙◌, arith}
 use Rattle.std.specs.Prelude.{not, filter, nat_eq, ◌||◌}
 use Rattle.std.proofs.lemmas.Bool.Decides.{nat_tests}
 use Rattle.chem_model.specs.declared.name.Loc.{Loc}
@@ -12,7 +13,8 @@ use Rattle.net_laws.specs.Site.{Group, Site}
 use Rattle.net_laws.specs.Parcels.{groups_but, stuck_but, requests_but, locs_but, remove}
 use Rattle.net_laws.proofs.Parcels.{each_laid_but, removed_kept}
 use Rattle.site_solution.specs.CanLay.{HasNumbers}
-use Rattle.site_solution.specs.Counted.{over_queues, over_groups, over_stuck, over_requests, is_id, id_of, one_each}
+use Rattle.site_solution.specs.Counted.{over_queues, over_groups, over_stuck, over_requests, is_id}
+use Rattle.site_solution.specs.Counted.{id_of, one_each}
 use Rattle.site_solution.specs.inside.Hosted.{locs_of}
 use Rattle.site_solution.specs.Rising.{AllAfter, Rising, AreAsked}
 use Rattle.site_solution.proofs.Adding.{IsWhole}
@@ -24,7 +26,9 @@ module _ (f : MessageParts → ℕ) where
   over-groups_but l [] = omega arith
   over-groups_but l (g ∷ gs) = by_test (same_loc l g.told.inst.loc) (over-groups_but l gs)
     where
-      by_test : (b : Bool) → over_groups f (groups_but l gs) ≤ over_groups f gs → over_groups f (cond b (groups_but l gs) (g ∷ groups_but l gs)) ≤ over_queues f g.queues + over_groups f gs
+      by_test : (b : Bool) → over_groups f (groups_but l gs) ≤ over_groups f gs
+          → over_groups f (cond b (groups_but l gs) (g ∷ groups_but l gs))
+          ≤ over_queues f g.queues + over_groups f gs
       by_test true rest = omega arith
       by_test false rest = omega arith
 
@@ -32,23 +36,36 @@ module _ (f : MessageParts → ℕ) where
   over-stuck_but l [] = omega arith
   over-stuck_but l (w ∷ ws) = by_test (same_loc l w.loc) (over-stuck_but l ws)
     where
-      by_test : (b : Bool) → over_stuck f (stuck_but l ws) ≤ over_stuck f ws → over_stuck f (cond b (stuck_but l ws) (w ∷ stuck_but l ws)) ≤ f w.msg + over_stuck f ws
+      by_test : (b : Bool) → over_stuck f (stuck_but l ws) ≤ over_stuck f ws
+          → over_stuck f (cond b (stuck_but l ws) (w ∷ stuck_but l ws)) ≤ f w.msg + over_stuck f ws
       by_test true rest = omega arith
       by_test false rest = omega arith
 
-over-requests_but : (i : AtomId) (l : Loc) (qs : List RequestParts) → over_requests i (requests_but l qs) ≤ over_requests i qs
+over-requests_but : (i : AtomId) (l : Loc) (qs : List RequestParts)
+    → over_requests i (requests_but l qs) ≤ over_requests i qs
 over-requests_but i l [] = omega arith
 over-requests_but i l (q ∷ qs) = by_test (same_loc l q.loc) (over-requests_but i l qs)
   where
-    by_test : (b : Bool) → over_requests i (requests_but l qs) ≤ over_requests i qs → over_requests i (cond b (requests_but l qs) (q ∷ requests_but l qs)) ≤ is_id i q.id + over_requests i qs
+    by_test : (b : Bool) → over_requests i (requests_but l qs) ≤ over_requests i qs
+        → over_requests i (cond b (requests_but l qs) (q ∷ requests_but l qs))
+        ≤ is_id i q.id + over_requests i qs
     by_test true rest = omega arith
     by_test false rest = omega arith
 
 pub removed-whole : (l : Loc) (s : Site) → IsWhole s → IsWhole (remove l s)
 removed-whole l s whole = record {
   kept = removed_kept l s whole.kept;
-  once = λ i. let o = whole.once i in omega (arith, over-groups_but (id_of i) l s.groups, over-stuck_but (id_of i) l s.stuck, over-requests_but i l s.requests);
-  few_waiting = let few = whole.few_waiting in omega (arith, over-groups_but one_each l s.groups, over-stuck_but one_each l s.stuck);
+  once = λ i.
+      let o = whole.once i in
+      omega (
+        arith,
+        over-groups_but (id_of i) l s.groups,
+        over-stuck_but (id_of i) l s.stuck,
+        over-requests_but i l s.requests,
+      );
+  few_waiting =
+      let few = whole.few_waiting in
+      omega (arith, over-groups_but one_each l s.groups, over-stuck_but one_each l s.stuck);
   numbers = each_laid_but l HasNumbers s.groups whole.numbers;
 }
 
@@ -56,25 +73,35 @@ pub length-groups_but : (l : Loc) (gs : List Group) → length (groups_but l gs)
 length-groups_but l [] = omega arith
 length-groups_but l (g ∷ gs) = by_test (same_loc l g.told.inst.loc) (length-groups_but l gs)
   where
-    by_test : (b : Bool) → length (groups_but l gs) ≤ length gs → length (cond b (groups_but l gs) (g ∷ groups_but l gs)) ≤ suc (length gs)
+    by_test : (b : Bool) → length (groups_but l gs) ≤ length gs
+        → length (cond b (groups_but l gs) (g ∷ groups_but l gs)) ≤ suc (length gs)
     by_test true rest = omega arith
     by_test false rest = omega arith
 
 -- ---- what the code filters
 
-pub stuck-kept : (l : Loc) (ws : List Waiting) → filter (λ (w : Waiting). not (same_loc l w.loc)) ws ≡ stuck_but l ws
+pub stuck-kept : (l : Loc) (ws : List Waiting)
+    → filter (λ (w : Waiting). not (same_loc l w.loc)) ws ≡ stuck_but l ws
 stuck-kept l [] = refl
 stuck-kept l (w ∷ ws) = by_test (same_loc l w.loc) (stuck-kept l ws)
   where
-    by_test : (b : Bool) → filter (λ (v : Waiting). not (same_loc l v.loc)) ws ≡ stuck_but l ws → cond (not b) (w ∷ filter (λ (v : Waiting). not (same_loc l v.loc)) ws) (filter (λ (v : Waiting). not (same_loc l v.loc)) ws) ≡ cond b (stuck_but l ws) (w ∷ stuck_but l ws)
+    by_test : (b : Bool) → filter (λ (v : Waiting). not (same_loc l v.loc)) ws ≡ stuck_but l ws
+        → cond (not b) (w ∷ filter (λ (v : Waiting). not (same_loc l v.loc)) ws)
+        (filter (λ (v : Waiting). not (same_loc l v.loc)) ws)
+        ≡ cond b (stuck_but l ws) (w ∷ stuck_but l ws)
     by_test true rest = rest
     by_test false rest = ap (λ vs. w ∷ vs) rest
 
-pub requests-kept : (l : Loc) (qs : List RequestParts) → filter (λ (q : RequestParts). not (same_loc l q.loc)) qs ≡ requests_but l qs
+pub requests-kept : (l : Loc) (qs : List RequestParts)
+    → filter (λ (q : RequestParts). not (same_loc l q.loc)) qs ≡ requests_but l qs
 requests-kept l [] = refl
 requests-kept l (q ∷ qs) = by_test (same_loc l q.loc) (requests-kept l qs)
   where
-    by_test : (b : Bool) → filter (λ (r : RequestParts). not (same_loc l r.loc)) qs ≡ requests_but l qs → cond (not b) (q ∷ filter (λ (r : RequestParts). not (same_loc l r.loc)) qs) (filter (λ (r : RequestParts). not (same_loc l r.loc)) qs) ≡ cond b (requests_but l qs) (q ∷ requests_but l qs)
+    by_test : (b : Bool)
+        → filter (λ (r : RequestParts). not (same_loc l r.loc)) qs ≡ requests_but l qs
+        → cond (not b) (q ∷ filter (λ (r : RequestParts). not (same_loc l r.loc)) qs)
+        (filter (λ (r : RequestParts). not (same_loc l r.loc)) qs)
+        ≡ cond b (requests_but l qs) (q ∷ requests_but l qs)
     by_test true rest = rest
     by_test false rest = ap (λ rs. q ∷ rs) rest
 
@@ -85,23 +112,29 @@ is_other l p = not (nat_eq p.0 l.site) || not (nat_eq p.1 l.k)
 other-is : (l : Loc) (p : ℕ × ℕ) → is_other l p ≡ not (same_loc l (record { site = p.0; k = p.1 }))
 other-is l p = grind (arith, nat_tests)
 
-pub locs-kept : (l : Loc) (ps : List (ℕ × ℕ)) → locs_of (filter (is_other l) ps) ≡ locs_but l (locs_of ps)
+pub locs-kept : (l : Loc) (ps : List (ℕ × ℕ))
+    → locs_of (filter (is_other l) ps) ≡ locs_but l (locs_of ps)
 locs-kept l [] = refl
 locs-kept l (p ∷ ps) =
     ap (λ b. locs_of (cond b (p ∷ filter (is_other l) ps) (filter (is_other l) ps))) (other-is l p)
     ∙ by_test (same_loc l (record { site = p.0; k = p.1 })) (locs-kept l ps)
   where
-    by_test : (b : Bool) → locs_of (filter (is_other l) ps) ≡ locs_but l (locs_of ps) → locs_of (cond (not b) (p ∷ filter (is_other l) ps) (filter (is_other l) ps)) ≡ cond b (locs_but l (locs_of ps)) (record { site = p.0; k = p.1 } ∷ locs_but l (locs_of ps))
+    by_test : (b : Bool) → locs_of (filter (is_other l) ps) ≡ locs_but l (locs_of ps)
+        → locs_of (cond (not b) (p ∷ filter (is_other l) ps) (filter (is_other l) ps))
+        ≡ cond b (locs_but l (locs_of ps))
+        (record { site = p.0; k = p.1 } ∷ locs_but l (locs_of ps))
     by_test true rest = rest
     by_test false rest = ap (λ xs. record { site = p.0; k = p.1 } ∷ xs) rest
 
 -- ---- requests still rise
 
-after-but : (i : AtomId) (l : Loc) (qs : List RequestParts) → AllAfter i qs → AllAfter i (requests_but l qs)
+after-but : (i : AtomId) (l : Loc) (qs : List RequestParts) → AllAfter i qs
+    → AllAfter i (requests_but l qs)
 after-but i l [] all = tt
 after-but i l (q ∷ qs) all = by_test (same_loc l q.loc) (after-but i l qs all.1)
   where
-    by_test : (b : Bool) → AllAfter i (requests_but l qs) → AllAfter i (cond b (requests_but l qs) (q ∷ requests_but l qs))
+    by_test : (b : Bool) → AllAfter i (requests_but l qs)
+        → AllAfter i (cond b (requests_but l qs) (q ∷ requests_but l qs))
     by_test true rest = rest
     by_test false rest = (all.0, rest)
 
@@ -109,7 +142,8 @@ rising-but : (l : Loc) (qs : List RequestParts) → Rising qs → Rising (reques
 rising-but l [] rising = tt
 rising-but l (q ∷ qs) rising = by_test (same_loc l q.loc) (rising-but l qs rising.1)
   where
-    by_test : (b : Bool) → Rising (requests_but l qs) → Rising (cond b (requests_but l qs) (q ∷ requests_but l qs))
+    by_test : (b : Bool) → Rising (requests_but l qs)
+        → Rising (cond b (requests_but l qs) (q ∷ requests_but l qs))
     by_test true rest = rest
     by_test false rest = (after-but q.id l qs rising.0, rest)
 
@@ -117,9 +151,14 @@ length-requests_but : (l : Loc) (qs : List RequestParts) → length (requests_bu
 length-requests_but l [] = omega arith
 length-requests_but l (q ∷ qs) = by_test (same_loc l q.loc) (length-requests_but l qs)
   where
-    by_test : (b : Bool) → length (requests_but l qs) ≤ length qs → length (cond b (requests_but l qs) (q ∷ requests_but l qs)) ≤ suc (length qs)
+    by_test : (b : Bool) → length (requests_but l qs) ≤ length qs
+        → length (cond b (requests_but l qs) (q ∷ requests_but l qs)) ≤ suc (length qs)
     by_test true rest = omega arith
     by_test false rest = omega arith
 
-pub asked-but : (l : Loc) (qs new : List RequestParts) → new ≡ requests_but l qs → AreAsked qs → AreAsked new
-asked-but l qs new is asked = subst AreAsked (sym is) (record { rising = rising-but l qs asked.rising; few = omega (arith, asked.few, length-requests_but l qs) })
+pub asked-but : (l : Loc) (qs new : List RequestParts) → new ≡ requests_but l qs → AreAsked qs
+    → AreAsked new
+asked-but l qs new is asked = subst AreAsked (sym is) (record {
+  rising = rising-but l qs asked.rising;
+  few = omega (arith, asked.few, length-requests_but l qs);
+})

@@ -1,5 +1,6 @@
 -- What each end of the command says.
-use Rattle.std.proofs.Common.{◌≡◌, ℕ, List, [], Option, Some, None, true, false, ◌⊎◌, inl, inr, refl, ap, sym, ◌∙◌, subst}
+use Rattle.std.proofs.Common.{◌≡◌, ℕ, List, [], Option, Some, None, true, false, ◌⊎◌, inl, inr}
+use Rattle.std.proofs.Common.{refl, ap, sym, ◌∙◌, subst}
 use Rattle.std.proofs.lemmas.Bool.{true≢false}
 use Rattle.std.proofs.lemmas.List.{append-nil}
 use Rattle.std.specs.Io.KnownBytes.{Appends}
@@ -8,7 +9,8 @@ use Rattle.sort_check.specs.declared.judged.Judged.{Judged}
 use Rattle.sort_check.specs.declared.judged.Judged.TheVariants.{Yes, No}
 use Rattle.text_program.specs.Streams.{Gains, line_of}
 use Rattle.sort_judge.specs.Verdict.{verdict_status}
-use Rattle.sort_judge.specs.Command.{IsTold, was_judged, IsSortStatus, IsSourceReadAt, IsRefusedSource, WritesVerdict}
+use Rattle.sort_judge.specs.Command.{IsTold, was_judged, IsSortStatus, IsSourceReadAt}
+use Rattle.sort_judge.specs.Command.{IsRefusedSource, WritesVerdict}
 use Rattle.sort_judge.specs.inside.Ends.{IsEnd, judged, cut_off, refused, unread, no_memory}
 
 -- ---- statuses
@@ -17,8 +19,10 @@ two_statuses : (v : Judged) → (verdict_status v ≡ 0) ⊎ (verdict_status v �
 two_statuses Yes = inl refl
 two_statuses (No kind place) = inr refl
 
-told_status : (text told : List ℕ) (status : ℕ) → IsTold text told status → (status ≡ 0) ⊎ (status ≡ 7)
-told_status text told status h = elim (two_statuses h.verdict) [ inl e ↦ inl (h.status_is ∙ e) | inr e ↦ inr (h.status_is ∙ e) ]
+told_status : (text told : List ℕ) (status : ℕ) → IsTold text told status
+    → (status ≡ 0) ⊎ (status ≡ 7)
+told_status text told status h =
+    elim (two_statuses h.verdict) [ inl e ↦ inl (h.status_is ∙ e) | inr e ↦ inr (h.status_is ∙ e) ]
 
 module _ (status : ℕ) where
   abbrev IsTwo : Type 0
@@ -65,7 +69,8 @@ module _ (status : ℕ) where
 
 -- ---- the clauses
 
-module _ (old new : Option (List ℕ)) (fault : Type 0) (was now : Option (List ℕ)) (failed untouched : Type 0) (gains : List ℕ → Type 0) (silent : Type 0) (status : ℕ) where
+module _ (old new : Option (List ℕ)) (fault : Type 0) (was now : Option (List ℕ))
+    (failed untouched : Type 0) (gains : List ℕ → Type 0) (silent : Type 0) (status : ℕ) where
   abbrev End : Type 0
   End = IsEnd old new fault was now failed untouched gains silent status
 
@@ -77,14 +82,16 @@ module _ (old new : Option (List ℕ)) (fault : Type 0) (was now : Option (List 
   known (no_memory took u l e) = inr (inr (inr (inr (inl e))))
 
   pub read_fault : End → status ≡ 3 → fault
-  read_fault (judged text told whole is j w s) h = absurd (not_three status (told_status text told status j) h)
+  read_fault (judged text told whole is j w s) h =
+      absurd (not_three status (told_status text told status j) h)
   read_fault (cut_off text told meant whole is j p f l e) h = absurd cc
   read_fault (refused kind place took r u l e) h = absurd cc
   read_fault (unread took f u l e) h = f
   read_fault (no_memory took u l e) h = absurd cc
 
   pub write_fault : End → status ≡ 4 → failed
-  write_fault (judged text told whole is j w s) h = absurd (not_four status (told_status text told status j) h)
+  write_fault (judged text told whole is j w s) h =
+      absurd (not_four status (told_status text told status j) h)
   write_fault (cut_off text told meant whole is j p f l e) h = f
   write_fault (refused kind place took r u l e) h = absurd cc
   write_fault (unread took f u l e) h = absurd cc
@@ -118,9 +125,11 @@ module _ (old new : Option (List ℕ)) (fault : Type 0) (was now : Option (List 
   }
 
   pub refusal : End → status ≡ 1 → IsRefusedSource old gains
-  refusal (judged text told whole is j w s) h = absurd (not_one status (told_status text told status j) h)
+  refusal (judged text told whole is j w s) h =
+      absurd (not_one status (told_status text told status j) h)
   refusal (cut_off text told meant whole is j p f l e) h = absurd cc
-  refusal (refused kind place took r u l e) h = record { kind = kind; place = place; refusal = r; line = l }
+  refusal (refused kind place took r u l e) h =
+      record { kind = kind; place = place; refusal = r; line = l }
   refusal (unread took f u l e) h = absurd cc
   refusal (no_memory took u l e) h = absurd cc
 
@@ -144,8 +153,10 @@ module _ (old new : Option (List ℕ)) (fault : Type 0) (was now : Option (List 
   has_told (no_memory took u l e) h = absurd (without status 6 refl e h)
 
   pub out_untouched : End → was_judged status ≡ false → untouched
-  out_untouched (judged text told whole is j w s) h = absurd (with_verdict status (told_status text told status j) h)
-  out_untouched (cut_off text told meant whole is j p f l e) h = absurd (true≢false (ap was_judged (sym e) ∙ h))
+  out_untouched (judged text told whole is j w s) h =
+      absurd (with_verdict status (told_status text told status j) h)
+  out_untouched (cut_off text told meant whole is j p f l e) h =
+      absurd (true≢false (ap was_judged (sym e) ∙ h))
   out_untouched (refused kind place took r u l e) h = u
   out_untouched (unread took f u l e) h = u
   out_untouched (no_memory took u l e) h = u
@@ -163,18 +174,29 @@ nothing_gained None = tt
 nothing_gained (Some bytes) = sym (append-nil bytes)
 
 module _ {E : Type 0} (held : E → Option (List ℕ)) (faults : E → ℕ) (old_err new_err : E) where
-  no_line : (status : ℕ) → new_err ≡ old_err → (status ≡ 0) ⊎ (status ≡ 7) → Gains held faults old_err new_err (line_of status)
-  no_line status same (inl e) = subst (λ (s : ℕ). Gains held faults old_err new_err (line_of s)) (sym e) (subst (λ (x : E). Gains held faults old_err x []) (sym same) (inl (nothing_gained (held old_err))))
-  no_line status same (inr e) = subst (λ (s : ℕ). Gains held faults old_err new_err (line_of s)) (sym e) (subst (λ (x : E). Gains held faults old_err x []) (sym same) (inl (nothing_gained (held old_err))))
+  no_line : (status : ℕ) → new_err ≡ old_err → (status ≡ 0) ⊎ (status ≡ 7)
+      → Gains held faults old_err new_err (line_of status)
+  no_line status same (inl e) = subst (λ (s : ℕ). Gains held faults old_err new_err (line_of s))
+      (sym e) (subst (λ (x : E). Gains held faults old_err x []) (sym same)
+      (inl (nothing_gained (held old_err))))
+  no_line status same (inr e) = subst (λ (s : ℕ). Gains held faults old_err new_err (line_of s))
+      (sym e) (subst (λ (x : E). Gains held faults old_err x []) (sym same)
+      (inl (nothing_gained (held old_err))))
 
-  at : (status k : ℕ) → status ≡ k → Gains held faults old_err new_err (line_of k) → Gains held faults old_err new_err (line_of status)
+  at : (status k : ℕ) → status ≡ k → Gains held faults old_err new_err (line_of k)
+      → Gains held faults old_err new_err (line_of status)
   at status k e l = subst (λ (s : ℕ). Gains held faults old_err new_err (line_of s)) (sym e) l
 
-  pub line : (old new : Option (List ℕ)) (fault : Type 0) (was now : Option (List ℕ)) (failed untouched : Type 0) (status : ℕ)
-      → IsEnd old new fault was now failed untouched (Gains held faults old_err new_err) (new_err ≡ old_err) status
+  pub line :
+      (old new : Option (List ℕ)) (fault : Type 0) (was now : Option (List ℕ))
+      (failed untouched : Type 0) (status : ℕ)
+      → IsEnd old new fault was now failed untouched (Gains held faults old_err new_err)
+      (new_err ≡ old_err) status
       → (status ≡ 1) ⊎ Gains held faults old_err new_err (line_of status)
-  line old new fault was now failed untouched status (judged text told whole is j w s) = inr (no_line status s (told_status text told status j))
-  line old new fault was now failed untouched status (cut_off text told meant whole is j p f l e) = inr (at status 4 e l)
+  line old new fault was now failed untouched status (judged text told whole is j w s) =
+      inr (no_line status s (told_status text told status j))
+  line old new fault was now failed untouched status (cut_off text told meant whole is j p f l e) =
+      inr (at status 4 e l)
   line old new fault was now failed untouched status (refused kind place took r u l e) = inl e
   line old new fault was now failed untouched status (unread took f u l e) = inr (at status 3 e l)
   line old new fault was now failed untouched status (no_memory took u l e) = inr (at status 6 e l)

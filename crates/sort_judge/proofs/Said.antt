@@ -14,12 +14,15 @@ use Rattle.sort_judge.specs.Verdict.{IsVerdict}
 use Rattle.sort_judge.specs.inside.Said.{IsFaultOf}
 
 module _ (ls : List Line) (tree : TreeOfText) (p : ProgramTerms) where
-  pub is_verdict : (end : SortEnd) (r : Result Judged Memory) → NamesFault ls end → IfOk r (IsFaultOf end) → IfOk r (IsVerdict ls tree p)
-  is_verdict (sort_end.Fault kind place) (Ok v) first is = subst (IsVerdict ls tree p) (sym is) (inl first)
+  pub is_verdict : (end : SortEnd) (r : Result Judged Memory) → NamesFault ls end
+      → IfOk r (IsFaultOf end) → IfOk r (IsVerdict ls tree p)
+  is_verdict (sort_end.Fault kind place) (Ok v) first is =
+      subst (IsVerdict ls tree p) (sym is) (inl first)
   is_verdict sort_end.Memory (Ok v) first is = absurd is
   is_verdict end (Err e) first is = tt
 
-  pub keeps : (end : SortEnd) (r : Result Judged Memory) → IfOk r (IsFaultOf end) → IfOk r (MeansNoWrongAtom p)
+  pub keeps : (end : SortEnd) (r : Result Judged Memory) → IfOk r (IsFaultOf end)
+      → IfOk r (MeansNoWrongAtom p)
   keeps (sort_end.Fault kind place) (Ok v) is = subst (MeansNoWrongAtom p) (sym is) tt
   keeps sort_end.Memory (Ok v) is = absurd is
   keeps end (Err e) is = tt

@@ -1,6 +1,7 @@
 -- Terms that keep the sorts of their names keep them where more names are given, and where they are
 -- filled.
-use Rattle.std.proofs.Common.{◌≡◌, ℕ, List, [], ◌∷◌, ◌++◌, Some, Bool, true, false, cond, refl, sym, ap, ◌∙◌, subst, ◌==◌, eqb-true, inl, inr}
+use Rattle.std.proofs.Common.{◌≡◌, ℕ, List, [], ◌∷◌, ◌++◌, Some, Bool, true, false, cond, refl, sym}
+use Rattle.std.proofs.Common.{ap, ◌∙◌, subst, ◌==◌, eqb-true, inl, inr}
 use Rattle.chem_model.specs.declared.name.Name.{Name}
 use Rattle.chem_model.specs.declared.name.Name.TheVariants as name
 use Rattle.chem_model.specs.declared.name.Ref.{Ref}
@@ -8,12 +9,17 @@ use Rattle.chem_model.specs.declared.name.Ref.TheVariants.{Binder, Known}
 use Rattle.chem_model.specs.declared.name.Pat.{Pat}
 use Rattle.chem_model.specs.declared.numbered.Named.{Named}
 use Rattle.chem_model.specs.declared.numbered.NumberedRule.{NumberedRule}
-use Rattle.chem_model.specs.Process.{Process, Msg, Par, Def, Go, Fail, Halt, Processes, none, one_more, Definition, Rule, Place, Definitions, no_definition, and_also}
+use Rattle.chem_model.specs.Process.{Process, Msg, Par, Def, Go, Fail, Halt, Processes, none}
+use Rattle.chem_model.specs.Process.{one_more, Definition, Rule, Place, Definitions, no_definition}
+use Rattle.chem_model.specs.Process.{and_also}
 use Rattle.chem_model.specs.Each.{Each, IsIn}
-use Rattle.chem_model.specs.Fill.{Naming, name_at, or_binder, fill_ref, fill_refs, fill_pats, fill, fill_all, fill_definition, fill_definitions}
+use Rattle.chem_model.specs.Fill.{Naming, name_at, or_binder, fill_ref, fill_refs, fill_pats, fill}
+use Rattle.chem_model.specs.Fill.{fill_all, fill_definition, fill_definitions}
 use Rattle.chem_model.specs.Operations.{add, same}
 use Rattle.sort_laws.specs.declared.sorts.SortArg.{SortArg}
-use Rattle.sort_laws.specs.Sorted.{Sorting, HasSort, RefHas, Takes, IsChannel, KeepsArguments, KeepsAdd, KeepsSame, KeepsAs, KeepsMessage, KeepsPattern, Keeps, KeepsAll, KeepsDefinition, KeepsDefinitions, KeepsRule}
+use Rattle.sort_laws.specs.Sorted.{Sorting, HasSort, RefHas, Takes, IsChannel, KeepsArguments}
+use Rattle.sort_laws.specs.Sorted.{KeepsAdd, KeepsSame, KeepsAs, KeepsMessage, KeepsPattern, Keeps}
+use Rattle.sort_laws.specs.Sorted.{KeepsAll, KeepsDefinition, KeepsDefinitions, KeepsRule}
 
 -- ---- members of lists
 
@@ -48,7 +54,8 @@ module _ (t : Sorting) (N M : Naming) (more : (e : Named) → IsIn e N → IsIn 
   pub has_more : (n : Name) (s : SortArg) → HasSort t N n s → HasSort t M n s
   has_more (name.Seen i) s h = h
   has_more (name.Place a) s h = h
-  has_more (name.Chan site k l) s h = record { entry = h.entry; given = more h.entry h.given; name = h.name; sort = h.sort }
+  has_more (name.Chan site k l) s h =
+      record { entry = h.entry; given = more h.entry h.given; name = h.name; sort = h.sort }
   has_more (name.Num n) s h = h
   has_more (name.Op i) s h = h
 
@@ -66,7 +73,11 @@ module _ (t : Sorting) (N M : Naming) (more : (e : Named) → IsIn e N → IsIn 
   takes_more (r ∷ rs) (s ∷ ss) h = (ref_more r s h.0, takes_more rs ss h.1)
 
   arguments_more : (x : Ref) (vs : List Ref) → KeepsArguments t N x vs → KeepsArguments t M x vs
-  arguments_more x vs h = record { sorts = h.sorts; channel = channel_more x h.sorts h.channel; takes = takes_more vs h.sorts h.takes }
+  arguments_more x vs h = record {
+    sorts = h.sorts;
+    channel = channel_more x h.sorts h.channel;
+    takes = takes_more vs h.sorts h.takes;
+  }
 
   add_more : (vs : List Ref) → KeepsAdd t N vs → KeepsAdd t M vs
   add_more (u ∷ v ∷ k ∷ []) h = (ref_more u _ h.0, ref_more v _ h.1, channel_more k _ h.2)
@@ -76,14 +87,16 @@ module _ (t : Sorting) (N M : Naming) (more : (e : Named) → IsIn e N → IsIn 
   add_more (u ∷ v ∷ k ∷ x ∷ xs) h = absurd h
 
   same_more : (vs : List Ref) → KeepsSame t N vs → KeepsSame t M vs
-  same_more (u ∷ v ∷ k ∷ m ∷ []) h = (ref_more u _ h.0, ref_more v _ h.1, channel_more k [] h.2, channel_more m [] h.3)
+  same_more (u ∷ v ∷ k ∷ m ∷ []) h =
+      (ref_more u _ h.0, ref_more v _ h.1, channel_more k [] h.2, channel_more m [] h.3)
   same_more [] h = absurd h
   same_more (u ∷ []) h = absurd h
   same_more (u ∷ v ∷ []) h = absurd h
   same_more (u ∷ v ∷ k ∷ []) h = absurd h
   same_more (u ∷ v ∷ k ∷ m ∷ x ∷ xs) h = absurd h
 
-  operation_more : (is_add is_same : Bool) (vs : List Ref) → KeepsAs is_add is_same t N vs → KeepsAs is_add is_same t M vs
+  operation_more : (is_add is_same : Bool) (vs : List Ref) → KeepsAs is_add is_same t N vs
+      → KeepsAs is_add is_same t M vs
   operation_more true c vs h = add_more vs h
   operation_more false true vs h = same_more vs h
   operation_more false false vs h = h
@@ -98,7 +111,14 @@ module _ (t : Sorting) (N M : Naming) (more : (e : Named) → IsIn e N → IsIn 
 
   pub pats_more : (ps : List Pat) → Each (KeepsPattern t N) ps → Each (KeepsPattern t M) ps
   pats_more [] h = tt
-  pats_more (p ∷ ps) h = (record { sorts = h.0.sorts; channel = channel_more p.on h.0.sorts h.0.channel; receives = h.0.receives }, pats_more ps h.1)
+  pats_more (p ∷ ps) h = (
+    record {
+      sorts = h.0.sorts;
+      channel = channel_more p.on h.0.sorts h.0.channel;
+      receives = h.0.receives;
+    },
+    pats_more ps h.1,
+  )
 
   mutual
     pub keeps_more : (p : Process) → Keeps t N p → Keeps t M p
@@ -135,7 +155,8 @@ module _ (t : Sorting) (N : Naming) where
   arguments_keep (Known (name.Num n)) vs h = h
   arguments_keep (Known (name.Op i)) vs h = absurd h.channel.has
 
-  pub channel_takes : (x : Ref) (ss : List SortArg) (vs : List Ref) → IsChannel t N x ss → KeepsMessage t N x vs → KeepsArguments t N x vs
+  pub channel_takes : (x : Ref) (ss : List SortArg) (vs : List Ref) → IsChannel t N x ss
+      → KeepsMessage t N x vs → KeepsArguments t N x vs
   channel_takes (Binder b) ss vs c h = h
   channel_takes (Known (name.Seen i)) ss vs c h = h
   channel_takes (Known (name.Place a)) ss vs c h = h
@@ -152,16 +173,20 @@ Fits t N e = (s : SortArg) → t.binder e.binder ≡ Some s → HasSort t N e.na
 abbrev pub AllFit : Sorting → Naming → Naming → Type 0
 AllFit t N m = Each (Fits t N) m
 
-pub fits_more : (t : Sorting) (N M : Naming) → ((e : Named) → IsIn e N → IsIn e M) → (m : Naming) → AllFit t N m → AllFit t M m
+pub fits_more : (t : Sorting) (N M : Naming) → ((e : Named) → IsIn e N → IsIn e M) → (m : Naming)
+    → AllFit t N m → AllFit t M m
 fits_more t N M more [] h = tt
-fits_more t N M more (e ∷ m) h = (λ s i. has_more t N M more e.name s (h.0 s i), fits_more t N M more m h.1)
+fits_more t N M more (e ∷ m) h =
+    (λ s i. has_more t N M more e.name s (h.0 s i), fits_more t N M more m h.1)
 
 module _ (t : Sorting) (N m : Naming) (fit : AllFit t N m) where
-  found : (es : Naming) → AllFit t N es → (b : ℕ) (s : SortArg) → t.binder b ≡ Some s → RefHas t N (or_binder b (name_at es b)) s
+  found : (es : Naming) → AllFit t N es → (b : ℕ) (s : SortArg) → t.binder b ≡ Some s
+      → RefHas t N (or_binder b (name_at es b)) s
   found [] g b s h = h
   found (e ∷ es) g b s h = go (e.binder == b) refl (found es g.1 b s h)
     where
-      go : (x : Bool) → e.binder == b ≡ x → RefHas t N (or_binder b (name_at es b)) s → RefHas t N (or_binder b (cond x (Some e.name) (name_at es b))) s
+      go : (x : Bool) → e.binder == b ≡ x → RefHas t N (or_binder b (name_at es b)) s
+          → RefHas t N (or_binder b (cond x (Some e.name) (name_at es b))) s
       go true c ih = g.0 s (ap (λ i. t.binder i) (eqb-true e.binder b c) ∙ h)
       go false c ih = ih
 
@@ -169,17 +194,24 @@ module _ (t : Sorting) (N m : Naming) (fit : AllFit t N m) where
   ref_filled (Binder b) s h = found m fit b s h
   ref_filled (Known n) s h = h
 
-  pub channel_filled : (r : Ref) (ss : List SortArg) → IsChannel t N r ss → IsChannel t N (fill_ref m r) ss
+  pub channel_filled : (r : Ref) (ss : List SortArg) → IsChannel t N r ss
+      → IsChannel t N (fill_ref m r) ss
   channel_filled r ss h = record { sort = h.sort; has = ref_filled r _ h.has; args = h.args }
 
-  pub takes_filled : (rs : List Ref) (ss : List SortArg) → Takes t N rs ss → Takes t N (fill_refs m rs) ss
+  pub takes_filled : (rs : List Ref) (ss : List SortArg) → Takes t N rs ss
+      → Takes t N (fill_refs m rs) ss
   takes_filled [] [] h = tt
   takes_filled [] (s ∷ ss) h = absurd h
   takes_filled (r ∷ rs) [] h = absurd h
   takes_filled (r ∷ rs) (s ∷ ss) h = (ref_filled r s h.0, takes_filled rs ss h.1)
 
-  arguments_filled : (x : Ref) (vs : List Ref) → KeepsArguments t N x vs → KeepsMessage t N (fill_ref m x) (fill_refs m vs)
-  arguments_filled x vs h = arguments_keep t N (fill_ref m x) (fill_refs m vs) (record { sorts = h.sorts; channel = channel_filled x h.sorts h.channel; takes = takes_filled vs h.sorts h.takes })
+  arguments_filled : (x : Ref) (vs : List Ref) → KeepsArguments t N x vs
+      → KeepsMessage t N (fill_ref m x) (fill_refs m vs)
+  arguments_filled x vs h = arguments_keep t N (fill_ref m x) (fill_refs m vs) (record {
+    sorts = h.sorts;
+    channel = channel_filled x h.sorts h.channel;
+    takes = takes_filled vs h.sorts h.takes;
+  })
 
   add_filled : (vs : List Ref) → KeepsAdd t N vs → KeepsAdd t N (fill_refs m vs)
   add_filled (u ∷ v ∷ k ∷ []) h = (ref_filled u _ h.0, ref_filled v _ h.1, channel_filled k _ h.2)
@@ -189,19 +221,22 @@ module _ (t : Sorting) (N m : Naming) (fit : AllFit t N m) where
   add_filled (u ∷ v ∷ k ∷ x ∷ xs) h = absurd h
 
   same_filled : (vs : List Ref) → KeepsSame t N vs → KeepsSame t N (fill_refs m vs)
-  same_filled (u ∷ v ∷ k ∷ x ∷ []) h = (ref_filled u _ h.0, ref_filled v _ h.1, channel_filled k [] h.2, channel_filled x [] h.3)
+  same_filled (u ∷ v ∷ k ∷ x ∷ []) h =
+      (ref_filled u _ h.0, ref_filled v _ h.1, channel_filled k [] h.2, channel_filled x [] h.3)
   same_filled [] h = absurd h
   same_filled (u ∷ []) h = absurd h
   same_filled (u ∷ v ∷ []) h = absurd h
   same_filled (u ∷ v ∷ k ∷ []) h = absurd h
   same_filled (u ∷ v ∷ k ∷ x ∷ y ∷ ys) h = absurd h
 
-  operation_filled : (is_add is_same : Bool) (vs : List Ref) → KeepsAs is_add is_same t N vs → KeepsAs is_add is_same t N (fill_refs m vs)
+  operation_filled : (is_add is_same : Bool) (vs : List Ref) → KeepsAs is_add is_same t N vs
+      → KeepsAs is_add is_same t N (fill_refs m vs)
   operation_filled true c vs h = add_filled vs h
   operation_filled false true vs h = same_filled vs h
   operation_filled false false vs h = h
 
-  pub message_filled : (x : Ref) (vs : List Ref) → KeepsMessage t N x vs → KeepsMessage t N (fill_ref m x) (fill_refs m vs)
+  pub message_filled : (x : Ref) (vs : List Ref) → KeepsMessage t N x vs
+      → KeepsMessage t N (fill_ref m x) (fill_refs m vs)
   message_filled (Binder b) vs h = arguments_filled (Binder b) vs h
   message_filled (Known (name.Seen i)) vs h = arguments_filled (Known (name.Seen i)) vs h
   message_filled (Known (name.Place a)) vs h = arguments_filled (Known (name.Place a)) vs h
@@ -209,9 +244,17 @@ module _ (t : Sorting) (N m : Naming) (fit : AllFit t N m) where
   message_filled (Known (name.Num n)) vs h = arguments_filled (Known (name.Num n)) vs h
   message_filled (Known (name.Op i)) vs h = operation_filled (i == add) (i == same) vs h
 
-  pub pats_filled : (ps : List Pat) → Each (KeepsPattern t N) ps → Each (KeepsPattern t N) (fill_pats m ps)
+  pub pats_filled : (ps : List Pat) → Each (KeepsPattern t N) ps
+      → Each (KeepsPattern t N) (fill_pats m ps)
   pats_filled [] h = tt
-  pats_filled (p ∷ ps) h = (record { sorts = h.0.sorts; channel = channel_filled p.on h.0.sorts h.0.channel; receives = h.0.receives }, pats_filled ps h.1)
+  pats_filled (p ∷ ps) h = (
+    record {
+      sorts = h.0.sorts;
+      channel = channel_filled p.on h.0.sorts h.0.channel;
+      receives = h.0.receives;
+    },
+    pats_filled ps h.1,
+  )
 
   mutual
     pub process_filled : (p : Process) → Keeps t N p → Keeps t N (fill m p)
@@ -226,10 +269,13 @@ module _ (t : Sorting) (N m : Naming) (fit : AllFit t N m) where
     processes_filled none h = tt
     processes_filled (one_more p ps) h = (process_filled p h.0, processes_filled ps h.1)
 
-    pub definition_filled : (d : Definition) → KeepsDefinition t N d → KeepsDefinition t N (fill_definition m d)
+    pub definition_filled : (d : Definition) → KeepsDefinition t N d
+        → KeepsDefinition t N (fill_definition m d)
     definition_filled (Rule ps p) h = (pats_filled ps h.0, process_filled p h.1)
-    definition_filled (Place a ds p) h = (ref_filled a _ h.0, definitions_filled ds h.1, process_filled p h.2)
+    definition_filled (Place a ds p) h =
+        (ref_filled a _ h.0, definitions_filled ds h.1, process_filled p h.2)
 
-    pub definitions_filled : (ds : Definitions) → KeepsDefinitions t N ds → KeepsDefinitions t N (fill_definitions m ds)
+    pub definitions_filled : (ds : Definitions) → KeepsDefinitions t N ds
+        → KeepsDefinitions t N (fill_definitions m ds)
     definitions_filled no_definition h = tt
     definitions_filled (and_also d ds) h = (definition_filled d h.0, definitions_filled ds h.1)

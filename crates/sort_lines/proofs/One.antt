@@ -12,7 +12,10 @@ one_list [] [] (d ∷ ds) r q = absurd q
 one_list [] (c ∷ cs) ds r q = absurd r
 one_list (l ∷ ls) [] ds r q = absurd r
 one_list (l ∷ ls) (c ∷ cs) [] r q = absurd q
-one_list (l ∷ ls) (c ∷ cs) (d ∷ ds) r q = λ i. one_reading l.text c d r.0 q.0 i ∷ one_list ls cs ds r.1 q.1 i
+one_list (l ∷ ls) (c ∷ cs) (d ∷ ds) r q =
+    λ i. one_reading l.text c d r.0 q.0 i ∷ one_list ls cs ds r.1 q.1 i
 
-pub sorts_are_one : (lines : List Line) (a b : Sorts) → AreSortsOf lines a → AreSortsOf lines b → a ≡ b
-sorts_are_one lines a b x y = x.are ∙ ap sorts_by (one_list lines x.contents y.contents x.read y.read) ∙ sym y.are
+pub sorts_are_one : (lines : List Line) (a b : Sorts) → AreSortsOf lines a → AreSortsOf lines b
+    → a ≡ b
+sorts_are_one lines a b x y =
+    x.are ∙ ap sorts_by (one_list lines x.contents y.contents x.read y.read) ∙ sym y.are

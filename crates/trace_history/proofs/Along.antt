@@ -3,7 +3,9 @@ use Rattle.std.proofs.Common.{◌≡◌, List, [], ◌∷◌, ◌⊎◌, inl, in
 use Rattle.chem_model.specs.Each.{IsIn}
 use Rattle.trace_history.specs.inside.Older.{Key}
 
-pub one_along : (P Q : Key → Type 0) (keys left rest : List Key) (key : Key) → left ≡ key ∷ rest → ((k : Key) → P k → Q k) → Q key → ((k : Key) → IsIn k keys → P k ⊎ IsIn k left) → (k : Key) → IsIn k keys → Q k ⊎ IsIn k rest
+pub one_along : (P Q : Key → Type 0) (keys left rest : List Key) (key : Key) → left ≡ key ∷ rest
+    → ((k : Key) → P k → Q k) → Q key → ((k : Key) → IsIn k keys → P k ⊎ IsIn k left) → (k : Key)
+    → IsIn k keys → Q k ⊎ IsIn k rest
 one_along P Q keys left rest key e f q h k at = go (h k at)
   where
     step : (k ≡ key) ⊎ IsIn k rest → Q k ⊎ IsIn k rest
@@ -14,7 +16,8 @@ one_along P Q keys left rest key e f q h k at = go (h k at)
     go (inl p) = inl (f k p)
     go (inr there) = step (subst (λ (l : List Key). IsIn k l) e there)
 
-pub all_along : (P : Key → Type 0) (keys left : List Key) → left ≡ [] → ((k : Key) → IsIn k keys → P k ⊎ IsIn k left) → (k : Key) → IsIn k keys → P k
+pub all_along : (P : Key → Type 0) (keys left : List Key) → left ≡ []
+    → ((k : Key) → IsIn k keys → P k ⊎ IsIn k left) → (k : Key) → IsIn k keys → P k
 all_along P keys left e h k at = go (h k at)
   where
     go : P k ⊎ IsIn k left → P k

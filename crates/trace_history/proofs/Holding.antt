@@ -1,5 +1,7 @@
--- What a journal leads to, and what the book has in its place: the same but for the order of messages and requests, of which some stand in front.
-use Rattle.std.proofs.Common.{◌≡◌, ℕ, List, [], ◌∷◌, ◌++◌, Option, Some, None, Bool, true, false, refl, ap, sym, ◌∙◌, subst, arith, length, is_some}
+-- What a journal leads to, and what the book has in its place: the same but for the order of
+-- messages and requests, of which some stand in front.
+use Rattle.std.proofs.Common.{◌≡◌, ℕ, List, [], ◌∷◌, ◌++◌, Option, Some, None, Bool, true, false}
+use Rattle.std.proofs.Common.{refl, ap, sym, ◌∙◌, subst, arith, length, is_some}
 use Rattle.chem_model.specs.declared.event.AtomId.{AtomId}
 use Rattle.chem_model.specs.declared.event.Event.{Event}
 use Rattle.chem_model.specs.declared.numbered.NumberedAtom.{NumberedAtom}
@@ -37,10 +39,15 @@ sound_rest old n sound = record {
   roots = sound.roots;
   hosted = sound.hosted;
   below = λ p f. sound.below p (let both = pairs_both old n.atoms p in omega arith);
-  different = λ p. let both = pairs_both old n.atoms p in let most = sound.different p in omega arith;
+  different = λ p.
+      let both = pairs_both old n.atoms p in
+      let most = sound.different p in
+      omega arith;
   named = sound.named;
   atoms = each_last (IsAtom n) old n.atoms sound.atoms;
-  rules = Each-weaker (IsRule (whole old n)) (IsRule n) (λ r is. record { channels = is.channels; is = is.is; bound_once = is.bound_once }) n.rules sound.rules;
+  rules = Each-weaker (IsRule (whole old n)) (IsRule n)
+      (λ r is. record { channels = is.channels; is = is.is; bound_once = is.bound_once })
+      n.rules sound.rules;
   trace = sound.trace;
 }
 
@@ -49,7 +56,8 @@ differ_of n sound p = omega (arith, sound.different p)
 
 -- ---- at the beginning, and where messages only moved
 
-pub holds_on : (o : Option Numbered) (old now ys : List NumberedAtom) (n : Numbered) → Holds o old n → Keeps old n.atoms now ys → Holds o now (record n { atoms = ys })
+pub holds_on : (o : Option Numbered) (old now ys : List NumberedAtom) (n : Numbered) → Holds o old n
+    → Keeps old n.atoms now ys → Holds o now (record n { atoms = ys })
 holds_on o old now ys n h k = record {
   left = h.left;
   replays = h.replays;
@@ -60,25 +68,36 @@ holds_on o old now ys n h k = record {
 
 -- ---- what is known of the one is known of the other
 
-module _ (o : Option Numbered) (old : List NumberedAtom) (n : Numbered) (h : Holds o old n) (sound : (m : Numbered) → o ≡ Some m → IsSound m) where
+module _ (o : Option Numbered) (old : List NumberedAtom) (n : Numbered) (h : Holds o old n)
+    (sound : (m : Numbered) → o ≡ Some m → IsSound m) where
   pub left_sound : IsSound h.left
   left_sound = sound h.left h.replays
 
   pub whole_sound : IsSound (whole old n)
-  whole_sound = subst IsSound h.rest (sound_alike h.left (old ++ n.atoms) h.differ h.alike left_sound)
+  whole_sound =
+      subst IsSound h.rest (sound_alike h.left (old ++ n.atoms) h.differ h.alike left_sound)
 
   pub base_sound : IsSound n
   base_sound = sound_rest old n whole_sound
 
   pub possible_whole : (e : Event) → is_some (apply h.left e) ≡ is_some (apply (whole old n) e)
-  possible_whole e = possible_alike h.left (old ++ n.atoms) (differ_of h.left left_sound) h.differ h.alike e ∙ ap (λ (m : Numbered). is_some (apply m e)) h.rest
+  possible_whole e =
+      possible_alike h.left (old ++ n.atoms) (differ_of h.left left_sound) h.differ h.alike e
+      ∙ ap (λ (m : Numbered). is_some (apply m e)) h.rest
 
-  pub found_left : (from : ℕ) (f : Option Found) → IsFound (whole old n) from f → IsFound h.left from f
+  pub found_left : (from : ℕ) (f : Option Found) → IsFound (whole old n) from f
+      → IsFound h.left from f
   found_left from f found = go f (subst (λ (m : Numbered). IsFound m from f) (sym h.rest) found)
     where
-      go : (g : Option Found) → IsFound (record h.left { atoms = old ++ n.atoms }) from g → IsFound h.left from g
-      go None is = stuck_alike h.left (old ++ n.atoms) (differ_of h.left left_sound) h.differ h.alike is
-      go (Some g) is = (first_alike h.left (old ++ n.atoms) (differ_of h.left left_sound) h.differ h.alike from g.site g.event is.0, is.1)
+      go : (g : Option Found) → IsFound (record h.left { atoms = old ++ n.atoms }) from g
+          → IsFound h.left from g
+      go None is =
+          stuck_alike h.left (old ++ n.atoms) (differ_of h.left left_sound) h.differ h.alike is
+      go (Some g) is = (
+        first_alike h.left (old ++ n.atoms) (differ_of h.left left_sound) h.differ h.alike from
+            g.site g.event is.0,
+        is.1,
+      )
 
   pub stuck_whole : (from : ℕ) → IsFound h.left from None → IsFound (whole old n) from None
   stuck_whole from none e = sym (possible_whole e) ∙ none e
@@ -91,14 +110,19 @@ module _ (o : Option Numbered) (old : List NumberedAtom) (n : Numbered) (h : Hol
     pub applied : apply h.left e ≡ Some after
     pub holds : (q : Option Numbered) → q ≡ Some after → Holds q old m
 
-  alike_after : (e : Event) → Each (λ (i : AtomId). atom_at old i ≡ None) (takes e) → AreAlikeIf (apply h.left e) (front old (apply n e))
+  alike_after : (e : Event) → Each (λ (i : AtomId). atom_at old i ≡ None) (takes e)
+      → AreAlikeIf (apply h.left e) (front old (apply n e))
   alike_after e none =
-      let one = apply_alike h.left (old ++ n.atoms) (differ_of h.left left_sound) h.differ h.alike e in
+      let one =
+      apply_alike h.left (old ++ n.atoms) (differ_of h.left left_sound) h.differ h.alike e in
       let two = subst (λ (m : Numbered). AreAlikeIf (apply h.left e) (apply m e)) h.rest one in
       subst (λ (q : Option Numbered). AreAlikeIf (apply h.left e) q) (apply_front old n e none) two
 
-  pub event_made : EventIsAReduction → (e : Event) (m : Numbered) → Each (λ (i : AtomId). atom_at old i ≡ None) (takes e) → apply n e ≡ Some m → Made e m
-  event_made law e m none made = go (apply h.left e) refl (subst (λ (q : Option Numbered). AreAlikeIf (apply h.left e) (front old q)) made (alike_after e none))
+  pub event_made : EventIsAReduction → (e : Event) (m : Numbered)
+      → Each (λ (i : AtomId). atom_at old i ≡ None) (takes e) → apply n e ≡ Some m → Made e m
+  event_made law e m none made = go (apply h.left e) refl
+      (subst (λ (q : Option Numbered). AreAlikeIf (apply h.left e) (front old q)) made
+      (alike_after e none))
     where
       in_all : apply (whole old n) e ≡ Some (whole old m)
       in_all = apply_front old n e none ∙ ap (front old) made
@@ -122,8 +146,11 @@ module _ (o : Option Numbered) (old : List NumberedAtom) (n : Numbered) (h : Hol
             };
           }
 
-  pub event_not_made : (e : Event) → Each (λ (i : AtomId). atom_at old i ≡ None) (takes e) → apply n e ≡ None → is_some (apply h.left e) ≡ false
-  event_not_made e none not = go (apply h.left e) (subst (λ (q : Option Numbered). AreAlikeIf (apply h.left e) (front old q)) not (alike_after e none))
+  pub event_not_made : (e : Event) → Each (λ (i : AtomId). atom_at old i ≡ None) (takes e)
+      → apply n e ≡ None → is_some (apply h.left e) ≡ false
+  event_not_made e none not = go (apply h.left e)
+      (subst (λ (q : Option Numbered). AreAlikeIf (apply h.left e) (front old q)) not
+      (alike_after e none))
     where
       go : (q : Option Numbered) → AreAlikeIf q None → is_some q ≡ false
       go None a = refl
@@ -131,25 +158,36 @@ module _ (o : Option Numbered) (old : List NumberedAtom) (n : Numbered) (h : Hol
 
 -- ---- the answers of a book
 
-pub finds_of : (b : BookKept) (n : Numbered) → solution b ≡ Some n → (from : ℕ) (f : Option Found) → IsFound n from f → Finds b from f
+pub finds_of : (b : BookKept) (n : Numbered) → solution b ≡ Some n → (from : ℕ) (f : Option Found)
+    → IsFound n from f → Finds b from f
 finds_of b n leads from None is = λ e. ap (λ o. is_some (apply_if o e)) leads ∙ is e
-finds_of b n leads from (Some f) is = λ m e. subst (λ (x : Numbered). IsFirst x from f.site f.event) (same_some n m (sym leads ∙ e)) is.0
+finds_of b n leads from (Some f) is = λ m e.
+    subst (λ (x : Numbered). IsFirst x from f.site f.event) (same_some n m (sym leads ∙ e)) is.0
 
 abbrev kept_of : ProgramTerms → List Event → BookKept
 kept_of p journal = record { program = p; journal = journal }
 
 -- what is said of the parts of a book is said of the book
-pub commits_place : (b : BookKept) (p : ProgramTerms) (journal new : List Event) (e made : Event) (k : ℕ) → record { program = p; journal = journal } ≡ b → is_enabled b e ≡ true → new ≡ journal ++ made ∷ [] → made ≡ e → k ≡ length journal → Commits b e (Place k) (record { program = p; journal = new })
+pub commits_place :
+    (b : BookKept) (p : ProgramTerms) (journal new : List Event) (e made : Event) (k : ℕ)
+    → record { program = p; journal = journal } ≡ b → is_enabled b e ≡ true
+    → new ≡ journal ++ made ∷ [] → made ≡ e → k ≡ length journal
+    → Commits b e (Place k) (record { program = p; journal = new })
 commits_place b p journal new e made k view enabled pushed same count =
     subst (λ (x : BookKept). is_enabled x e ≡ true → Commits x e (Place k) (kept_of p new)) view
-    (λ is. (is, count, ap (kept_of p) (pushed ∙ ap (λ (x : Event). journal ++ x ∷ []) same))) enabled
+    (λ is. (is, count, ap (kept_of p) (pushed ∙ ap (λ (x : Event). journal ++ x ∷ []) same)))
+    enabled
 
-pub commits_none : (b : BookKept) (p : ProgramTerms) (journal new : List Event) (e : Event) → record { program = p; journal = journal } ≡ b → is_enabled b e ≡ false → new ≡ journal → Commits b e NotEnabled (record { program = p; journal = new })
+pub commits_none : (b : BookKept) (p : ProgramTerms) (journal new : List Event) (e : Event)
+    → record { program = p; journal = journal } ≡ b → is_enabled b e ≡ false → new ≡ journal
+    → Commits b e NotEnabled (record { program = p; journal = new })
 commits_none b p journal new e view not same = (not, ap (kept_of p) same ∙ view)
 
-pub not_replaced : (o : Option Numbered) (n m : Numbered) (made : Bool) → Replaces o n made m → made ≡ false → o ≡ None
+pub not_replaced : (o : Option Numbered) (n m : Numbered) (made : Bool) → Replaces o n made m
+    → made ≡ false → o ≡ None
 not_replaced None n m made h is = refl
 not_replaced (Some after) n m made h is = let wrong : false ≡ true = sym is ∙ h.0 in cc
 
-pub enabled_in : (b : BookKept) (n : Numbered) (e : Event) → solution b ≡ Some n → is_enabled b e ≡ is_some (apply n e)
+pub enabled_in : (b : BookKept) (n : Numbered) (e : Event) → solution b ≡ Some n
+    → is_enabled b e ≡ is_some (apply n e)
 enabled_in b n e leads = ap (λ o. is_some (apply_if o e)) leads

@@ -1,5 +1,6 @@
 -- Keys added to an ordered list of keys, and taken out.
-use Rattle.std.proofs.Common.{◌≡◌, ℕ, ◌<◌, List, [], ◌∷◌, cond, refl, sym, ◌∙◌, subst, ◌⊎◌, inl, inr, Ordering, Less, Equal, Greater}
+use Rattle.std.proofs.Common.{◌≡◌, ℕ, ◌<◌, List, [], ◌∷◌, cond, refl, sym, ◌∙◌, subst, ◌⊎◌, inl}
+use Rattle.std.proofs.Common.{inr, Ordering, Less, Equal, Greater}
 use Rattle.std.specs.Ordering.{is_eq, nat_cmp, ordering_then, match_ordering, MatchOrdering}
 use Rattle.std.specs.Cmp.{ranks}
 use Rattle.std.specs.BTreeSet.{insert_key}
@@ -30,7 +31,8 @@ pub added : (k : Key) (ks : List Key) → IsIn k (insert_key key_cmp ks k)
 added k [] = inl refl
 added k (j ∷ ks) = go (key_cmp k j) refl (added k ks)
   where
-    go : (o : Ordering) → key_cmp k j ≡ o → IsIn k (insert_key key_cmp ks k) → IsIn k (match_ordering o (k ∷ j ∷ ks) (j ∷ ks) (j ∷ insert_key key_cmp ks k))
+    go : (o : Ordering) → key_cmp k j ≡ o → IsIn k (insert_key key_cmp ks k)
+        → IsIn k (match_ordering o (k ∷ j ∷ ks) (j ∷ ks) (j ∷ insert_key key_cmp ks k))
     go Less c ih = inl refl
     go Equal c ih = inl (key_equal k j c)
     go Greater c ih = inr ih
@@ -39,28 +41,34 @@ pub kept : (k : Key) (ks : List Key) → KeepsKeys ks (insert_key key_cmp ks k)
 kept k [] i at = absurd at
 kept k (j ∷ ks) i at = go (key_cmp k j) (kept k ks i) at
   where
-    go : (o : Ordering) → (IsIn i ks → IsIn i (insert_key key_cmp ks k)) → (i ≡ j) ⊎ IsIn i ks → IsIn i (match_ordering o (k ∷ j ∷ ks) (j ∷ ks) (j ∷ insert_key key_cmp ks k))
+    go : (o : Ordering) → (IsIn i ks → IsIn i (insert_key key_cmp ks k)) → (i ≡ j) ⊎ IsIn i ks
+        → IsIn i (match_ordering o (k ∷ j ∷ ks) (j ∷ ks) (j ∷ insert_key key_cmp ks k))
     go Less rest f = inr f
     go Equal rest f = f
     go Greater rest (inl e) = inl e
     go Greater rest (inr f) = inr (rest f)
 
-pub others_stay : (k : Key) (ks : List Key) (i : Key) → IsIn i ks → (i ≡ k) ⊎ IsIn i (remove_key (is_at (key_cmp k)) ks)
+pub others_stay : (k : Key) (ks : List Key) (i : Key) → IsIn i ks
+    → (i ≡ k) ⊎ IsIn i (remove_key (is_at (key_cmp k)) ks)
 others_stay k [] i at = absurd at
 others_stay k (j ∷ ks) i at = go (key_cmp k j) refl (others_stay k ks i) at
   where
-    go : (o : Ordering) → key_cmp k j ≡ o → (IsIn i ks → (i ≡ k) ⊎ IsIn i (remove_key (is_at (key_cmp k)) ks)) → (i ≡ j) ⊎ IsIn i ks → (i ≡ k) ⊎ IsIn i (cond (is_eq o) ks (j ∷ remove_key (is_at (key_cmp k)) ks))
+    go : (o : Ordering) → key_cmp k j ≡ o
+        → (IsIn i ks → (i ≡ k) ⊎ IsIn i (remove_key (is_at (key_cmp k)) ks)) → (i ≡ j) ⊎ IsIn i ks
+        → (i ≡ k) ⊎ IsIn i (cond (is_eq o) ks (j ∷ remove_key (is_at (key_cmp k)) ks))
     go Equal c rest (inl e) = inl (e ∙ sym (key_equal k j c))
     go Equal c rest (inr f) = inr f
     go Less c rest (inl e) = inr (inl e)
     go Less c rest (inr f) = later (rest f)
       where
-        later : (i ≡ k) ⊎ IsIn i (remove_key (is_at (key_cmp k)) ks) → (i ≡ k) ⊎ IsIn i (j ∷ remove_key (is_at (key_cmp k)) ks)
+        later : (i ≡ k) ⊎ IsIn i (remove_key (is_at (key_cmp k)) ks)
+            → (i ≡ k) ⊎ IsIn i (j ∷ remove_key (is_at (key_cmp k)) ks)
         later (inl e) = inl e
         later (inr g) = inr (inr g)
     go Greater c rest (inl e) = inr (inl e)
     go Greater c rest (inr f) = later (rest f)
       where
-        later : (i ≡ k) ⊎ IsIn i (remove_key (is_at (key_cmp k)) ks) → (i ≡ k) ⊎ IsIn i (j ∷ remove_key (is_at (key_cmp k)) ks)
+        later : (i ≡ k) ⊎ IsIn i (remove_key (is_at (key_cmp k)) ks)
+            → (i ≡ k) ⊎ IsIn i (j ∷ remove_key (is_at (key_cmp k)) ks)
         later (inl e) = inl e
         later (inr g) = inr (inr g)

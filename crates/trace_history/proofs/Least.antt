@@ -1,5 +1,8 @@
--- The least messages for the patterns of a rule are received, and none that are received come before them.
-use Rattle.std.proofs.Common.{◌≡◌, ℕ, zero, suc, ◌+◌, ◌<◌, ◌≤◌, length, take, get_or, add-one, List, [], ◌∷◌, ◌++◌, Option, Some, None, Bool, true, false, cond, refl, ap, sym, ◌∙◌, subst, arith, ◌&&◌, ◌||◌, inl, inr, is_some}
+-- The least messages for the patterns of a rule are received, and none that are received come
+-- before them.
+use Rattle.std.proofs.Common.{◌≡◌, ℕ, zero, suc, ◌+◌, ◌<◌, ◌≤◌, length, take, get_or, add-one, List}
+use Rattle.std.proofs.Common.{[], ◌∷◌, ◌++◌, Option, Some, None, Bool, true, false, cond, refl, ap}
+use Rattle.std.proofs.Common.{sym, ◌∙◌, subst, arith, ◌&&◌, ◌||◌, inl, inr, is_some}
 use Rattle.std.proofs.lemmas.Bool.{and_parts}
 use Rattle.std.specs.List.{list_any, list_all}
 use Rattle.std.proofs.Math.Seq.{take-suc}
@@ -14,37 +17,50 @@ use Rattle.chem_model.specs.Bag.{one, bag}
 use Rattle.chem_model.specs.NewNames.{coded_pair}
 use Rattle.chem_model.specs.Fill.{Naming}
 use Rattle.chem_model.specs.Numbered.{atom_pairs, rule_pairs}
-use Rattle.chem_model.specs.Apply.{same_atom, same_rule, atom_at, rule_at, received_at, both_received, received_all}
+use Rattle.chem_model.specs.Apply.{same_atom, same_rule, atom_at, rule_at, received_at}
+use Rattle.chem_model.specs.Apply.{both_received, received_all}
 use Rattle.chem_laws.proofs.Bags.{one_self}
-use Rattle.chem_laws.proofs.Taking.{same_atom_is, same_atom_refl, same_rule_is, same_rule_refl, atom_found, atom_pair_found, rule_pair_found}
+use Rattle.chem_laws.proofs.Taking.{same_atom_is, same_atom_refl, same_rule_is, same_rule_refl}
+use Rattle.chem_laws.proofs.Taking.{atom_found, atom_pair_found, rule_pair_found}
 use Rattle.trace_history.specs.First.{atom_less, atoms_less}
 use Rattle.trace_history.specs.inside.Search.{IsFirstOf, receives, atom_before, is_met}
 use Rattle.trace_history.specs.inside.Search.{IsLeast, AreLeast}
 
--- ---- what is found by a number has it, and a member is found by its number where all are different
+-- ---- what is found by a number has it, and a member is found by its number where all are
+-- different
 
-pub atom_has : (atoms : List NumberedAtom) (i : AtomId) (a : NumberedAtom) → atom_at atoms i ≡ Some a → a.id ≡ i
+pub atom_has : (atoms : List NumberedAtom) (i : AtomId) (a : NumberedAtom)
+    → atom_at atoms i ≡ Some a → a.id ≡ i
 atom_has [] i a e = cc
 atom_has (b ∷ atoms) i a e = go (same_atom b.id i) refl (atom_has atoms i a) e
   where
-    go : (t : Bool) → same_atom b.id i ≡ t → (atom_at atoms i ≡ Some a → a.id ≡ i) → cond t (Some b) (atom_at atoms i) ≡ Some a → a.id ≡ i
-    go true c ih e' = let same : b ≡ a = cc in ap (λ (x : NumberedAtom). x.id) (sym same) ∙ same_atom_is b.id i c
+    go : (t : Bool) → same_atom b.id i ≡ t → (atom_at atoms i ≡ Some a → a.id ≡ i)
+        → cond t (Some b) (atom_at atoms i) ≡ Some a → a.id ≡ i
+    go true c ih e' =
+        let same : b ≡ a = cc in
+        ap (λ (x : NumberedAtom). x.id) (sym same) ∙ same_atom_is b.id i c
     go false c ih e' = ih e'
 
-pub rule_has : (rules : List NumberedRule) (i : RuleId) (r : NumberedRule) → rule_at rules i ≡ Some r → r.id ≡ i
+pub rule_has : (rules : List NumberedRule) (i : RuleId) (r : NumberedRule)
+    → rule_at rules i ≡ Some r → r.id ≡ i
 rule_has [] i r e = cc
 rule_has (q ∷ rules) i r e = go (same_rule q.id i) refl (rule_has rules i r) e
   where
-    go : (t : Bool) → same_rule q.id i ≡ t → (rule_at rules i ≡ Some r → r.id ≡ i) → cond t (Some q) (rule_at rules i) ≡ Some r → r.id ≡ i
-    go true c ih e' = let same : q ≡ r = cc in ap (λ (x : NumberedRule). x.id) (sym same) ∙ same_rule_is q.id i c
+    go : (t : Bool) → same_rule q.id i ≡ t → (rule_at rules i ≡ Some r → r.id ≡ i)
+        → cond t (Some q) (rule_at rules i) ≡ Some r → r.id ≡ i
+    go true c ih e' =
+        let same : q ≡ r = cc in
+        ap (λ (x : NumberedRule). x.id) (sym same) ∙ same_rule_is q.id i c
     go false c ih e' = ih e'
 
 abbrev pub AtomsDiffer : List NumberedAtom → Type 0
 AtomsDiffer atoms = (p : ℕ × ℕ) → bag coded_pair (atom_pairs atoms) p ≤ 1
 
-pub member_found : (atoms : List NumberedAtom) → AtomsDiffer atoms → (a : NumberedAtom) → IsIn a atoms → atom_at atoms a.id ≡ Some a
+pub member_found : (atoms : List NumberedAtom) → AtomsDiffer atoms → (a : NumberedAtom)
+    → IsIn a atoms → atom_at atoms a.id ≡ Some a
 member_found [] d a h = absurd h
-member_found (b ∷ atoms) d a (inl e) = ap (λ t. cond t (Some b) (atom_at atoms a.id)) (ap (λ (x : NumberedAtom). same_atom b.id x.id) e ∙ same_atom_refl b.id) ∙ ap Some (sym e)
+member_found (b ∷ atoms) d a (inl e) = ap (λ t. cond t (Some b) (atom_at atoms a.id))
+    (ap (λ (x : NumberedAtom). same_atom b.id x.id) e ∙ same_atom_refl b.id) ∙ ap Some (sym e)
 member_found (b ∷ atoms) d a (inr h) =
     let found = member_found atoms (λ p. omega (arith, d p)) a h in
     ap (λ t. cond t (Some b) (atom_at atoms a.id)) (other found (same_atom b.id a.id) refl) ∙ found
@@ -53,15 +69,19 @@ member_found (b ∷ atoms) d a (inr h) =
     other found false c = refl
     other found true c =
         let later = atom_pair_found atoms a.id a found in
-        let here : one coded_pair (b.id.site, b.id.k) (a.id.site, a.id.k) ≡ 1 = ap (λ (j : AtomId). one coded_pair (j.site, j.k) (a.id.site, a.id.k)) (same_atom_is b.id a.id c) ∙ one_self coded_pair (a.id.site, a.id.k) in
+        let here : one coded_pair (b.id.site, b.id.k) (a.id.site, a.id.k) ≡ 1 =
+        ap (λ (j : AtomId). one coded_pair (j.site, j.k) (a.id.site, a.id.k))
+        (same_atom_is b.id a.id c) ∙ one_self coded_pair (a.id.site, a.id.k) in
         absurd (omega (arith, d (a.id.site, a.id.k)))
 
 abbrev pub RulesDiffer : List NumberedRule → Type 0
 RulesDiffer rules = (p : ℕ × ℕ) → bag coded_pair (rule_pairs rules) p ≤ 1
 
-pub rule_member_found : (rules : List NumberedRule) → RulesDiffer rules → (r : NumberedRule) → IsIn r rules → rule_at rules r.id ≡ Some r
+pub rule_member_found : (rules : List NumberedRule) → RulesDiffer rules → (r : NumberedRule)
+    → IsIn r rules → rule_at rules r.id ≡ Some r
 rule_member_found [] d r h = absurd h
-rule_member_found (q ∷ rules) d r (inl e) = ap (λ t. cond t (Some q) (rule_at rules r.id)) (ap (λ (x : NumberedRule). same_rule q.id x.id) e ∙ same_rule_refl q.id) ∙ ap Some (sym e)
+rule_member_found (q ∷ rules) d r (inl e) = ap (λ t. cond t (Some q) (rule_at rules r.id))
+    (ap (λ (x : NumberedRule). same_rule q.id x.id) e ∙ same_rule_refl q.id) ∙ ap Some (sym e)
 rule_member_found (q ∷ rules) d r (inr h) =
     let found = rule_member_found rules (λ p. omega (arith, d p)) r h in
     ap (λ t. cond t (Some q) (rule_at rules r.id)) (other found (same_rule q.id r.id) refl) ∙ found
@@ -70,7 +90,9 @@ rule_member_found (q ∷ rules) d r (inr h) =
     other found false c = refl
     other found true c =
         let later = rule_pair_found rules r.id r found in
-        let here : one coded_pair (q.id.site, q.id.k) (r.id.site, r.id.k) ≡ 1 = ap (λ (j : RuleId). one coded_pair (j.site, j.k) (r.id.site, r.id.k)) (same_rule_is q.id r.id c) ∙ one_self coded_pair (r.id.site, r.id.k) in
+        let here : one coded_pair (q.id.site, q.id.k) (r.id.site, r.id.k) ≡ 1 =
+        ap (λ (j : RuleId). one coded_pair (j.site, j.k) (r.id.site, r.id.k))
+        (same_rule_is q.id r.id c) ∙ one_self coded_pair (r.id.site, r.id.k) in
         absurd (omega (arith, d (r.id.site, r.id.k)))
 
 -- ---- receiving
@@ -86,22 +108,33 @@ pub record Received (atoms : List NumberedAtom) (l : Loc) (p : Pat) (i : AtomId)
   pub found : atom_at atoms i ≡ Some atom
   pub passes : receives l p atom ≡ true
 
-received_from : (atoms : List NumberedAtom) (l : Loc) (p : Pat) (i : AtomId) (o : Option NumberedAtom) → atom_at atoms i ≡ o → is_some (received_at l p o) ≡ true → Received atoms l p i
+received_from :
+    (atoms : List NumberedAtom) (l : Loc) (p : Pat) (i : AtomId) (o : Option NumberedAtom)
+    → atom_at atoms i ≡ o → is_some (received_at l p o) ≡ true → Received atoms l p i
 received_from atoms l p i None e h = cc
 received_from atoms l p i (Some a) e h = record { atom = a; found = e; passes = h }
 
-pub received_first : (atoms : List NumberedAtom) (l : Loc) (p : Pat) (ps : List Pat) (i : AtomId) (took : List AtomId) → is_some (received_all atoms l (p ∷ ps) (i ∷ took)) ≡ true → Received atoms l p i × (is_some (received_all atoms l ps took) ≡ true)
+pub received_first :
+    (atoms : List NumberedAtom) (l : Loc) (p : Pat) (ps : List Pat) (i : AtomId)
+    (took : List AtomId) → is_some (received_all atoms l (p ∷ ps) (i ∷ took)) ≡ true
+    → Received atoms l p i × (is_some (received_all atoms l ps took) ≡ true)
 received_first atoms l p ps i took h =
-    let f = and_parts (is_some (received_at l p (atom_at atoms i))) (is_some (received_all atoms l ps took)) (sym (some_both (received_at l p (atom_at atoms i)) (received_all atoms l ps took)) ∙ h) in
+    let f =
+    and_parts (is_some (received_at l p (atom_at atoms i))) (is_some (received_all atoms l ps took))
+    (sym (some_both (received_at l p (atom_at atoms i)) (received_all atoms l ps took)) ∙ h) in
     (received_from atoms l p i (atom_at atoms i) refl f.0, f.1)
 
 -- the least messages are received
-pub least_received : (atoms : List NumberedAtom) → AtomsDiffer atoms → (l : Loc) (ps : List Pat) (took : List AtomId) → AreLeast atoms l ps took → is_some (received_all atoms l ps took) ≡ true
+pub least_received : (atoms : List NumberedAtom) → AtomsDiffer atoms
+    → (l : Loc) (ps : List Pat) (took : List AtomId) → AreLeast atoms l ps took
+    → is_some (received_all atoms l ps took) ≡ true
 least_received atoms d l [] [] h = refl
 least_received atoms d l (p ∷ ps) (i ∷ took) h =
     let least = h.0 in
-    let found : atom_at atoms i ≡ Some least.0 = ap (atom_at atoms) (sym least.1) ∙ member_found atoms d least.0 least.2.0 in
-    let here : is_some (received_at l p (atom_at atoms i)) ≡ true = ap (λ o. is_some (received_at l p o)) found ∙ least.2.1 in
+    let found : atom_at atoms i ≡ Some least.0 =
+    ap (atom_at atoms) (sym least.1) ∙ member_found atoms d least.0 least.2.0 in
+    let here : is_some (received_at l p (atom_at atoms i)) ≡ true =
+    ap (λ o. is_some (received_at l p o)) found ∙ least.2.1 in
     some_both (received_at l p (atom_at atoms i)) (received_all atoms l ps took)
     ∙ ap (λ t. t && is_some (received_all atoms l ps took)) here
     ∙ least_received atoms d l ps took h.1
@@ -113,7 +146,9 @@ either_false a true c e f = ap (λ t. t || false) e
 either_false a false c e f = ap (λ t. t || c) e ∙ f
 
 -- and none that are received come before them
-pub least_of_all : (atoms : List NumberedAtom) (l : Loc) (ps : List Pat) (took taken : List AtomId) → AreLeast atoms l ps took → is_some (received_all atoms l ps taken) ≡ true → atoms_less taken took ≡ false
+pub least_of_all : (atoms : List NumberedAtom) (l : Loc) (ps : List Pat) (took taken : List AtomId)
+    → AreLeast atoms l ps took → is_some (received_all atoms l ps taken) ≡ true
+    → atoms_less taken took ≡ false
 least_of_all atoms l [] [] [] h e = refl
 least_of_all atoms l [] [] (j ∷ taken) h e = cc
 least_of_all atoms l (p ∷ ps) (i ∷ took) [] h e = cc
@@ -122,62 +157,89 @@ least_of_all atoms l (p ∷ ps) (i ∷ took) (j ∷ taken) h e =
     let f = received_first atoms l p ps j taken e in
     let from = f.0 in
     let has : from.atom.id ≡ j = atom_has atoms j from.atom from.found in
-    let lower : atom_less from.atom.id least.0.id ≡ false = atom_found (λ (x : NumberedAtom). receives l p x ≡ true → atom_before x least.0 ≡ false) atoms j from.atom from.found least.2.2 from.passes in
-    let here : atom_less j i ≡ false = ap (λ x. atom_less x i) (sym has) ∙ ap (λ x. atom_less from.atom.id x) (sym least.1) ∙ lower in
-    either_false (atom_less j i) (atom_less i j) (atoms_less taken took) here (least_of_all atoms l ps took taken h.1 f.1)
+    let lower : atom_less from.atom.id least.0.id ≡ false =
+    atom_found (λ (x : NumberedAtom). receives l p x ≡ true → atom_before x least.0 ≡ false) atoms j
+    from.atom from.found least.2.2 from.passes in
+    let here : atom_less j i ≡ false =
+    ap (λ x. atom_less x i) (sym has) ∙ ap (λ x. atom_less from.atom.id x) (sym least.1) ∙ lower in
+    either_false (atom_less j i) (atom_less i j) (atoms_less taken took) here
+    (least_of_all atoms l ps took taken h.1 f.1)
 least_of_all atoms l [] (i ∷ took) taken h e = absurd h
 least_of_all atoms l (p ∷ ps) [] taken h e = absurd h
 
 -- ---- whether each pattern is met
 
-met_by : (atoms : List NumberedAtom) (l : Loc) (p : Pat) (i : AtomId) (a : NumberedAtom) → atom_at atoms i ≡ Some a → receives l p a ≡ true → is_met atoms l p ≡ true
+met_by : (atoms : List NumberedAtom) (l : Loc) (p : Pat) (i : AtomId) (a : NumberedAtom)
+    → atom_at atoms i ≡ Some a → receives l p a ≡ true → is_met atoms l p ≡ true
 met_by [] l p i a e h = cc
 met_by (b ∷ atoms) l p i a e h = go (same_atom b.id i) (λ f. met_by atoms l p i a f h) e
   where
-    later : (t : Bool) → list_any (receives l p) atoms ≡ true → t || list_any (receives l p) atoms ≡ true
+    later : (t : Bool) → list_any (receives l p) atoms ≡ true
+        → t || list_any (receives l p) atoms ≡ true
     later true f = refl
     later false f = f
 
-    go : (t : Bool) → (atom_at atoms i ≡ Some a → is_met atoms l p ≡ true) → cond t (Some b) (atom_at atoms i) ≡ Some a → receives l p b || list_any (receives l p) atoms ≡ true
-    go true ih e' = let same : b ≡ a = cc in ap (λ (x : NumberedAtom). receives l p x || list_any (receives l p) atoms) same ∙ ap (λ t. t || list_any (receives l p) atoms) h
+    go : (t : Bool) → (atom_at atoms i ≡ Some a → is_met atoms l p ≡ true)
+        → cond t (Some b) (atom_at atoms i) ≡ Some a
+        → receives l p b || list_any (receives l p) atoms ≡ true
+    go true ih e' =
+        let same : b ≡ a = cc in
+        ap (λ (x : NumberedAtom). receives l p x || list_any (receives l p) atoms) same
+        ∙ ap (λ t. t || list_any (receives l p) atoms) h
     go false ih e' = later (receives l p b) (ih e')
 
 -- where messages are received, each pattern is met
-pub all_met : (atoms : List NumberedAtom) (l : Loc) (ps : List Pat) (took : List AtomId) → is_some (received_all atoms l ps took) ≡ true → list_all (is_met atoms l) ps ≡ true
+pub all_met : (atoms : List NumberedAtom) (l : Loc) (ps : List Pat) (took : List AtomId)
+    → is_some (received_all atoms l ps took) ≡ true → list_all (is_met atoms l) ps ≡ true
 all_met atoms l [] took h = refl
 all_met atoms l (p ∷ ps) [] h = cc
 all_met atoms l (p ∷ ps) (i ∷ took) h =
     let f = received_first atoms l p ps i took h in
     let from = f.0 in
-    ap (λ t. t && list_all (is_met atoms l) ps) (met_by atoms l p i from.atom from.found from.passes) ∙ all_met atoms l ps took f.1
+    ap (λ t. t && list_all (is_met atoms l) ps)
+    (met_by atoms l p i from.atom from.found from.passes) ∙ all_met atoms l ps took f.1
 
 -- ---- the least for one pattern more
 
-pub least_more : (atoms : List NumberedAtom) (l : Loc) (ps : List Pat) (took : List AtomId) (p : Pat) (i : AtomId) → AreLeast atoms l ps took → IsLeast atoms l p i → AreLeast atoms l (ps ++ p ∷ []) (took ++ i ∷ [])
+pub least_more :
+    (atoms : List NumberedAtom) (l : Loc) (ps : List Pat) (took : List AtomId) (p : Pat)
+    (i : AtomId) → AreLeast atoms l ps took → IsLeast atoms l p i
+    → AreLeast atoms l (ps ++ p ∷ []) (took ++ i ∷ [])
 least_more atoms l [] [] p i h f = (f, tt)
 least_more atoms l (q ∷ ps) (j ∷ took) p i h f = (h.0, least_more atoms l ps took p i h.1 f)
 least_more atoms l [] (j ∷ took) p i h f = absurd h
 least_more atoms l (q ∷ ps) [] p i h f = absurd h
 
 -- a pattern that is met has a least message
-pub not_met : (atoms : List NumberedAtom) (l : Loc) (p : Pat) → Each (λ x. receives l p x ≡ false) atoms → is_met atoms l p ≡ false
+pub not_met : (atoms : List NumberedAtom) (l : Loc) (p : Pat)
+    → Each (λ x. receives l p x ≡ false) atoms → is_met atoms l p ≡ false
 not_met [] l p h = refl
 not_met (a ∷ atoms) l p h = ap (λ t. t || list_any (receives l p) atoms) h.0 ∙ not_met atoms l p h.1
 
 -- the least messages for the patterns that were looked at, with one more
-pub one_more_least : (atoms : List NumberedAtom) (l : Loc) (ps : List Pat) (i : ℕ) (p : Pat) (a : NumberedAtom) (took more : List AtomId) → i < length ps → p ≡ get_or ps i p → AreLeast atoms l (take i ps) took
-    → IsFirstOf (receives l p) atom_before atoms (Some a) → more ≡ took ++ a.id ∷ [] → AreLeast atoms l (take (i + 1) ps) more
+pub one_more_least :
+    (atoms : List NumberedAtom) (l : Loc) (ps : List Pat) (i : ℕ) (p : Pat) (a : NumberedAtom)
+    (took more : List AtomId) → i < length ps → p ≡ get_or ps i p
+    → AreLeast atoms l (take i ps) took
+    → IsFirstOf (receives l p) atom_before atoms (Some a) → more ≡ took ++ a.id ∷ []
+    → AreLeast atoms l (take (i + 1) ps) more
 one_more_least atoms l ps i p a took more lt is h f e =
-    let longer : take (i + 1) ps ≡ take i ps ++ p ∷ [] = rw add-one (take-suc ps i p lt ∙ ap (λ q. take i ps ++ q ∷ []) (sym is)) in
+    let longer : take (i + 1) ps ≡ take i ps ++ p ∷ [] =
+    rw add-one (take-suc ps i p lt ∙ ap (λ q. take i ps ++ q ∷ []) (sym is)) in
     let both = least_more atoms l (take i ps) took p a.id h (a, refl, f) in
-    subst (λ (qs : List Pat). AreLeast atoms l qs more) (sym longer) (subst (AreLeast atoms l (take i ps ++ p ∷ [])) (sym e) both)
+    subst (λ (qs : List Pat). AreLeast atoms l qs more) (sym longer)
+    (subst (AreLeast atoms l (take i ps ++ p ∷ [])) (sym e) both)
 
-all_at : (test : Pat → Bool) (ps : List Pat) (i : ℕ) (p : Pat) → i < length ps → p ≡ get_or ps i p → list_all test ps ≡ true → test p ≡ true
+all_at : (test : Pat → Bool) (ps : List Pat) (i : ℕ) (p : Pat) → i < length ps → p ≡ get_or ps i p
+    → list_all test ps ≡ true → test p ≡ true
 all_at test [] i p lt is h = absurd (omega arith)
 all_at test (q ∷ ps) zero p lt is h = ap test is ∙ (and_parts (test q) (list_all test ps) h).0
-all_at test (q ∷ ps) (suc i) p lt is h = all_at test ps i p (omega arith) is (and_parts (test q) (list_all test ps) h).1
+all_at test (q ∷ ps) (suc i) p lt is h =
+    all_at test ps i p (omega arith) is (and_parts (test q) (list_all test ps) h).1
 
-pub none_least : (atoms : List NumberedAtom) (l : Loc) (ps : List Pat) (i : ℕ) (p : Pat) → i < length ps → p ≡ get_or ps i p → list_all (is_met atoms l) ps ≡ true → IsFirstOf (receives l p) atom_before atoms None → ⊥
+pub none_least : (atoms : List NumberedAtom) (l : Loc) (ps : List Pat) (i : ℕ) (p : Pat)
+    → i < length ps → p ≡ get_or ps i p → list_all (is_met atoms l) ps ≡ true
+    → IsFirstOf (receives l p) atom_before atoms None → ⊥
 none_least atoms l ps i p lt is h f =
     let met = all_at (is_met atoms l) ps i p lt is h in
     let not = not_met atoms l p f in cc

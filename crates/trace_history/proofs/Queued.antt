@@ -1,5 +1,8 @@
--- The keys of a channel, walked in order, lead to the least of the older messages that a pattern receives.
-use Rattle.std.proofs.Common.{◌≡◌, ℕ, ◌+◌, ◌<◌, ◌≤◌, List, [], ◌∷◌, Option, Some, None, Bool, true, false, cond, refl, ap, sym, ◌∙◌, subst, arith, ◌==◌, ◌&&◌, ◌⊎◌, inl, inr, length, Ordering, Less, Equal, Greater, is_some}
+-- The keys of a channel, walked in order, lead to the least of the older messages that a pattern
+-- receives.
+use Rattle.std.proofs.Common.{◌≡◌, ℕ, ◌+◌, ◌<◌, ◌≤◌, List, [], ◌∷◌, Option, Some, None, Bool, true}
+use Rattle.std.proofs.Common.{false, cond, refl, ap, sym, ◌∙◌, subst, arith, ◌==◌, ◌&&◌, ◌⊎◌, inl}
+use Rattle.std.proofs.Common.{inr, length, Ordering, Less, Equal, Greater, is_some}
 use Rattle.std.specs.Prelude.{nat_lt, not}
 use Rattle.std.specs.List.{filter, AllByRecursion}
 use Rattle.std.specs.List.Sorted.{IsStrictlySortedBy}
@@ -37,10 +40,12 @@ nat_cmp-less : (x y : ℕ) → nat_cmp x y ≡ Less → x < y
 nat_cmp-less x y e = subst (λ (o : Ordering). MatchOrdering o (x < y) (x ≡ y) (y < x)) e (ranks x y)
 
 nat_cmp-equal : (x y : ℕ) → nat_cmp x y ≡ Equal → x ≡ y
-nat_cmp-equal x y e = subst (λ (o : Ordering). MatchOrdering o (x < y) (x ≡ y) (y < x)) e (ranks x y)
+nat_cmp-equal x y e =
+    subst (λ (o : Ordering). MatchOrdering o (x < y) (x ≡ y) (y < x)) e (ranks x y)
 
 nat_cmp-greater : (x y : ℕ) → nat_cmp x y ≡ Greater → y < x
-nat_cmp-greater x y e = subst (λ (o : Ordering). MatchOrdering o (x < y) (x ≡ y) (y < x)) e (ranks x y)
+nat_cmp-greater x y e =
+    subst (λ (o : Ordering). MatchOrdering o (x < y) (x ≡ y) (y < x)) e (ranks x y)
 
 less_at : (s k t j : ℕ) → (s < t) ⊎ ((s ≡ t) × (k < j)) → less s k t j ≡ true
 less_at s k t j (inl h) = grind (arith, nat_tests)
@@ -49,15 +54,18 @@ less_at s k t j (inr h) = let e = h.0 in let f = h.1 in grind (arith, nat_tests)
 pair_less : (x y : ℕ × ℕ) → pair_cmp x y ≡ Less → less x.0 x.1 y.0 y.1 ≡ true
 pair_less x y e = go (nat_cmp x.0 y.0) refl e
   where
-    go : (o : Ordering) → nat_cmp x.0 y.0 ≡ o → ordering_then o (nat_cmp x.1 y.1) ≡ Less → less x.0 x.1 y.0 y.1 ≡ true
+    go : (o : Ordering) → nat_cmp x.0 y.0 ≡ o → ordering_then o (nat_cmp x.1 y.1) ≡ Less
+        → less x.0 x.1 y.0 y.1 ≡ true
     go Less c f = less_at x.0 x.1 y.0 y.1 (inl (nat_cmp-less x.0 y.0 c))
     go Equal c f = less_at x.0 x.1 y.0 y.1 (inr (nat_cmp-equal x.0 y.0 c, nat_cmp-less x.1 y.1 f))
     go Greater c f = cc
 
-key_less : (k j : Key) → key_cmp k j ≡ Less → (k.0 < j.0) ⊎ ((k.0 ≡ j.0) × (less k.1.0 k.1.1 j.1.0 j.1.1 ≡ true))
+key_less : (k j : Key) → key_cmp k j ≡ Less
+    → (k.0 < j.0) ⊎ ((k.0 ≡ j.0) × (less k.1.0 k.1.1 j.1.0 j.1.1 ≡ true))
 key_less k j e = go (nat_cmp k.0 j.0) refl e
   where
-    go : (o : Ordering) → nat_cmp k.0 j.0 ≡ o → ordering_then o (pair_cmp k.1 j.1) ≡ Less → (k.0 < j.0) ⊎ ((k.0 ≡ j.0) × (less k.1.0 k.1.1 j.1.0 j.1.1 ≡ true))
+    go : (o : Ordering) → nat_cmp k.0 j.0 ≡ o → ordering_then o (pair_cmp k.1 j.1) ≡ Less
+        → (k.0 < j.0) ⊎ ((k.0 ≡ j.0) × (less k.1.0 k.1.1 j.1.0 j.1.1 ≡ true))
     go Less c f = inl (nat_cmp-less k.0 j.0 c)
     go Equal c f = inr (nat_cmp-equal k.0 j.0 c, pair_less k.1 j.1 f)
     go Greater c f = cc
@@ -66,7 +74,8 @@ key_less k j e = go (nat_cmp k.0 j.0) refl e
 least_pair : (p : ℕ × ℕ) → is_le (pair_cmp (0, 0) p) ≡ true
 least_pair p = go (nat_cmp 0 p.0) refl (nat_cmp 0 p.1) refl
   where
-    go : (o : Ordering) → nat_cmp 0 p.0 ≡ o → (q : Ordering) → nat_cmp 0 p.1 ≡ q → is_le (ordering_then o q) ≡ true
+    go : (o : Ordering) → nat_cmp 0 p.0 ≡ o → (q : Ordering) → nat_cmp 0 p.1 ≡ q
+        → is_le (ordering_then o q) ≡ true
     go Less c q d = refl
     go Greater c q d = let no = nat_cmp-greater 0 p.0 c in absurd (omega arith)
     go Equal c Less d = refl
@@ -76,19 +85,27 @@ least_pair p = go (nat_cmp 0 p.0) refl (nat_cmp 0 p.1) refl
 pub from_site : (f : ℕ) (k : Key) → is_le (key_cmp (f, (0, 0)) k) ≡ not (nat_lt k.0 f)
 from_site f k = go (nat_cmp f k.0) refl
   where
-    go : (o : Ordering) → nat_cmp f k.0 ≡ o → is_le (ordering_then o (pair_cmp (0, 0) k.1)) ≡ not (nat_lt k.0 f)
+    go : (o : Ordering) → nat_cmp f k.0 ≡ o
+        → is_le (ordering_then o (pair_cmp (0, 0) k.1)) ≡ not (nat_lt k.0 f)
     go Less c = let h = nat_cmp-less f k.0 c in grind (arith, nat_tests)
-    go Equal c = let h = nat_cmp-equal f k.0 c in let h2 : not (nat_lt k.0 f) ≡ true = grind (arith, nat_tests) in least_pair k.1 ∙ sym h2
+    go Equal c =
+        let h = nat_cmp-equal f k.0 c in
+        let h2 : not (nat_lt k.0 f) ≡ true = grind (arith, nat_tests) in
+        least_pair k.1 ∙ sym h2
     go Greater c = let h = nat_cmp-greater f k.0 c in grind (arith, nat_tests)
 
 -- ---- lists in order
 
-sorted_in_order : {K : Type 0} (c : K → K → Ordering) (below : K → K → Bool) (P : K → Type 0) → ((k j : K) → P k → P j → c k j ≡ Less → below j k ≡ false) → (ks : List K) → IsStrictlySortedBy c ks → Each P ks → InOrder below ks
+sorted_in_order : {K : Type 0} (c : K → K → Ordering) (below : K → K → Bool) (P : K → Type 0)
+    → ((k j : K) → P k → P j → c k j ≡ Less → below j k ≡ false) → (ks : List K)
+    → IsStrictlySortedBy c ks → Each P ks → InOrder below ks
 unfolding IsStrictlySortedBy
 sorted_in_order c below P keeps [] s h = tt
-sorted_in_order {K} c below P keeps (k ∷ ks) s h = (later ks s.0 h.1, sorted_in_order c below P keeps ks s.1 h.1)
+sorted_in_order {K} c below P keeps (k ∷ ks) s h =
+    (later ks s.0 h.1, sorted_in_order c below P keeps ks s.1 h.1)
   where
-    later : (js : List K) → AllByRecursion (λ y. c k y ≡ Less) js → Each P js → Each (λ j. below j k ≡ false) js
+    later : (js : List K) → AllByRecursion (λ y. c k y ≡ Less) js → Each P js
+        → Each (λ j. below j k ≡ false) js
     later [] a b = tt
     later (j ∷ js) a b = (keeps k j h.0 b.0 a.0, later js a.1 b.1)
 
@@ -96,14 +113,17 @@ each_filter : {K : Type 0} (p : K → Bool) (ks : List K) → Each (λ k. p k �
 each_filter p [] = tt
 each_filter p (k ∷ ks) = go (p k) refl (each_filter p ks)
   where
-    go : (t : Bool) → p k ≡ t → Each (λ j. p j ≡ true) (filter p ks) → Each (λ j. p j ≡ true) (cond t (k ∷ filter p ks) (filter p ks))
+    go : (t : Bool) → p k ≡ t → Each (λ j. p j ≡ true) (filter p ks)
+        → Each (λ j. p j ≡ true) (cond t (k ∷ filter p ks) (filter p ks))
     go true c h = (c, h)
     go false c h = h
 
-sorted_filter : {K : Type 0} (c : K → K → Ordering) (p : K → Bool) (ks : List K) → IsStrictlySortedBy c ks → IsStrictlySortedBy c (filter p ks)
+sorted_filter : {K : Type 0} (c : K → K → Ordering) (p : K → Bool) (ks : List K)
+    → IsStrictlySortedBy c ks → IsStrictlySortedBy c (filter p ks)
 sorted_filter c p ks s = IsStrictlySortedBy-filter c p ks s
 
-pub in_filter : {K : Type 0} (p : K → Bool) (ks : List K) (k : K) → IsIn k ks → p k ≡ true → IsIn k (filter p ks)
+pub in_filter : {K : Type 0} (p : K → Bool) (ks : List K) (k : K) → IsIn k ks → p k ≡ true
+    → IsIn k (filter p ks)
 in_filter p [] k at h = absurd at
 in_filter p (j ∷ ks) k (inl same) h = ap-in (p j) (ap p (sym same) ∙ h)
   where
@@ -123,7 +143,8 @@ is_high sites from k = is_le (key_cmp (from, (0, 0)) k) && not (is_le (key_cmp (
 
 high_is : (sites from : ℕ) (k : Key) → is_high sites from k ≡ true → (from ≤ k.0) × (k.0 < sites)
 high_is sites from k h =
-    let both = and_parts (is_le (key_cmp (from, (0, 0)) k)) (not (is_le (key_cmp (sites, (0, 0)) k))) h in
+    let both =
+    and_parts (is_le (key_cmp (from, (0, 0)) k)) (not (is_le (key_cmp (sites, (0, 0)) k))) h in
     let a : not (nat_lt k.0 from) ≡ true = sym (from_site from k) ∙ both.0 in
     let b : not (not (nat_lt k.0 sites)) ≡ true = sym (ap not (from_site sites k)) ∙ both.1 in
     (grind (arith, nat_tests), grind (arith, nat_tests))
@@ -132,25 +153,30 @@ pub is_high_at : (sites from : ℕ) (k : Key) → from ≤ k.0 → k.0 < sites �
 is_high_at sites from k a b =
     let c : not (nat_lt k.0 from) ≡ true = grind (arith, nat_tests) in
     let d : not (not (nat_lt k.0 sites)) ≡ true = grind (arith, nat_tests) in
-    ap (λ t. t && not (is_le (key_cmp (sites, (0, 0)) k))) (from_site from k ∙ c) ∙ ap not (from_site sites k) ∙ d
+    ap (λ t. t && not (is_le (key_cmp (sites, (0, 0)) k))) (from_site from k ∙ c)
+    ∙ ap not (from_site sites k) ∙ d
 
 -- ---- what a key finds
 
 abbrev pub id_of : Key → AtomId
 id_of k = record { site = k.1.0; k = k.1.1 }
 
-pub atom_in : (atoms : List NumberedAtom) (i : AtomId) (a : NumberedAtom) → atom_at atoms i ≡ Some a → IsIn a atoms
+pub atom_in : (atoms : List NumberedAtom) (i : AtomId) (a : NumberedAtom) → atom_at atoms i ≡ Some a
+    → IsIn a atoms
 atom_in [] i a e = cc
 atom_in (b ∷ atoms) i a e = go (same_atom b.id i) (atom_in atoms i a) e
   where
-    go : (t : Bool) → (atom_at atoms i ≡ Some a → IsIn a atoms) → cond t (Some b) (atom_at atoms i) ≡ Some a → IsIn a (b ∷ atoms)
+    go : (t : Bool) → (atom_at atoms i ≡ Some a → IsIn a atoms)
+        → cond t (Some b) (atom_at atoms i) ≡ Some a → IsIn a (b ∷ atoms)
     go true ih e' = let same : a ≡ b = cc in inl same
     go false ih e' = inr (ih e')
 
 -- what a pattern receives is on its channel
-pub received_channel : (p : Pat) (q : Process) → is_some (received p q) ≡ true → channel_of q ≡ number_of p.on
+pub received_channel : (p : Pat) (q : Process) → is_some (received p q) ≡ true
+    → channel_of q ≡ number_of p.on
 received_channel p (Msg x vs) h =
-    let fits = when_some (same_ref p.on x && (length p.params == length vs)) (given p.params (known vs)) h in
+    let fits =
+    when_some (same_ref p.on x && (length p.params == length vs)) (given p.params (known vs)) h in
     let same = (and_parts (same_ref p.on x) (length p.params == length vs) fits).0 in
     ap number_of (sym (same_ref_is p.on x same))
 received_channel p (Par ps) h = cc
@@ -174,39 +200,49 @@ module _ (l : Loc) (p : Pat) (old : List NumberedAtom) where
   key_finds : (k : Key) (a : NumberedAtom) → find_at l p old k ≡ Some a → Finds k a
   key_finds k a e = go (atom_at old (id_of k)) refl e
     where
-      here : (b : NumberedAtom) → atom_at old (id_of k) ≡ Some b → (t : Bool) → receives l p b ≡ t → cond t (Some b) None ≡ Some a → Finds k a
-      here b c true d f = let same : b ≡ a = cc in subst (λ (x : NumberedAtom). Finds k x) same (record { at = c; passes = d })
+      here : (b : NumberedAtom) → atom_at old (id_of k) ≡ Some b → (t : Bool) → receives l p b ≡ t
+          → cond t (Some b) None ≡ Some a → Finds k a
+      here b c true d f =
+          let same : b ≡ a = cc in
+          subst (λ (x : NumberedAtom). Finds k x) same (record { at = c; passes = d })
       here b c false d f = cc
 
-      go : (o : Option NumberedAtom) → atom_at old (id_of k) ≡ o → passing l p o ≡ Some a → Finds k a
+      go : (o : Option NumberedAtom) → atom_at old (id_of k) ≡ o → passing l p o ≡ Some a
+          → Finds k a
       go None c f = cc
       go (Some b) c f = here b c (receives l p b) refl f
 
   abbrev below : Key → Key → Bool
   below k j = less k.1.0 k.1.1 j.1.0 j.1.1
 
-  kept_order : (k j : Key) (x y : NumberedAtom) → find_at l p old k ≡ Some x → find_at l p old j ≡ Some y → below k j ≡ false → atom_before x y ≡ false
+  kept_order : (k j : Key) (x y : NumberedAtom) → find_at l p old k ≡ Some x
+      → find_at l p old j ≡ Some y → below k j ≡ false → atom_before x y ≡ false
   kept_order k j x y e f h =
       let a = atom_has old (id_of k) x (key_finds k x e).at in
       let b = atom_has old (id_of j) y (key_finds j y f).at in
-      ap (λ (i : AtomId). less i.site i.k y.id.site y.id.k) a ∙ ap (λ (i : AtomId). less k.1.0 k.1.1 i.site i.k) b ∙ h
+      ap (λ (i : AtomId). less i.site i.k y.id.site y.id.k) a
+      ∙ ap (λ (i : AtomId). less k.1.0 k.1.1 i.site i.k) b ∙ h
 
   not_itself : (x : NumberedAtom) → atom_before x x ≡ false
   not_itself x = not_less x.id.site x.id.k x.id.site x.id.k (omega arith) (λ f. omega arith)
 
-  module _ (c : ℕ) (on : number_of p.on ≡ Some c) (ks : List Key) (differ : AtomsDiffer old) (queued : AreQueued old ks) where
+  module _ (c : ℕ) (on : number_of p.on ≡ Some c) (ks : List Key) (differ : AtomsDiffer old)
+      (queued : AreQueued old ks) where
     abbrev here : Key → Bool
     here = is_high (c + 1) c
 
-    led : (x : NumberedAtom) → IsIn x old → receives l p x ≡ true → Leads (find_at l p old) (filter here ks) x
+    led : (x : NumberedAtom) → IsIn x old → receives l p x ≡ true
+        → Leads (find_at l p old) (filter here ks) x
     led x at passes =
         let q = queued x at in
-        let channel : channel_of x.term ≡ number_of p.on = received_channel p x.term (some_here (same_loc x.loc l) (received p x.term) passes) in
+        let channel : channel_of x.term ≡ number_of p.on =
+        received_channel p x.term (some_here (same_loc x.loc l) (received p x.term) passes) in
         let same : q.0 ≡ c = same_number q.0 c (sym q.1 ∙ channel ∙ on) in
         let key : Key = (q.0, (x.id.site, x.id.k)) in
         let found : atom_at old x.id ≡ Some x = member_found old differ x at in (
           key,
-          in_filter here ks key q.2 (is_high_at (c + 1) c key (omega (arith, same)) (omega (arith, same))),
+          in_filter here ks key
+              q.2 (is_high_at (c + 1) c key (omega (arith, same)) (omega (arith, same))),
           ap (passing l p) found ∙ ap (λ t. cond t (Some x) None) passes,
         )
 
@@ -216,39 +252,58 @@ module _ (l : Loc) (p : Pat) (old : List NumberedAtom) where
         let jb = high_is (c + 1) c j b in
         go ka jb (key_less k j e)
       where
-        go : (c ≤ k.0) × (k.0 < c + 1) → (c ≤ j.0) × (j.0 < c + 1) → (k.0 < j.0) ⊎ ((k.0 ≡ j.0) × (less k.1.0 k.1.1 j.1.0 j.1.1 ≡ true)) → below j k ≡ false
+        go : (c ≤ k.0) × (k.0 < c + 1) → (c ≤ j.0) × (j.0 < c + 1)
+            → (k.0 < j.0) ⊎ ((k.0 ≡ j.0) × (less k.1.0 k.1.1 j.1.0 j.1.1 ≡ true))
+            → below j k ≡ false
         go ka jb (inl h) = absurd (omega (arith, ka.0, jb.1, h))
         go ka jb (inr h) = less_asym k.1.0 k.1.1 j.1.0 j.1.1 h.1
 
-    pub first_queued : IsStrictlySortedBy key_cmp ks → (o : Option NumberedAtom) → walk (find_at l p old) (filter here ks) ≡ o → IsFirstOf (receives l p) atom_before old o
-    first_queued s o e = walk_first (find_at l p old) (receives l p) atom_before below old (filter here ks)
-        (record { right = λ k x f. let r = key_finds k x f in (atom_in old (id_of k) x r.at, r.passes); all = led })
-        (sorted_in_order key_cmp below (λ k. here k ≡ true) after (filter here ks) (sorted_filter key_cmp here ks s) (each_filter here ks))
+    pub first_queued : IsStrictlySortedBy key_cmp ks → (o : Option NumberedAtom)
+        → walk (find_at l p old) (filter here ks) ≡ o → IsFirstOf (receives l p) atom_before old o
+    first_queued s o e =
+        walk_first (find_at l p old) (receives l p) atom_before below old (filter here ks)
+        (record {
+          right = λ k x f. let r = key_finds k x f in (atom_in old (id_of k) x r.at, r.passes);
+          all = led;
+        })
+        (sorted_in_order key_cmp below (λ k. here k ≡ true) after (filter here ks)
+        (sorted_filter key_cmp here ks s) (each_filter here ks))
         not_itself kept_order o e
 
   -- a pattern whose channel has no number receives none of them
-  pub none_queued : (ks : List Key) → AreQueued old ks → number_of p.on ≡ None → IsFirstOf (receives l p) atom_before old None
-  none_queued ks queued on = each_one (λ x. receives l p x ≡ false) old (λ x at. go x at (receives l p x) refl)
+  pub none_queued : (ks : List Key) → AreQueued old ks → number_of p.on ≡ None
+      → IsFirstOf (receives l p) atom_before old None
+  none_queued ks queued on =
+      each_one (λ x. receives l p x ≡ false) old (λ x at. go x at (receives l p x) refl)
     where
-      go : (x : NumberedAtom) → IsIn x old → (t : Bool) → receives l p x ≡ t → receives l p x ≡ false
+      go : (x : NumberedAtom) → IsIn x old → (t : Bool) → receives l p x ≡ t
+          → receives l p x ≡ false
       go x at false d = d
       go x at true d =
           let q = queued x at in
-          let channel : channel_of x.term ≡ number_of p.on = received_channel p x.term (some_here (same_loc x.loc l) (received p x.term) d) in
+          let channel : channel_of x.term ≡ number_of p.on =
+          received_channel p x.term (some_here (same_loc x.loc l) (received p x.term) d) in
           let wrong : Some q.0 ≡ None = sym q.1 ∙ channel ∙ on in cc
 
   -- without a key there is none
-  pub none_there : (ks : List Key) → AreQueued old ks → length ks ≡ 0 → IsFirstOf (receives l p) atom_before old None
-  none_there ks queued e = each_one (λ x. receives l p x ≡ false) old (λ x at. let q = queued x at in absurd (gone ks q.0 x e q.2))
+  pub none_there : (ks : List Key) → AreQueued old ks → length ks ≡ 0
+      → IsFirstOf (receives l p) atom_before old None
+  none_there ks queued e = each_one (λ x. receives l p x ≡ false) old
+      (λ x at. let q = queued x at in absurd (gone ks q.0 x e q.2))
     where
-      gone : (ks : List Key) (n : ℕ) (x : NumberedAtom) → length ks ≡ 0 → IsIn (n, (x.id.site, x.id.k)) ks → ⊥
+      gone : (ks : List Key) (n : ℕ) (x : NumberedAtom) → length ks ≡ 0
+          → IsIn (n, (x.id.site, x.id.k)) ks → ⊥
       gone [] n x e at = at
       gone (k ∷ ks) n x e at = cc
 
 -- ---- a message that was found by its number
 
-pub found_passes : (l : Loc) (p : Pat) (a : NumberedAtom) (o : Option NumberedAtom) (t : Bool) → Some a ≡ o → t ≡ receives l p a → t ≡ true → Some a ≡ passing l p o
-found_passes l p a o t e f h = sym (ap (passing l p) (sym e) ∙ ap (λ b. cond b (Some a) None) (sym f ∙ h))
+pub found_passes : (l : Loc) (p : Pat) (a : NumberedAtom) (o : Option NumberedAtom) (t : Bool)
+    → Some a ≡ o → t ≡ receives l p a → t ≡ true → Some a ≡ passing l p o
+found_passes l p a o t e f h =
+    sym (ap (passing l p) (sym e) ∙ ap (λ b. cond b (Some a) None) (sym f ∙ h))
 
-pub found_fails : (l : Loc) (p : Pat) (a : NumberedAtom) (o : Option NumberedAtom) (t : Bool) → Some a ≡ o → t ≡ receives l p a → t ≡ false → None ≡ passing l p o
-found_fails l p a o t e f h = sym (ap (passing l p) (sym e) ∙ ap (λ b. cond b (Some a) None) (sym f ∙ h))
+pub found_fails : (l : Loc) (p : Pat) (a : NumberedAtom) (o : Option NumberedAtom) (t : Bool)
+    → Some a ≡ o → t ≡ receives l p a → t ≡ false → None ≡ passing l p o
+found_fails l p a o t e f h =
+    sym (ap (passing l p) (sym e) ∙ ap (λ b. cond b (Some a) None) (sym f ∙ h))

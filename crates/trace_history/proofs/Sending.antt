@@ -10,7 +10,12 @@ use Rattle.trace_history.specs.inside.Crosses.{ProgramCrosses, JournalCrosses, N
 use Rattle.trace_history.specs.inside.Crosses.{OlderCrosses, GuessesCross, WaitingCrosses}
 use Rattle.trace_history.specs.Crosses.{BookCrosses}
 
-pub book_send : ProgramCrosses → JournalCrosses → NumberedCrosses → OlderCrosses → GuessesCross → WaitingCrosses → BookCrosses
+pub book_send : ProgramCrosses → JournalCrosses → NumberedCrosses → OlderCrosses → GuessesCross
+    → WaitingCrosses → BookCrosses
 book_send p j n o g w =
-    let inner : IsSend book.TheInside.the_row = declared_send book.TheInside.the_type (as_row_send program.the_field p, (as_row_send (items.the_field event.the_row) j, (n, (o, (g, (w, tt)))))) in
-    view_send book.TheInside.the_row declared.Book declared.the_code declared.TheView.view declared.TheView.invariant inner
+    let inner : IsSend book.TheInside.the_row = declared_send book.TheInside.the_type (
+      as_row_send program.the_field p,
+      (as_row_send (items.the_field event.the_row) j, (n, (o, (g, (w, tt))))),
+    ) in
+    view_send book.TheInside.the_row declared.Book declared.the_code declared.TheView.view
+    declared.TheView.invariant inner

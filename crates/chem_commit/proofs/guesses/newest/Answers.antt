@@ -12,5 +12,7 @@ returns-then-same_loc c =
     let index = c.loop-left.left - 1 in
     let none : Placed = record { loc = record { site = 0; k = 0 }; host = None; marked = false } in
     let same : same_loc (get_or entries index none).loc c.args.at ≡ true = search rules in
-    let within : index < length entries = omega (arith, c.loop-left.invariant.0, c.loop-left-test.true) in
-    found_at c.args.places.now entries c.as_slice-entries.ensures.members c.requires index none c.args.at within same
+    let within : index < length entries =
+    omega (arith, c.loop-left.invariant.0, c.loop-left-test.true) in
+    found_at c.args.places.now entries c.as_slice-entries.ensures.members c.requires index none
+    c.args.at within same

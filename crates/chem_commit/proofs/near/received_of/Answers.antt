@@ -12,5 +12,8 @@ returns-in_ok-few c =
     let l = c.args.at in
     let ps = c.args.pats.now in
     let took = c.args.took.now in
-    IfOk-weaker c.received_all-else-len-lt-NEWEST.result (λ names. names ≡ received_all few l ps took) (λ names. names ≡ received_all atoms l ps took)
-    (λ names e. e ∙ received_picked atoms few l ps took c.in_ok-few.ensures.right c.in_ok-few.ensures.all) c.received_all-else-len-lt-NEWEST.ensures
+    IfOk-weaker c.received_all-else-len-lt-NEWEST.result
+    (λ names. names ≡ received_all few l ps took) (λ names. names ≡ received_all atoms l ps took)
+    (λ names e.
+    e ∙ received_picked atoms few l ps took c.in_ok-few.ensures.right c.in_ok-few.ensures.all)
+    c.received_all-else-len-lt-NEWEST.ensures

@@ -11,6 +11,13 @@ loop-index-preserved c =
     let first = c.args.places.now in
     let index = c.loop-index.index in
     elim c.match-get.branch [
-      | in-Some w ↦ w.places-is ∙ (w.set.ensures ∙ changed_next f first c.loop-index.places c.as_slice.result.now index w.in-Some.placed.now w.marked-changed.result c.loop-index.invariant c.as_slice.ensures.members w.in-Some.ensures.lookup.3.0 w.in-Some.ensures.lookup.1 w.marked-changed.ensures)
-      | in_default w ↦ w.places-is ∙ past_next f first c.loop-index.places c.as_slice.result.now index c.loop-index.invariant c.as_slice.ensures.members w.in_default.ensures.lookup.3
+      | in-Some w ↦ w.places-is
+          ∙ (w.set.ensures
+          ∙ changed_next f first c.loop-index.places c.as_slice.result.now index
+          w.in-Some.placed.now w.marked-changed.result c.loop-index.invariant
+          c.as_slice.ensures.members w.in-Some.ensures.lookup.3.0 w.in-Some.ensures.lookup.1
+          w.marked-changed.ensures)
+      | in_default w ↦ w.places-is
+          ∙ past_next f first c.loop-index.places c.as_slice.result.now index
+          c.loop-index.invariant c.as_slice.ensures.members w.in_default.ensures.lookup.3
     ]

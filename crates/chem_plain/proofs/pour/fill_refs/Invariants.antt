@@ -3,4 +3,6 @@ use Rattle.chem_model.specs.Fill.{fill_refs}
 use Rattle.chem_plain.proofs.pour.fill_refs.Given as goal
 
 abbrev pub invariant-loop-occurrence : goal.invariant-loop-occurrence
-invariant-loop-occurrence l = l.list ++ fill_refs l.names (drop l.occurrence-index l.occurrence-items) ≡ fill_refs l.names l.occurrence-items
+invariant-loop-occurrence l =
+    l.list ++ fill_refs l.names (drop l.occurrence-index l.occurrence-items)
+    ≡ fill_refs l.names l.occurrence-items

@@ -5,8 +5,10 @@ use Rattle.chem_plain.proofs.pour.put_rules.Given as goal
 
 abbrev pub invariant-loop-definition : goal.invariant-loop-definition
 invariant-loop-definition l =
-    let rest = rules_made (lay_rules l.site l.names l.at l.made.next (definitions (drop l.definition-index l.definition-items))) in
-    let all = rules_made (lay_rules l.site l.names l.at l.initial.made.next (definitions l.definition-items)) in
+    let rest = rules_made (lay_rules l.site l.names l.at l.made.next
+    (definitions (drop l.definition-index l.definition-items))) in
+    let all = rules_made
+    (lay_rules l.site l.names l.at l.initial.made.next (definitions l.definition-items)) in
     (rest.next ≡ all.next)
     × (l.made.births ++ rest.births ≡ l.initial.made.births ++ all.births)
     × (l.made.named ++ rest.named ≡ l.initial.made.named ++ all.named)

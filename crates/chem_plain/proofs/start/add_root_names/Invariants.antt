@@ -3,4 +3,5 @@ use Rattle.chem_model.specs.Opening.{root_names}
 use Rattle.chem_plain.proofs.start.add_root_names.Given as goal
 
 abbrev pub invariant-loop-site : goal.invariant-loop-site
-invariant-loop-site l = l.names ++ root_names l.site (drop l.site l.sites) ≡ l.initial.names ++ root_names 0 l.sites
+invariant-loop-site l =
+    l.names ++ root_names l.site (drop l.site l.sites) ≡ l.initial.names ++ root_names 0 l.sites

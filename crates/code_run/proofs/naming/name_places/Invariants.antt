@@ -6,5 +6,6 @@ use Rattle.code_run.proofs.naming.name_places.Given as goal
 
 abbrev pub invariant-loop-place : goal.invariant-loop-place
 invariant-loop-place l =
-    (l.names ++ place_names l.site l.k (numbered_levels l.code.levels (drop l.place-index l.places)) ≡ l.initial.names ++ place_names l.site l.from (numbered_levels l.code.levels l.places))
+    (l.names ++ place_names l.site l.k (numbered_levels l.code.levels (drop l.place-index l.places))
+    ≡ l.initial.names ++ place_names l.site l.from (numbered_levels l.code.levels l.places))
     × Each (IsThere l.code) (drop l.place-index l.places)

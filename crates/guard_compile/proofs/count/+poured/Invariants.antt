@@ -5,10 +5,14 @@ use Rattle.guard_compile.specs.inside.Counted.{both_poured, poured_in_all, poure
 use Rattle.guard_compile.proofs.count.+poured.Given as goal
 
 abbrev pub invariant-poured_all-loop-member : goal.invariant-poured_all-loop-member
-invariant-poured_all-loop-member l = both_poured l.made (poured_in_all (processes (drop l.member-index l.member-items))) ≡ poured_in_all (processes l.member-items)
+invariant-poured_all-loop-member l =
+    both_poured l.made (poured_in_all (processes (drop l.member-index l.member-items)))
+    ≡ poured_in_all (processes l.member-items)
 
 abbrev pub invariant-poured_defs-loop-definition : goal.invariant-poured_defs-loop-definition
-invariant-poured_defs-loop-definition l = both_poured l.made (poured_in_defs (definitions (drop l.definition-index l.definition-items))) ≡ poured_in_defs (definitions l.definition-items)
+invariant-poured_defs-loop-definition l =
+    both_poured l.made (poured_in_defs (definitions (drop l.definition-index l.definition-items)))
+    ≡ poured_in_defs (definitions l.definition-items)
 
 abbrev pub decreases-poured : goal.decreases-poured
 decreases-poured l = process_depth l.process.now

@@ -18,4 +18,5 @@ invariant_of-result c =
       sites = c.whole_piece.new.codes;
     } in
     let same : parts ≡ code_of c.args.program.now = search rules in
-    subst IsCode (sym same) (code_kept c.args.program.now (subst IsProgram c.program.view_is c.program.invariant))
+    subst IsCode (sym same)
+    (code_kept c.args.program.now (subst IsProgram c.program.view_is c.program.invariant))

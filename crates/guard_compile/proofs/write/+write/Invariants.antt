@@ -5,14 +5,17 @@ use Rattle.guard_compile.proofs.write.+write.Given as goal
 
 abbrev pub invariant-write_all-loop-member : goal.invariant-write_all-loop-member
 invariant-write_all-loop-member l =
-    Writing l.tops l.initial.piece l.initial.instrs l.initial.layout l.member-items l.piece l.instrs l.layout (drop l.member-index l.member-items)
+    Writing l.tops l.initial.piece l.initial.instrs l.initial.layout l.member-items l.piece l.instrs
+    l.layout (drop l.member-index l.member-items)
 
 abbrev pub invariant-write_defs-loop-definition : goal.invariant-write_defs-loop-definition
 invariant-write_defs-loop-definition l =
-    Defining l.tops l.block l.level l.channels l.initial.defined l.initial.count l.initial.layout l.initial.named l.definition-items
+    Defining l.tops l.block l.level l.channels l.initial.defined l.initial.count l.initial.layout
+    l.initial.named l.definition-items
     l.defined l.count l.layout l.named (drop l.definition-index l.definition-items)
 
--- a step to a part counts four times, so that a function may hand a term on to another, and so on three times
+-- a step to a part counts four times, so that a function may hand a term on to another, and so on
+-- three times
 abbrev pub decreases-write : goal.decreases-write
 decreases-write l = 4 * process_depth l.process.now
 

@@ -15,5 +15,11 @@ pub returns-in_err-extend_from_slice-in-Ok-2-clause-memory :
 returns-in_err-extend_from_slice-in-Ok-2-clause-memory g c = λ _. (
   _,
   consumes-more _ _ _ _ _ c.reading.invariant.taken c.in-Ok-2.ensures.bytes.0,
-  simp length-append (omega (arith, c.in-Ok-2.ensures.bound.1, c.in-Ok-2.ensures.bound.0, c.read.auto.buffer, length-take c.min.result c.reading.buffer)),
+  simp length-append (omega (
+    arith,
+    c.in-Ok-2.ensures.bound.1,
+    c.in-Ok-2.ensures.bound.0,
+    c.read.auto.buffer,
+    length-take c.min.result c.reading.buffer,
+  )),
 )

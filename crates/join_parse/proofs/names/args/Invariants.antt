@@ -6,7 +6,8 @@ use Rattle.join_parse.proofs.names.args.Given as goal
 
 abbrev pub invariant-commas : goal.invariant-commas
 invariant-commas l = record {
-  reads : Reads l.b (AtMost l.b.levels) l.tokens l.at (Args ∷ []) l.end (MoreArgs (length l.list) ∷ []);
+  reads :
+      Reads l.b (AtMost l.b.levels) l.tokens l.at (Args ∷ []) l.end (MoreArgs (length l.list) ∷ []);
   listed : ListedArgs l.b.second l.tokens l.at l.end l.list;
   few : length l.list ≤ 255;
 }

@@ -6,7 +6,9 @@ use Rattle.join_parse.proofs.names.names.Given as goal
 
 abbrev pub invariant-commas : goal.invariant-commas
 invariant-commas l = record {
-  reads : Reads l.b (AtMost l.b.levels) l.tokens l.at (Names ∷ []) l.end (MoreNames (length l.list) ∷ []);
+  reads :
+      Reads l.b (AtMost l.b.levels) l.tokens l.at (Names ∷ [])
+      l.end (MoreNames (length l.list) ∷ []);
   listed : ListedNames l.tokens l.at l.end l.list;
   few : length l.list ≤ 255;
 }

@@ -7,7 +7,9 @@ use Rattle.join_parse.proofs.names.patterns.Given as goal
 
 abbrev pub invariant-bars : goal.invariant-bars
 invariant-bars l = record {
-  reads : Reads l.b (AtMost l.b.levels) l.tokens l.at (AName ∷ ASign sign.ParenLeft ∷ Names ∷ MorePatterns ∷ []) l.end (MorePatterns ∷ []);
+  reads :
+      Reads l.b (AtMost l.b.levels) l.tokens l.at
+      (AName ∷ ASign sign.ParenLeft ∷ Names ∷ MorePatterns ∷ []) l.end (MorePatterns ∷ []);
   listed : ListedPatterns l.tokens l.at l.end l.list;
 }
 

@@ -9,10 +9,15 @@ use Rattle.join_parse.specs.Members.{place_depth}
 use Rattle.join_parse.proofs.print.+print.Given as goal
 
 abbrev pub invariant-put_processes-loop-member : goal.invariant-put_processes-loop-member
-invariant-put_processes-loop-member l = (rest : List Terminal) → spaced l.fn.out (of_processes nowhere (processes l.member-items) rest) ≡ spaced l.out (left_processes l.first (processes (drop l.member-index l.member-items)) rest)
+invariant-put_processes-loop-member l = (rest : List Terminal)
+    → spaced l.fn.out (of_processes nowhere (processes l.member-items) rest)
+    ≡ spaced l.out (left_processes l.first (processes (drop l.member-index l.member-items)) rest)
 
 abbrev pub invariant-put_definitions-loop-member : goal.invariant-put_definitions-loop-member
-invariant-put_definitions-loop-member l = (rest : List Terminal) → spaced l.fn.out (of_definitions nowhere (definitions l.member-items) rest) ≡ spaced l.out (left_definitions l.first (definitions (drop l.member-index l.member-items)) rest)
+invariant-put_definitions-loop-member l = (rest : List Terminal)
+    → spaced l.fn.out (of_definitions nowhere (definitions l.member-items) rest)
+    ≡ spaced l.out
+    (left_definitions l.first (definitions (drop l.member-index l.member-items)) rest)
 
 abbrev pub decreases-put_processes : goal.decreases-put_processes
 decreases-put_processes l = procs_depth l.list.now

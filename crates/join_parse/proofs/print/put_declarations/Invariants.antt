@@ -5,4 +5,6 @@ use Rattle.join_parse.specs.inside.Printed.{spaced}
 use Rattle.join_parse.proofs.print.put_declarations.Given as goal
 
 abbrev pub invariant-loop-declaration : goal.invariant-loop-declaration
-invariant-loop-declaration l = (rest : List Terminal) → spaced l.fn.out (of_declarations nowhere l.declaration-items rest) ≡ spaced l.out (of_declarations nowhere (drop l.declaration-index l.declaration-items) rest)
+invariant-loop-declaration l = (rest : List Terminal)
+    → spaced l.fn.out (of_declarations nowhere l.declaration-items rest)
+    ≡ spaced l.out (of_declarations nowhere (drop l.declaration-index l.declaration-items) rest)

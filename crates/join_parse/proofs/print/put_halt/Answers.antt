@@ -7,5 +7,6 @@ use Rattle.join_parse.proofs.print.put_halt.Goals as goal
 pub returns : goal.returns
 returns c =
     on_ok_weaker c.put_sign-2.result
-    (λ p rest. c.in_ok-put_key.ensures (a_sign sign.ParenLeft ∷ a_sign sign.ParenRight ∷ rest) ∙ c.in_ok-put_sign.ensures (a_sign sign.ParenRight ∷ rest) ∙ p rest)
+    (λ p rest. c.in_ok-put_key.ensures (a_sign sign.ParenLeft ∷ a_sign sign.ParenRight ∷ rest)
+    ∙ c.in_ok-put_sign.ensures (a_sign sign.ParenRight ∷ rest) ∙ p rest)
     c.put_sign-2.ensures

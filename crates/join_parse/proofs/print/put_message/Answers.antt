@@ -8,5 +8,6 @@ use Rattle.join_parse.proofs.print.put_message.Goals as goal
 pub returns : goal.returns
 returns c =
     on_ok_weaker c.put_args.result
-    (λ p rest. c.in_ok-put_word.ensures (a_sign sign.ParenLeft ∷ arguments c.args.list.now rest) ∙ c.in_ok-put_sign.ensures (arguments c.args.list.now rest) ∙ p rest)
+    (λ p rest. c.in_ok-put_word.ensures (a_sign sign.ParenLeft ∷ arguments c.args.list.now rest)
+    ∙ c.in_ok-put_sign.ensures (arguments c.args.list.now rest) ∙ p rest)
     c.put_args.ensures

@@ -8,5 +8,8 @@ use Rattle.join_parse.proofs.print.put_names.Goals as goal
 
 pub loop-word-preserved : goal.loop-word-preserved
 loop-word-preserved c =
-    member-prints left_names (λ w rest. named w ∷ rest) (a_sign sign.Comma) names-law (names c.as_slice-word-items.result.now) c.args.out.now c.loop-word.out c.put_sign_between.new.out c.put_word.new.out c.loop-word.first
-    c.as_slice-word-items.result.now c.loop-word.word-index c.word-item.result c.loop-word-test.true c.word-item.is c.loop-word.invariant c.in_ok-put_sign_between.ensures c.in_ok-put_word.ensures
+    member-prints left_names (λ w rest. named w ∷ rest) (a_sign sign.Comma) names-law
+    (names c.as_slice-word-items.result.now)
+    c.args.out.now c.loop-word.out c.put_sign_between.new.out c.put_word.new.out c.loop-word.first
+    c.as_slice-word-items.result.now c.loop-word.word-index c.word-item.result c.loop-word-test.true
+    c.word-item.is c.loop-word.invariant c.in_ok-put_sign_between.ensures c.in_ok-put_word.ensures

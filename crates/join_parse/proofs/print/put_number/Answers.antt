@@ -6,5 +6,7 @@ use Rattle.join_parse.proofs.print.put_number.Goals as goal
 
 pub returns : goal.returns
 returns c =
-    let digits : c.as_bytes.result.now ≡ decimal c.args.value = c.as_bytes.ensures.value ∙ c.in_ok-digits.ensures.ok in
-    on_ok_weaker c.put.result (λ put rest. ap (λ text. spaced text rest) (sym (put ∙ ap (λ word. c.args.out.now ++ gap c.args.out.now ++ word) digits))) c.put.ensures
+    let digits : c.as_bytes.result.now ≡ decimal c.args.value =
+    c.as_bytes.ensures.value ∙ c.in_ok-digits.ensures.ok in
+    on_ok_weaker c.put.result (λ put rest. ap (λ text. spaced text rest)
+    (sym (put ∙ ap (λ word. c.args.out.now ++ gap c.args.out.now ++ word) digits))) c.put.ensures

@@ -12,6 +12,7 @@ returns c =
     let second : is_second c.args.version ≡ true = grind (arith, nat_tests) in
     rw second
     (on_ok_weaker c.put_sign.result
-    (λ p rest. ap (λ text. spaced text (unplaced nowhere 2 (a_sign sign.Semicolon ∷ rest))) (sym c.in_ok-put.ensures)
+    (λ p rest. ap (λ text. spaced text (unplaced nowhere 2 (a_sign sign.Semicolon ∷ rest)))
+    (sym c.in_ok-put.ensures)
     ∙ c.in_ok-put_number.ensures (a_sign sign.Semicolon ∷ rest) ∙ p rest)
     c.put_sign.ensures)

@@ -43,7 +43,8 @@ decreases-processes-members l = length l.tokens - l.end
 
 abbrev pub invariant-definitions-ands : goal.invariant-definitions-ands
 invariant-definitions-ands l = record {
-  reads : Reads l.b (Exactly l.depth) l.tokens l.at (Defs l.within ∷ []) l.end (MoreDefs l.within ∷ []);
+  reads :
+      Reads l.b (Exactly l.depth) l.tokens l.at (Defs l.within ∷ []) l.end (MoreDefs l.within ∷ []);
   listed : ListedDefinitions l.b.second l.tokens l.at l.end l.within l.list;
 }
 

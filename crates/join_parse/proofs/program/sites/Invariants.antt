@@ -7,7 +7,9 @@ use Rattle.join_parse.proofs.program.sites.Given as goal
 
 abbrev pub invariant-sites : goal.invariant-sites
 invariant-sites l = record {
-  reads : Reads l.b (Exactly 0) l.tokens l.at (ASite ∷ AName ∷ Body false ∷ Sites ∷ []) l.end (Sites ∷ []);
+  reads :
+      Reads l.b (Exactly 0) l.tokens l.at (ASite ∷ AName ∷ Body false ∷ Sites ∷ [])
+      l.end (Sites ∷ []);
   listed : ListedSites l.b.second l.tokens l.at l.end l.list;
   some : IsNotEmpty l.list;
 }

@@ -4,4 +4,5 @@ use Rattle.join_top.proofs.making.begin.Goals as goal
 
 pub returns-in-Ok-clause-one : goal.returns-in-Ok-clause-one
 returns-in-Ok-clause-one c =
-    begun_stand c.args.program.now c.in-Ok.net c.in-Ok.ensures c.in_ok-book.book c.in_ok-book.ensures.opening
+    begun_stand c.args.program.now c.in-Ok.net c.in-Ok.ensures c.in_ok-book.book
+    c.in_ok-book.ensures.opening

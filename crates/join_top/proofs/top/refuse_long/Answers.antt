@@ -6,4 +6,6 @@ use Rattle.join_top.proofs.top.refuse_long.Goals as goal
 
 pub returns-clause-line : goal.returns-clause-line
 returns-clause-line g c =
-    subst (λ (t : List ℕ). Gains g.E.Sink.held g.E.Sink.faults c.args.err.now c.write_line.new.err t) (sym long_line) c.write_line.ensures.gains
+    subst
+    (λ (t : List ℕ). Gains g.E.Sink.held g.E.Sink.faults c.args.err.now c.write_line.new.err t)
+    (sym long_line) c.write_line.ensures.gains

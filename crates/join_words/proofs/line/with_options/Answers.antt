@@ -5,6 +5,10 @@ use Rattle.join_words.proofs.line.with_options.Goals as goal
 
 pub returns : goal.returns
 returns c =
-    let budget = c.in_ok-arg.ensures.shape c.valued_option.ensures.local ∙ ap (with_rule (app_of c.args.command)) c.valued_option.ensures.rule in
-    let workers = c.in_ok-arg-2.ensures.shape c.valued_option-2.ensures.local ∙ ap₂ with_rule budget c.valued_option-2.ensures.rule in
-    IfOk-weaker c.arg-3.result _ _ (λ r h. h.shape c.valued_option-3.ensures.local ∙ ap₂ with_rule workers c.valued_option-3.ensures.rule) c.arg-3.ensures
+    let budget = c.in_ok-arg.ensures.shape c.valued_option.ensures.local
+    ∙ ap (with_rule (app_of c.args.command)) c.valued_option.ensures.rule in
+    let workers = c.in_ok-arg-2.ensures.shape c.valued_option-2.ensures.local
+    ∙ ap₂ with_rule budget c.valued_option-2.ensures.rule in
+    IfOk-weaker c.arg-3.result _ _ (λ r h.
+    h.shape c.valued_option-3.ensures.local ∙ ap₂ with_rule workers c.valued_option-3.ensures.rule)
+    c.arg-3.ensures

@@ -6,4 +6,5 @@ use Rattle.loc_tree.proofs.tree.add.Goals as goal
 
 pub returns-clause-entries : goal.returns-clause-entries
 returns-clause-entries c =
-    from_ok c.insert.result _ (c.insert.ensures.succeeds c.requires.room) c.insert.ensures.entries ∙ insert_entry-new same_pair c.args.spots.now (c.args.loc.site, c.args.loc.k) _ c.requires.new
+    from_ok c.insert.result _ (c.insert.ensures.succeeds c.requires.room) c.insert.ensures.entries
+    ∙ insert_entry-new same_pair c.args.spots.now (c.args.loc.site, c.args.loc.k) _ c.requires.new

@@ -30,4 +30,5 @@ pub returns-clause-silent : goal.returns-clause-silent
 returns-clause-silent g c = ended.is_silent _ _ _ _ _ _ _ _ _ _ _ c.judge.ensures
 
 pub returns-clause-line : goal.returns-clause-line
-returns-clause-line g c = ended.line g.E.Sink.held g.E.Sink.faults c.args.err.now c.judge.new.err _ _ _ _ _ _ _ _ _ c.judge.ensures
+returns-clause-line g c = ended.line g.E.Sink.held g.E.Sink.faults c.args.err.now c.judge.new.err _
+    _ _ _ _ _ _ _ _ c.judge.ensures

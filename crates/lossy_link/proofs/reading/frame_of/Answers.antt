@@ -10,8 +10,11 @@ pub overflow_add-result : goal.overflow_add-result
 overflow_add-result c =
     let h = c.in-Ok in
     let place = c.in-Err-Bad.place in
-    let at : WrongAt (behind_head h.tag h.from h.into h.number) h.rest.now place = subst (λ (e : DecodeEnd). NamesWrongIn (behind_head h.tag h.from h.into h.number) e h.rest.now) c.in-Err-Bad.field-0-is c.in-Err-Bad.ensures in
-    let far : place + 17 ≤ length c.args.bytes.now = far_enough h.tag h.from h.into h.number h.rest.now c.args.bytes.now place h.ensures at in
+    let at : WrongAt (behind_head h.tag h.from h.into h.number) h.rest.now place =
+    subst (λ (e : DecodeEnd). NamesWrongIn (behind_head h.tag h.from h.into h.number) e h.rest.now)
+    c.in-Err-Bad.field-0-is c.in-Err-Bad.ensures in
+    let far : place + 17 ≤ length c.args.bytes.now =
+    far_enough h.tag h.from h.into h.number h.rest.now c.args.bytes.now place h.ensures at in
     let count = c.count_of-count.ensures.is in
     let few = c.count_of-count.ensures.fits in
     omega arith
@@ -20,5 +23,7 @@ pub returns-in-Err-Bad : goal.returns-in-Err-Bad
 returns-in-Err-Bad c =
     let h = c.in-Ok in
     let place = c.in-Err-Bad.place in
-    let at : WrongAt (behind_head h.tag h.from h.into h.number) h.rest.now place = subst (λ (e : DecodeEnd). NamesWrongIn (behind_head h.tag h.from h.into h.number) e h.rest.now) c.in-Err-Bad.field-0-is c.in-Err-Bad.ensures in
+    let at : WrongAt (behind_head h.tag h.from h.into h.number) h.rest.now place =
+    subst (λ (e : DecodeEnd). NamesWrongIn (behind_head h.tag h.from h.into h.number) e h.rest.now)
+    c.in-Err-Bad.field-0-is c.in-Err-Bad.ensures in
     wrong_behind h.tag h.from h.into h.number h.rest.now c.args.bytes.now h.ensures place at

@@ -4,7 +4,8 @@ use Rattle.lossy_link.proofs.reading.message_of.Goals as goal
 pub returns-in-Ok : goal.returns-in-Ok
 returns-in-Ok c =
     let begins = starts c.args.bytes.now c.if-bytes-ne1.false in
-    data_from c.copy_of.result begins.0 c.args.bytes.now c.in-Ok._packet begins.1 c.in-Ok.ensures.found c.copy_of.ensures
+    data_from c.copy_of.result begins.0 c.args.bytes.now c.in-Ok._packet begins.1
+    c.in-Ok.ensures.found c.copy_of.ensures
 
 pub returns-in-Err : goal.returns-in-Err
 returns-in-Err c =

@@ -23,7 +23,9 @@ use Rattle.migration.proofs.Keeping.{agree, no_root, others_keep, comes_fit, nam
 use Rattle.migration.proofs.carrying.move_between.Goals as goal
 
 pub carried-requires : goal.carried-requires
-carried-requires c = ap (λ (j : AtomId). request_with j c.args.from.now.requests) (request_id c.args.from.now.requests c.args.atom.now c.asked-request.result c.asked-request.ensures) ∙ c.asked-request.ensures
+carried-requires c = ap (λ (j : AtomId). request_with j c.args.from.now.requests) (request_id
+    c.args.from.now.requests c.args.atom.now c.asked-request.result c.asked-request.ensures)
+    ∙ c.asked-request.ensures
 
 pub arrive-requires-clause-can : goal.arrive-requires-clause-can
 arrive-requires-clause-can c =
@@ -31,13 +33,21 @@ arrive-requires-clause-can c =
     let from : Site = c.args.from.now in
     let into : Site = c.args.into.now in
     let i : AtomId = c.args.atom.now in
-    let q : RequestParts = record { id = c.request.inside.id; loc = c.request.inside.loc; ask = c.request.inside.ask } in
+    let q : RequestParts =
+    record { id = c.request.inside.id; loc = c.request.inside.loc; ask = c.request.inside.ask } in
     let b : Loc = c.goal_of-cont.result.0 in
     let k : Name = c.goal_of-cont.result.1 in
-    let there : request_with i from.requests ≡ Some q = c.asked-request.ensures ∙ ap (λ (r : RequestParts). Some r) (sym c.request.view_is) in
-    let apart : is_apart into i (pack q.loc from) ≡ true = sym (ap (joins i from into) there) ∙ c.requires.joins in
-    let may = can_receive from into q.loc i q (λ _. q.loc) there apart c.site_is_kept.ensures.once c.site_is_kept-2.ensures.once t c.site_is_kept.ensures.kept c.site_is_kept-2.ensures.kept c.site_is_kept.ensures.numbers c.requires.can_draw in
-    let same = carries c.args.code.now t from i q c.in_ok-parcel.parcel c.requires.from_code there (c.in_ok-parcel.ensures ∙ ap (λ (r : RequestParts). parcel_of (pack r.loc (drop_request r.id from))) (sym c.request.view_is)) in
+    let there : request_with i from.requests ≡ Some q =
+    c.asked-request.ensures ∙ ap (λ (r : RequestParts). Some r) (sym c.request.view_is) in
+    let apart : is_apart into i (pack q.loc from) ≡ true =
+    sym (ap (joins i from into) there) ∙ c.requires.joins in
+    let may = can_receive from into q.loc i q (λ _. q.loc) there apart
+    c.site_is_kept.ensures.once c.site_is_kept-2.ensures.once t c.site_is_kept.ensures.kept
+    c.site_is_kept-2.ensures.kept c.site_is_kept.ensures.numbers c.requires.can_draw in
+    let same = carries c.args.code.now t from i q c.in_ok-parcel.parcel c.requires.from_code there
+    (c.in_ok-parcel.ensures
+    ∙ ap (λ (r : RequestParts). parcel_of (pack r.loc (drop_request r.id from)))
+    (sym c.request.view_is)) in
     subst (λ (load : Load). CanReceive load into) (sym same) may
 
 pub alive-lives-requires : goal.alive-lives-requires
@@ -46,10 +56,12 @@ alive-lives-requires c =
     let from : Site = c.args.from.now in
     let into : Site = c.args.into.now in
     let i : AtomId = c.args.atom.now in
-    let q : RequestParts = record { id = c.request.inside.id; loc = c.request.inside.loc; ask = c.request.inside.ask } in
+    let q : RequestParts =
+    record { id = c.request.inside.id; loc = c.request.inside.loc; ask = c.request.inside.ask } in
     let b : Loc = c.goal_of-cont.result.0 in
     let k : Name = c.goal_of-cont.result.1 in
-    let there : request_with i from.requests ≡ Some q = c.asked-request.ensures ∙ ap (λ (r : RequestParts). Some r) (sym c.request.view_is) in
+    let there : request_with i from.requests ≡ Some q =
+    c.asked-request.ensures ∙ ap (λ (r : RequestParts). Some r) (sym c.request.view_is) in
     (goal_stands t from i q b k c.requires.from_tree there c.goal_of-cont.ensures.asks).0
 
 pub arrive-requires-clause-plain : goal.arrive-requires-clause-plain
@@ -61,33 +73,64 @@ returns c =
     let from : Site = c.args.from.now in
     let into : Site = c.args.into.now in
     let i : AtomId = c.args.atom.now in
-    let q : RequestParts = record { id = c.request.inside.id; loc = c.request.inside.loc; ask = c.request.inside.ask } in
+    let q : RequestParts =
+    record { id = c.request.inside.id; loc = c.request.inside.loc; ask = c.request.inside.ask } in
     let b : Loc = c.goal_of-cont.result.0 in
     let k : Name = c.goal_of-cont.result.1 in
-    let there : request_with i from.requests ≡ Some q = c.asked-request.ensures ∙ ap (λ (r : RequestParts). Some r) (sym c.request.view_is) in
-    let apart : is_apart into i (pack q.loc from) ≡ true = sym (ap (joins i from into) there) ∙ c.requires.joins in
-    let same = carries c.args.code.now t from i q c.in_ok-parcel.parcel c.requires.from_code there (c.in_ok-parcel.ensures ∙ ap (λ (r : RequestParts). parcel_of (pack r.loc (drop_request r.id from))) (sym c.request.view_is)) in
-    let came = subst (λ (load : Load). let a = moved_made c.alive-lives.result c.args.code.now.seen into.number load.loc into.made k in Answers (sent_here t a (take_in load into)) a.outs [] c.arrive.new.into c.in_ok-effects.effects) same c.in_ok-effects.ensures.ok in
-    let answers = subst (λ (u : Bool). let a = moved_made u c.args.code.now.seen into.number q.loc into.made k in Answers (sent_here t a (take_in (pack q.loc (drop_request i from)) into)) a.outs [] c.arrive.new.into c.in_ok-effects.effects) c.alive-lives.ensures.tree came in
-    let can = one_goal t q.loc q.ask b k (may_move t from i c.requires.ready q there) c.goal_of-cont.ensures.asks in
+    let there : request_with i from.requests ≡ Some q =
+    c.asked-request.ensures ∙ ap (λ (r : RequestParts). Some r) (sym c.request.view_is) in
+    let apart : is_apart into i (pack q.loc from) ≡ true =
+    sym (ap (joins i from into) there) ∙ c.requires.joins in
+    let same = carries c.args.code.now t from i q c.in_ok-parcel.parcel c.requires.from_code there
+    (c.in_ok-parcel.ensures
+    ∙ ap (λ (r : RequestParts). parcel_of (pack r.loc (drop_request r.id from)))
+    (sym c.request.view_is)) in
+    let came = subst (λ (load : Load).
+    let a = moved_made c.alive-lives.result c.args.code.now.seen into.number load.loc into.made k in
+    Answers (sent_here t a (take_in load into)) a.outs [] c.arrive.new.into c.in_ok-effects.effects)
+    same c.in_ok-effects.ensures.ok in
+    let answers =
+    subst (λ (u : Bool). let a = moved_made u c.args.code.now.seen into.number q.loc into.made k in
+    Answers (sent_here t a (take_in (pack q.loc (drop_request i from)) into)) a.outs []
+    c.arrive.new.into c.in_ok-effects.effects) c.alive-lives.ensures.tree came in
+    let can = one_goal t q.loc q.ask b k (may_move t from i c.requires.ready q there)
+    c.goal_of-cont.ensures.asks in
     let here = target_here from into i q b k c.requires.hosted there c.goal_of-cont.ensures.asks in
-    let number = target_number t into q.loc b c.tree_is_kept.ensures c.requires.into_tree can here in
+    let number =
+    target_number t into q.loc b c.tree_is_kept.ensures c.requires.into_tree can here in
     let away = joins_away from into q.loc i apart in
-    let moved = agree t from into i q b there can c.site_is_kept.ensures.kept c.requires.from_tree c.tree_is_kept.ensures number c.rehost.new.self c.rehost.ensures.tree in
-    let there_too = subst (λ (l : Loc). AgreeBut l t c.rehost.new.self) (sym (ap (λ (load : Load). load.loc) same)) moved in
-    let rootless = no_root t from into i q b there can c.site_is_kept.ensures.kept c.requires.from_tree c.tree_is_kept.ensures number c.rehost.new.self c.rehost.ensures.tree in
-    let drawn = comes_drawn from into q.loc i q (λ _. q.loc) there apart c.site_is_kept.ensures.once c.site_is_kept-2.ensures.once in
-    let fits = subst (λ (load : Load). FitsInto c.args.code.now c.rehost.new.self load into) (sym same)
-    (comes_fit t from into i q b there can c.site_is_kept.ensures.kept c.requires.from_tree c.tree_is_kept.ensures number c.rehost.new.self c.rehost.ensures.tree c.args.code.now c.requires.from_code drawn) in
-    let named = (goal_stands t from i q b k c.requires.from_tree there c.goal_of-cont.ensures.asks).1 in
+    let moved = agree t from into i q b there can c.site_is_kept.ensures.kept c.requires.from_tree
+    c.tree_is_kept.ensures number c.rehost.new.self c.rehost.ensures.tree in
+    let there_too = subst (λ (l : Loc). AgreeBut l t c.rehost.new.self)
+    (sym (ap (λ (load : Load). load.loc) same)) moved in
+    let rootless = no_root t from into i q b there can c.site_is_kept.ensures.kept
+    c.requires.from_tree c.tree_is_kept.ensures number c.rehost.new.self c.rehost.ensures.tree in
+    let drawn = comes_drawn from into q.loc i q (λ _. q.loc) there apart
+    c.site_is_kept.ensures.once c.site_is_kept-2.ensures.once in
+    let fits =
+    subst (λ (load : Load). FitsInto c.args.code.now c.rehost.new.self load into) (sym same)
+    (comes_fit t from into i q b there can
+    c.site_is_kept.ensures.kept c.requires.from_tree c.tree_is_kept.ensures number
+    c.rehost.new.self c.rehost.ensures.tree c.args.code.now c.requires.from_code drawn) in
+    let named =
+    (goal_stands t from i q b k c.requires.from_tree there c.goal_of-cont.ensures.asks).1 in
     record {
-      ok = move_between c.args.code.now.seen t from into i q b k there c.goal_of-cont.ensures.asks number c.rehost.new.self c.rehost.ensures.tree c.remove.new.self c.arrive.new.into c.remove.ensures.is c.in_ok-effects.effects
+      ok = move_between c.args.code.now.seen t from into i q b k there
+          c.goal_of-cont.ensures.asks number c.rehost.new.self c.rehost.ensures.tree
+          c.remove.new.self c.arrive.new.into c.remove.ensures.is c.in_ok-effects.effects
           c.site_is_kept.ensures.kept c.site_is_kept-2.ensures.kept away answers;
-      one_event = λ rules_of. one_move_between c.args.code.now.seen t from into i q b k there c.goal_of-cont.ensures.asks number c.rehost.new.self c.rehost.ensures.tree c.remove.new.self c.arrive.new.into c.remove.ensures.is c.in_ok-effects.effects
-          c.site_is_kept.ensures.kept c.site_is_kept-2.ensures.kept away answers rules_of c.requires.from_tree;
+      one_event = λ rules_of. one_move_between c.args.code.now.seen t from into i q b k there
+          c.goal_of-cont.ensures.asks number c.rehost.new.self c.rehost.ensures.tree
+          c.remove.new.self c.arrive.new.into c.remove.ensures.is c.in_ok-effects.effects
+          c.site_is_kept.ensures.kept c.site_is_kept-2.ensures.kept away answers rules_of
+          c.requires.from_tree;
       from_keeps = c.remove.ensures.keeps c.args.code.now t c.rehost.new.self moved rootless;
-      into_keeps = c.in_ok-effects.ensures.keeps t c.rehost.new.self there_too fits (name_there t c.rehost.new.self moved.there k named) c.requires.into_tree c.requires.into_code c.requires.can_draw;
-      others_keep = others_keep t from into i q b there can c.site_is_kept.ensures.kept c.requires.from_tree c.tree_is_kept.ensures number c.rehost.new.self c.rehost.ensures.tree;
+      into_keeps = c.in_ok-effects.ensures.keeps t c.rehost.new.self there_too fits
+          (name_there t c.rehost.new.self moved.there k named)
+          c.requires.into_tree c.requires.into_code c.requires.can_draw;
+      others_keep =
+          others_keep t from into i q b there can c.site_is_kept.ensures.kept c.requires.from_tree
+          c.tree_is_kept.ensures number c.rehost.new.self c.rehost.ensures.tree;
       err_from = tt;
       err_into = tt;
       err_tree = tt;

@@ -8,5 +8,7 @@ pub returns : goal.returns
 returns c =
     let q = c.args.request in
     let rs = c.args.requests.now.items in
-    let at : c.place_for-place.result ≡ place_for q.id rs = c.place_for-place.ensures.place ∙ ap (place_for c.request.inside.id) c.as_slice.ensures.value ∙ ap (λ (r : RequestParts). place_for r.id rs) c.request.view_is in
+    let at : c.place_for-place.result ≡ place_for q.id rs =
+    c.place_for-place.ensures.place ∙ ap (place_for c.request.inside.id) c.as_slice.ensures.value
+    ∙ ap (λ (r : RequestParts). place_for r.id rs) c.request.view_is in
     c.in_ok-insert.ensures.items ∙ ap (λ k. insert rs k q) at ∙ put_in_place q rs

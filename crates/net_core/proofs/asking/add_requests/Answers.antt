@@ -10,5 +10,8 @@ loop-left-preserved c =
     let one : left ≡ left - 1 + 1 = omega arith in
     record {
       within = omega arith;
-      is = c.in_ok-add_request.ensures ∙ one_in_order c.args.site.now.requests c.args.requests.now.items c.loop-left.requests.items (left - 1) left c.request_there.result one c.request_there.ensures c.loop-left.invariant.is;
+      is = c.in_ok-add_request.ensures
+          ∙ one_in_order c.args.site.now.requests c.args.requests.now.items
+          c.loop-left.requests.items (left - 1) left c.request_there.result one
+          c.request_there.ensures c.loop-left.invariant.is;
     }

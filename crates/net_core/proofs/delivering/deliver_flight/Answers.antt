@@ -1,4 +1,5 @@
-use Rattle.std.proofs.Common.{◌≡◌, ◌<◌, ◌-◌, ◌+◌, ◌∙◌, ℕ, List, Some, length, slice_get, sym, ap, subst, refl, arith}
+use Rattle.std.proofs.Common.{◌≡◌, ◌<◌, ◌-◌, ◌+◌, ◌∙◌, ℕ, List, Some, length, slice_get, sym, ap}
+use Rattle.std.proofs.Common.{subst, refl, arith}
 use Rattle.std.specs.Vec.{with_items}
 use Rattle.std.proofs.lemmas.List.{with_items_is}
 use Rattle.net_core.specs.inside.Delivering.{IsBrought}
@@ -7,51 +8,108 @@ use Rattle.net_core.specs.declared.parts.Parts.{Parts}
 use Rattle.net_core.specs.Parts.{message_in, net_of}
 use Rattle.net_core.specs.inside.Handing.{AreAsBefore}
 use Rattle.net_core.specs.Whole.{AllFit}
-use Rattle.net_core.proofs.Deliveries.{flight_spelled, target_below, flight_may, delivers, delivered_whole, as_before_net, as_before_whole, flight_found, flights_left, brought_in, goes_few}
+use Rattle.net_core.proofs.Deliveries.{flight_spelled, target_below, flight_may, delivers}
+use Rattle.net_core.proofs.Deliveries.{delivered_whole, as_before_net, as_before_whole}
+use Rattle.net_core.proofs.Deliveries.{flight_found, flights_left, brought_in, goes_few}
 use Rattle.net_core.proofs.Fitting.{fit_full, on_err}
 use Rattle.net_core.proofs.Leading.{get_some}
 use Rattle.net_core.proofs.delivering.deliver_flight.Goals as goal
 
 pub bring_to_target-requires-clause-flight : goal.bring_to_target-requires-clause-flight
 bring_to_target-requires-clause-flight c =
-    let found = flight_found c.args.parts.now.flights.items c.reserve.new.self.items c.as_slice.result.now c.as_slice-2.result.now c.args.flight c.place_of-piece.result.0 c.place_of-piece.result.1 c.member_at-found.result.now
-    c.in_ok-reserve.ensures.items c.as_slice.ensures.value c.as_slice-2.ensures.value c.place_of-piece.ensures c.member_at-found.ensures in
-    flight_spelled c.args.parts.now c.args.flight c.member_at-found.result.now c.requires.whole.2.flying found
+    let found = flight_found c.args.parts.now.flights.items c.reserve.new.self.items
+    c.as_slice.result.now c.as_slice-2.result.now c.args.flight c.place_of-piece.result.0
+    c.place_of-piece.result.1 c.member_at-found.result.now
+    c.in_ok-reserve.ensures.items c.as_slice.ensures.value c.as_slice-2.ensures.value
+    c.place_of-piece.ensures c.member_at-found.ensures in
+    flight_spelled c.args.parts.now c.args.flight c.member_at-found.result.now
+    c.requires.whole.2.flying found
 
 pub bring_to_target-requires-clause-target : goal.bring_to_target-requires-clause-target
 bring_to_target-requires-clause-target c =
-    let found = flight_found c.args.parts.now.flights.items c.reserve.new.self.items c.as_slice.result.now c.as_slice-2.result.now c.args.flight c.place_of-piece.result.0 c.place_of-piece.result.1 c.member_at-found.result.now
-    c.in_ok-reserve.ensures.items c.as_slice.ensures.value c.as_slice-2.ensures.value c.place_of-piece.ensures c.member_at-found.ensures in
-    subst (λ (us : List Site). c.member_at-found.result.now.target < length us) (sym c.deref_mut.ensures.value) (target_below c.requires.whole.0 c.args.parts.now c.requires.whole.1 c.args.flight c.member_at-found.result.now c.requires.whole.2 found)
+    let found = flight_found c.args.parts.now.flights.items c.reserve.new.self.items
+    c.as_slice.result.now c.as_slice-2.result.now c.args.flight c.place_of-piece.result.0
+    c.place_of-piece.result.1 c.member_at-found.result.now
+    c.in_ok-reserve.ensures.items c.as_slice.ensures.value c.as_slice-2.ensures.value
+    c.place_of-piece.ensures c.member_at-found.ensures in
+    subst (λ (us : List Site). c.member_at-found.result.now.target < length us)
+    (sym c.deref_mut.ensures.value) (target_below c.requires.whole.0 c.args.parts.now
+    c.requires.whole.1 c.args.flight c.member_at-found.result.now c.requires.whole.2 found)
 
 pub bring_to_target-requires-clause-can : goal.bring_to_target-requires-clause-can
 bring_to_target-requires-clause-can c = λ s at.
-    let found = flight_found c.args.parts.now.flights.items c.reserve.new.self.items c.as_slice.result.now c.as_slice-2.result.now c.args.flight c.place_of-piece.result.0 c.place_of-piece.result.1 c.member_at-found.result.now
-    c.in_ok-reserve.ensures.items c.as_slice.ensures.value c.as_slice-2.ensures.value c.place_of-piece.ensures c.member_at-found.ensures in
-    let here : slice_get c.args.parts.now.sites.items c.member_at-found.result.now.target ≡ Some s = ap (λ (us : List Site). slice_get us c.member_at-found.result.now.target) (sym c.deref_mut.ensures.value) ∙ at in
-    flight_may c.requires.whole.0 c.args.parts.now c.requires.whole.1 c.args.flight c.member_at-found.result.now s c.requires.whole.2 found here
+    let found = flight_found c.args.parts.now.flights.items c.reserve.new.self.items
+    c.as_slice.result.now c.as_slice-2.result.now c.args.flight c.place_of-piece.result.0
+    c.place_of-piece.result.1 c.member_at-found.result.now
+    c.in_ok-reserve.ensures.items c.as_slice.ensures.value c.as_slice-2.ensures.value
+    c.place_of-piece.ensures c.member_at-found.ensures in
+    let here : slice_get c.args.parts.now.sites.items c.member_at-found.result.now.target ≡ Some s =
+    ap (λ (us : List Site). slice_get us c.member_at-found.result.now.target)
+    (sym c.deref_mut.ensures.value) ∙ at in
+    flight_may c.requires.whole.0 c.args.parts.now c.requires.whole.1 c.args.flight
+    c.member_at-found.result.now s c.requires.whole.2 found here
 
 pub returns-in_err-more-clause-whole : goal.returns-in_err-more-clause-whole
 returns-in_err-more-clause-whole c = λ code events whole.
-    let all : (with_items c.args.parts.now.sites c.bring_to_target.new.sites).items ≡ c.bring_to_target.new.sites = with_items_is c.args.parts.now.sites c.bring_to_target.new.sites (c.bring_to_target.auto.sites ∙ c.deref_mut.ensures.len) in
-    let new : Parts = record { version = c.args.parts.now.version; sites = with_items c.args.parts.now.sites c.bring_to_target.new.sites; tree = c.args.parts.now.tree; trace = c.args.parts.now.trace; flights = c.reserve.new.self; under_way = c.args.parts.now.under_way } in
-    let same : AreAsBefore c.args.parts.now new = record { version = refl; sites = all ∙ c.in_err-more.ensures.err ∙ c.deref_mut.ensures.value; tree = refl; trace = refl; flights = c.in_ok-reserve.ensures.items; under_way = refl } in
+    let all : (with_items c.args.parts.now.sites c.bring_to_target.new.sites).items
+    ≡ c.bring_to_target.new.sites = with_items_is c.args.parts.now.sites c.bring_to_target.new.sites
+    (c.bring_to_target.auto.sites ∙ c.deref_mut.ensures.len) in
+    let new : Parts = record {
+      version = c.args.parts.now.version;
+      sites = with_items c.args.parts.now.sites c.bring_to_target.new.sites;
+      tree = c.args.parts.now.tree;
+      trace = c.args.parts.now.trace;
+      flights = c.reserve.new.self;
+      under_way = c.args.parts.now.under_way;
+    } in
+    let same : AreAsBefore c.args.parts.now new = record {
+      version = refl;
+      sites = all ∙ c.in_err-more.ensures.err ∙ c.deref_mut.ensures.value;
+      tree = refl;
+      trace = refl;
+      flights = c.in_ok-reserve.ensures.items;
+      under_way = refl;
+    } in
     as_before_whole code c.args.parts.now new events same whole
 
 pub returns-in_err-more-clause-err : goal.returns-in_err-more-clause-err
 returns-in_err-more-clause-err c =
-    let all : (with_items c.args.parts.now.sites c.bring_to_target.new.sites).items ≡ c.bring_to_target.new.sites = with_items_is c.args.parts.now.sites c.bring_to_target.new.sites (c.bring_to_target.auto.sites ∙ c.deref_mut.ensures.len) in
-    let new : Parts = record { version = c.args.parts.now.version; sites = with_items c.args.parts.now.sites c.bring_to_target.new.sites; tree = c.args.parts.now.tree; trace = c.args.parts.now.trace; flights = c.reserve.new.self; under_way = c.args.parts.now.under_way } in
-    let same : AreAsBefore c.args.parts.now new = record { version = refl; sites = all ∙ c.in_err-more.ensures.err ∙ c.deref_mut.ensures.value; tree = refl; trace = refl; flights = c.in_ok-reserve.ensures.items; under_way = refl } in
-    on_err ((seen : List ℕ) → net_of seen new ≡ net_of seen c.args.parts.now) c.from_residual-in_err-more.result (λ seen. as_before_net seen c.args.parts.now new same)
+    let all : (with_items c.args.parts.now.sites c.bring_to_target.new.sites).items
+    ≡ c.bring_to_target.new.sites = with_items_is c.args.parts.now.sites c.bring_to_target.new.sites
+    (c.bring_to_target.auto.sites ∙ c.deref_mut.ensures.len) in
+    let new : Parts = record {
+      version = c.args.parts.now.version;
+      sites = with_items c.args.parts.now.sites c.bring_to_target.new.sites;
+      tree = c.args.parts.now.tree;
+      trace = c.args.parts.now.trace;
+      flights = c.reserve.new.self;
+      under_way = c.args.parts.now.under_way;
+    } in
+    let same : AreAsBefore c.args.parts.now new = record {
+      version = refl;
+      sites = all ∙ c.in_err-more.ensures.err ∙ c.deref_mut.ensures.value;
+      tree = refl;
+      trace = refl;
+      flights = c.in_ok-reserve.ensures.items;
+      under_way = refl;
+    } in
+    on_err ((seen : List ℕ) → net_of seen new ≡ net_of seen c.args.parts.now)
+    c.from_residual-in_err-more.result (λ seen. as_before_net seen c.args.parts.now new same)
 
 pub overflow_add-parts : goal.overflow_add-parts
 overflow_add-parts c =
-    let found = flight_found c.args.parts.now.flights.items c.reserve.new.self.items c.as_slice.result.now c.as_slice-2.result.now c.args.flight c.place_of-piece.result.0 c.place_of-piece.result.1 c.member_at-found.result.now
-    c.in_ok-reserve.ensures.items c.as_slice.ensures.value c.as_slice-2.ensures.value c.place_of-piece.ensures c.member_at-found.ensures in
+    let found = flight_found c.args.parts.now.flights.items c.reserve.new.self.items
+    c.as_slice.result.now c.as_slice-2.result.now c.args.flight c.place_of-piece.result.0
+    c.place_of-piece.result.1 c.member_at-found.result.now
+    c.in_ok-reserve.ensures.items c.as_slice.ensures.value c.as_slice-2.ensures.value
+    c.place_of-piece.ensures c.member_at-found.ensures in
     let flight = c.member_at-found.result.now in
-    let here = get_some c.args.parts.now.sites.items flight.target (target_below c.requires.whole.0 c.args.parts.now c.requires.whole.1 c.args.flight flight c.requires.whole.2 found) in
-    let b = brought_in c.args.parts.now.tree flight here.0 c.in_ok-more.more c.deref_mut.result.now c.args.parts.now.sites.items c.bring_to_target.new.sites c.deref_mut.ensures.value c.in_ok-more.ensures.ok here.1 in
+    let here = get_some c.args.parts.now.sites.items flight.target
+    (target_below c.requires.whole.0 c.args.parts.now c.requires.whole.1 c.args.flight flight
+    c.requires.whole.2 found) in
+    let b = brought_in c.args.parts.now.tree flight
+    here.0 c.in_ok-more.more c.deref_mut.result.now c.args.parts.now.sites.items
+    c.bring_to_target.new.sites c.deref_mut.ensures.value c.in_ok-more.ensures.ok here.1 in
     let count : c.len-count.result ≡ length c.in_ok-more.more = c.len-count.ensures.count in
     let few = goes_few flight c.in_ok-more.more b.on b.goes in
     let all = c.requires.whole.2.flying.few in
@@ -60,29 +118,76 @@ overflow_add-parts c =
 
 pub returns-clause-ok : goal.returns-clause-ok
 returns-clause-ok c = λ seen.
-    let found = flight_found c.args.parts.now.flights.items c.reserve.new.self.items c.as_slice.result.now c.as_slice-2.result.now c.args.flight c.place_of-piece.result.0 c.place_of-piece.result.1 c.member_at-found.result.now
-    c.in_ok-reserve.ensures.items c.as_slice.ensures.value c.as_slice-2.ensures.value c.place_of-piece.ensures c.member_at-found.ensures in
+    let found = flight_found c.args.parts.now.flights.items c.reserve.new.self.items
+    c.as_slice.result.now c.as_slice-2.result.now c.args.flight c.place_of-piece.result.0
+    c.place_of-piece.result.1 c.member_at-found.result.now
+    c.in_ok-reserve.ensures.items c.as_slice.ensures.value c.as_slice-2.ensures.value
+    c.place_of-piece.ensures c.member_at-found.ensures in
     let flight = c.member_at-found.result.now in
-    let here = get_some c.args.parts.now.sites.items flight.target (target_below c.requires.whole.0 c.args.parts.now c.requires.whole.1 c.args.flight flight c.requires.whole.2 found) in
-    let b = brought_in c.args.parts.now.tree flight here.0 c.in_ok-more.more c.deref_mut.result.now c.args.parts.now.sites.items c.bring_to_target.new.sites c.deref_mut.ensures.value c.in_ok-more.ensures.ok here.1 in
-    let all : (with_items c.args.parts.now.sites c.bring_to_target.new.sites).items ≡ c.bring_to_target.new.sites = with_items_is c.args.parts.now.sites c.bring_to_target.new.sites (c.bring_to_target.auto.sites ∙ c.deref_mut.ensures.len) in
-    let put = subst (λ (us : List Site). IsBrought c.args.parts.now.tree flight.target here.0 (message_in flight.bytes) b.on c.args.parts.now.sites.items us) (sym all) b.brought in
-    let new : Parts = record { version = c.args.parts.now.version; sites = with_items c.args.parts.now.sites c.bring_to_target.new.sites; tree = c.args.parts.now.tree; trace = c.args.parts.now.trace; flights = c.replace.new.flights; under_way = c.args.parts.now.under_way - 1 + c.len-count.result } in
-    let left = flights_left c.args.parts.now.flights.items c.reserve.new.self.items c.as_slice.result.now c.replace.new.flights.items c.args.flight c.place_of-piece.result.0 c.place_of-piece.result.1 c.in_ok-more.more
-    c.in_ok-reserve.ensures.items c.as_slice.ensures.value c.place_of-piece.ensures c.replace.ensures in
-    delivers c.requires.whole.0 c.args.parts.now new c.requires.whole.1 c.args.flight flight b.on c.in_ok-more.more here.0 c.requires.whole.2 found here.1 put b.goes refl refl refl left seen
+    let here = get_some c.args.parts.now.sites.items flight.target
+    (target_below c.requires.whole.0 c.args.parts.now c.requires.whole.1 c.args.flight flight
+    c.requires.whole.2 found) in
+    let b = brought_in c.args.parts.now.tree flight
+    here.0 c.in_ok-more.more c.deref_mut.result.now c.args.parts.now.sites.items
+    c.bring_to_target.new.sites c.deref_mut.ensures.value c.in_ok-more.ensures.ok here.1 in
+    let all : (with_items c.args.parts.now.sites c.bring_to_target.new.sites).items
+    ≡ c.bring_to_target.new.sites = with_items_is c.args.parts.now.sites c.bring_to_target.new.sites
+    (c.bring_to_target.auto.sites ∙ c.deref_mut.ensures.len) in
+    let put = subst (λ (us : List Site). IsBrought c.args.parts.now.tree flight.target here.0
+    (message_in flight.bytes) b.on c.args.parts.now.sites.items us) (sym all) b.brought in
+    let new : Parts = record {
+      version = c.args.parts.now.version;
+      sites = with_items c.args.parts.now.sites c.bring_to_target.new.sites;
+      tree = c.args.parts.now.tree;
+      trace = c.args.parts.now.trace;
+      flights = c.replace.new.flights;
+      under_way = c.args.parts.now.under_way - 1 + c.len-count.result;
+    } in
+    let left = flights_left c.args.parts.now.flights.items c.reserve.new.self.items
+    c.as_slice.result.now c.replace.new.flights.items c.args.flight c.place_of-piece.result.0
+    c.place_of-piece.result.1 c.in_ok-more.more
+    c.in_ok-reserve.ensures.items c.as_slice.ensures.value c.place_of-piece.ensures
+    c.replace.ensures in
+    delivers c.requires.whole.0 c.args.parts.now new c.requires.whole.1 c.args.flight flight b.on
+    c.in_ok-more.more here.0 c.requires.whole.2 found here.1 put b.goes refl refl refl left seen
 
 pub returns-clause-whole : goal.returns-clause-whole
 returns-clause-whole c = λ code events whole.
-    let found = flight_found c.args.parts.now.flights.items c.reserve.new.self.items c.as_slice.result.now c.as_slice-2.result.now c.args.flight c.place_of-piece.result.0 c.place_of-piece.result.1 c.member_at-found.result.now
-    c.in_ok-reserve.ensures.items c.as_slice.ensures.value c.as_slice-2.ensures.value c.place_of-piece.ensures c.member_at-found.ensures in
+    let found = flight_found c.args.parts.now.flights.items c.reserve.new.self.items
+    c.as_slice.result.now c.as_slice-2.result.now c.args.flight c.place_of-piece.result.0
+    c.place_of-piece.result.1 c.member_at-found.result.now
+    c.in_ok-reserve.ensures.items c.as_slice.ensures.value c.as_slice-2.ensures.value
+    c.place_of-piece.ensures c.member_at-found.ensures in
     let flight = c.member_at-found.result.now in
-    let here = get_some c.args.parts.now.sites.items flight.target (target_below c.requires.whole.0 c.args.parts.now c.requires.whole.1 c.args.flight flight c.requires.whole.2 found) in
-    let b = brought_in c.args.parts.now.tree flight here.0 c.in_ok-more.more c.deref_mut.result.now c.args.parts.now.sites.items c.bring_to_target.new.sites c.deref_mut.ensures.value c.in_ok-more.ensures.ok here.1 in
-    let all : (with_items c.args.parts.now.sites c.bring_to_target.new.sites).items ≡ c.bring_to_target.new.sites = with_items_is c.args.parts.now.sites c.bring_to_target.new.sites (c.bring_to_target.auto.sites ∙ c.deref_mut.ensures.len) in
-    let put = subst (λ (us : List Site). IsBrought c.args.parts.now.tree flight.target here.0 (message_in flight.bytes) b.on c.args.parts.now.sites.items us) (sym all) b.brought in
-    let new : Parts = record { version = c.args.parts.now.version; sites = with_items c.args.parts.now.sites c.bring_to_target.new.sites; tree = c.args.parts.now.tree; trace = c.args.parts.now.trace; flights = c.replace.new.flights; under_way = c.args.parts.now.under_way - 1 + c.len-count.result } in
-    let left = flights_left c.args.parts.now.flights.items c.reserve.new.self.items c.as_slice.result.now c.replace.new.flights.items c.args.flight c.place_of-piece.result.0 c.place_of-piece.result.1 c.in_ok-more.more
-    c.in_ok-reserve.ensures.items c.as_slice.ensures.value c.place_of-piece.ensures c.replace.ensures in
-    let fit : AllFit code c.args.parts.now.tree c.deref_mut.result.now = subst (λ (us : List Site). AllFit code c.args.parts.now.tree us) (sym c.deref_mut.ensures.value) (fit_full code c.args.parts.now.tree c.args.parts.now.sites.items whole.running.fit) in
-    delivered_whole code c.args.parts.now new events c.args.flight flight b.on c.in_ok-more.more here.0 whole found here.1 put b.goes refl refl refl left (subst (λ (us : List Site). AllFit code c.args.parts.now.tree us) (sym all) (c.in_ok-more.ensures.fit code fit)) (ap (λ (n : ℕ). c.args.parts.now.under_way - 1 + n) c.len-count.ensures.count)
+    let here = get_some c.args.parts.now.sites.items flight.target
+    (target_below c.requires.whole.0 c.args.parts.now c.requires.whole.1 c.args.flight flight
+    c.requires.whole.2 found) in
+    let b = brought_in c.args.parts.now.tree flight
+    here.0 c.in_ok-more.more c.deref_mut.result.now c.args.parts.now.sites.items
+    c.bring_to_target.new.sites c.deref_mut.ensures.value c.in_ok-more.ensures.ok here.1 in
+    let all : (with_items c.args.parts.now.sites c.bring_to_target.new.sites).items
+    ≡ c.bring_to_target.new.sites = with_items_is c.args.parts.now.sites c.bring_to_target.new.sites
+    (c.bring_to_target.auto.sites ∙ c.deref_mut.ensures.len) in
+    let put = subst (λ (us : List Site). IsBrought c.args.parts.now.tree flight.target here.0
+    (message_in flight.bytes) b.on c.args.parts.now.sites.items us) (sym all) b.brought in
+    let new : Parts = record {
+      version = c.args.parts.now.version;
+      sites = with_items c.args.parts.now.sites c.bring_to_target.new.sites;
+      tree = c.args.parts.now.tree;
+      trace = c.args.parts.now.trace;
+      flights = c.replace.new.flights;
+      under_way = c.args.parts.now.under_way - 1 + c.len-count.result;
+    } in
+    let left = flights_left c.args.parts.now.flights.items c.reserve.new.self.items
+    c.as_slice.result.now c.replace.new.flights.items c.args.flight c.place_of-piece.result.0
+    c.place_of-piece.result.1 c.in_ok-more.more
+    c.in_ok-reserve.ensures.items c.as_slice.ensures.value c.place_of-piece.ensures
+    c.replace.ensures in
+    let fit : AllFit code c.args.parts.now.tree c.deref_mut.result.now =
+    subst (λ (us : List Site). AllFit code c.args.parts.now.tree us) (sym c.deref_mut.ensures.value)
+    (fit_full code c.args.parts.now.tree c.args.parts.now.sites.items whole.running.fit) in
+    delivered_whole code c.args.parts.now new events c.args.flight flight
+    b.on c.in_ok-more.more here.0 whole found here.1 put b.goes refl refl refl left
+    (subst (λ (us : List Site). AllFit code c.args.parts.now.tree us) (sym all)
+    (c.in_ok-more.ensures.fit code fit))
+    (ap (λ (n : ℕ). c.args.parts.now.under_way - 1 + n) c.len-count.ensures.count)

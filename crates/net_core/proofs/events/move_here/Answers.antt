@@ -1,4 +1,5 @@
-use Rattle.std.proofs.Common.{◌≡◌, ◌<◌, ◌≤◌, ◌+◌, ◌∙◌, ◌^◌, ℕ, List, Some, length, slice_get, refl, sym, ap, subst, true, arith}
+use Rattle.std.proofs.Common.{◌≡◌, ◌<◌, ◌≤◌, ◌+◌, ◌∙◌, ◌^◌, ℕ, List, Some, length, slice_get, refl}
+use Rattle.std.proofs.Common.{sym, ap, subst, true, arith}
 use Rattle.std.specs.Vec.{with_items}
 use Rattle.std.proofs.lemmas.List.{with_items_is}
 use Rattle.chem_model.specs.declared.event.Event.TheVariants as event
@@ -30,8 +31,11 @@ move_at-requires-clause-may c =
     let i = c.args.number in
     let a = c.args.atom.now in
     let s = c.requires.may.site in
-    let here : slice_get mid.sites.items i ≡ Some s = ap (λ (us : List Site). slice_get us i) same.sites ∙ c.requires.may.site_is in
-    let can : can_go mid.version mid.tree a s ≡ true = ap (λ (t : Tree). can_go mid.version t a s) same.tree ∙ ap (λ (v : ℕ). can_go v old.tree a s) same.version ∙ c.requires.may.can in
+    let here : slice_get mid.sites.items i ≡ Some s =
+    ap (λ (us : List Site). slice_get us i) same.sites ∙ c.requires.may.site_is in
+    let can : can_go mid.version mid.tree a s ≡ true =
+    ap (λ (t : Tree). can_go mid.version t a s) same.tree
+    ∙ ap (λ (v : ℕ). can_go v old.tree a s) same.version ∙ c.requires.may.can in
     record {
       site = s;
       site_is = ap (λ (us : List Site). slice_get us i) c.deref_mut.ensures.value ∙ here;
@@ -44,32 +48,55 @@ move_at-requires-clause-fit c =
     let old = c.args.parts.now in
     let mid = c.make_room.new.parts in
     let same = c.in_ok-make_room.ensures.same in
-    let before = as_before_whole c.requires.whole.0 old mid c.requires.whole.1 same c.requires.whole.2 in
-    let code = c.requires.whole.0 in
-    (code, subst (λ (us : List Site). AllFit code mid.tree us) (sym c.deref_mut.ensures.value) (fit_full code mid.tree mid.sites.items before.running.fit))
+    let before =
+    as_before_whole c.requires.whole.0 old mid c.requires.whole.1 same c.requires.whole.2 in
+    let code = c.requires.whole.0 in (
+      code,
+      subst (λ (us : List Site). AllFit code mid.tree us) (sym c.deref_mut.ensures.value)
+          (fit_full code mid.tree mid.sites.items before.running.fit),
+    )
 
 pub add_flights-requires-clause-few : goal.add_flights-requires-clause-few
 add_flights-requires-clause-few c =
     let old = c.args.parts.now in
     let mid = c.make_room.new.parts in
     let same = c.in_ok-make_room.ensures.same in
-    let before = as_before_whole c.requires.whole.0 old mid c.requires.whole.1 same c.requires.whole.2 in
+    let before =
+    as_before_whole c.requires.whole.0 old mid c.requires.whole.1 same c.requires.whole.2 in
     let i = c.args.number in
     let a = c.args.atom.now in
     let s = c.requires.may.site in
     let e = c.in_ok-effects.effects in
-    let here : slice_get mid.sites.items i ≡ Some s = ap (λ (us : List Site). slice_get us i) same.sites ∙ c.requires.may.site_is in
+    let here : slice_get mid.sites.items i ≡ Some s =
+    ap (λ (us : List Site). slice_get us i) same.sites ∙ c.requires.may.site_is in
     let number = (before.running.some.stands.hosts i s here).number in
-    let there : slice_get c.deref_mut.result.now i ≡ Some s = ap (λ (us : List Site). slice_get us i) c.deref_mut.ensures.value ∙ here in
-    let new : Parts = record { version = mid.version; sites = with_items mid.sites c.move_at.new.sites; tree = c.move_at.new.tree; trace = mid.trace; flights = mid.flights; under_way = mid.under_way } in
-    let all : new.sites.items ≡ c.move_at.new.sites = with_items_is mid.sites c.move_at.new.sites (c.move_at.auto.sites ∙ c.deref_mut.ensures.len) in
-    let moves : MovesAt c.args.counts.now mid.tree c.move_at.new.tree i a s mid.sites.items new.sites.items e =
-    subst (λ (us : List Site). MovesAt c.args.counts.now mid.tree c.move_at.new.tree i a s mid.sites.items us e) (sym all)
-    (subst (λ (us : List Site). MovesAt c.args.counts.now mid.tree c.move_at.new.tree i a s us c.move_at.new.sites e) c.deref_mut.ensures.value (c.in_ok-effects.ensures.ok s there)) in
+    let there : slice_get c.deref_mut.result.now i ≡ Some s =
+    ap (λ (us : List Site). slice_get us i) c.deref_mut.ensures.value ∙ here in
+    let new : Parts = record {
+      version = mid.version;
+      sites = with_items mid.sites c.move_at.new.sites;
+      tree = c.move_at.new.tree;
+      trace = mid.trace;
+      flights = mid.flights;
+      under_way = mid.under_way;
+    } in
+    let all : new.sites.items ≡ c.move_at.new.sites =
+    with_items_is mid.sites c.move_at.new.sites (c.move_at.auto.sites ∙ c.deref_mut.ensures.len) in
+    let moves : MovesAt c.args.counts.now mid.tree c.move_at.new.tree i a s
+    mid.sites.items new.sites.items e =
+    subst (λ (us : List Site).
+    MovesAt c.args.counts.now mid.tree c.move_at.new.tree i a s mid.sites.items us e) (sym all)
+    (subst (λ (us : List Site).
+    MovesAt c.args.counts.now mid.tree c.move_at.new.tree i a s us c.move_at.new.sites e)
+    c.deref_mut.ensures.value (c.in_ok-effects.ensures.ok s there)) in
     let d = moves.moves in
-    let o = sent_here mid.tree (continuation_made c.args.counts.now s.number d.asked.loc s.made d.cont) (drop_request a s) in
+    let o =
+    sent_here mid.tree (continuation_made c.args.counts.now s.number d.asked.loc s.made d.cont)
+    (drop_request a s) in
     let long : length e.sends ≡ length o.sends = flights_long o.sends e.sends d.answers.sends in
-    let one : length o.sends ≤ 1 = continuation_few mid.tree c.args.counts.now s.number d.asked.loc s.made d.cont (drop_request a s) in
+    let one : length o.sends ≤ 1 =
+    continuation_few mid.tree c.args.counts.now s.number d.asked.loc s.made d.cont
+    (drop_request a s) in
     let room : mid.under_way + 1 < 2 ^ 32 = c.in_ok-make_room.ensures.room.numbers in
     omega (arith, long, one, room)
 
@@ -78,30 +105,63 @@ returns-clause-moves c =
     let old = c.args.parts.now in
     let mid = c.make_room.new.parts in
     let same = c.in_ok-make_room.ensures.same in
-    let before = as_before_whole c.requires.whole.0 old mid c.requires.whole.1 same c.requires.whole.2 in
+    let before =
+    as_before_whole c.requires.whole.0 old mid c.requires.whole.1 same c.requires.whole.2 in
     let i = c.args.number in
     let a = c.args.atom.now in
     let s = c.requires.may.site in
     let e = c.in_ok-effects.effects in
-    let here : slice_get mid.sites.items i ≡ Some s = ap (λ (us : List Site). slice_get us i) same.sites ∙ c.requires.may.site_is in
+    let here : slice_get mid.sites.items i ≡ Some s =
+    ap (λ (us : List Site). slice_get us i) same.sites ∙ c.requires.may.site_is in
     let number = (before.running.some.stands.hosts i s here).number in
-    let there : slice_get c.deref_mut.result.now i ≡ Some s = ap (λ (us : List Site). slice_get us i) c.deref_mut.ensures.value ∙ here in
-    let new : Parts = record { version = mid.version; sites = with_items mid.sites c.move_at.new.sites; tree = c.move_at.new.tree; trace = mid.trace; flights = mid.flights; under_way = mid.under_way } in
-    let all : new.sites.items ≡ c.move_at.new.sites = with_items_is mid.sites c.move_at.new.sites (c.move_at.auto.sites ∙ c.deref_mut.ensures.len) in
-    let moves : MovesAt c.args.counts.now mid.tree c.move_at.new.tree i a s mid.sites.items new.sites.items e =
-    subst (λ (us : List Site). MovesAt c.args.counts.now mid.tree c.move_at.new.tree i a s mid.sites.items us e) (sym all)
-    (subst (λ (us : List Site). MovesAt c.args.counts.now mid.tree c.move_at.new.tree i a s us c.move_at.new.sites e) c.deref_mut.ensures.value (c.in_ok-effects.ensures.ok s there)) in
+    let there : slice_get c.deref_mut.result.now i ≡ Some s =
+    ap (λ (us : List Site). slice_get us i) c.deref_mut.ensures.value ∙ here in
+    let new : Parts = record {
+      version = mid.version;
+      sites = with_items mid.sites c.move_at.new.sites;
+      tree = c.move_at.new.tree;
+      trace = mid.trace;
+      flights = mid.flights;
+      under_way = mid.under_way;
+    } in
+    let all : new.sites.items ≡ c.move_at.new.sites =
+    with_items_is mid.sites c.move_at.new.sites (c.move_at.auto.sites ∙ c.deref_mut.ensures.len) in
+    let moves : MovesAt c.args.counts.now mid.tree c.move_at.new.tree i a s
+    mid.sites.items new.sites.items e =
+    subst (λ (us : List Site).
+    MovesAt c.args.counts.now mid.tree c.move_at.new.tree i a s mid.sites.items us e) (sym all)
+    (subst (λ (us : List Site).
+    MovesAt c.args.counts.now mid.tree c.move_at.new.tree i a s us c.move_at.new.sites e)
+    c.deref_mut.ensures.value (c.in_ok-effects.ensures.ok s there)) in
     let d = moves.moves in
-    let o = sent_here mid.tree (continuation_made c.args.counts.now s.number d.asked.loc s.made d.cont) (drop_request a s) in
+    let o =
+    sent_here mid.tree (continuation_made c.args.counts.now s.number d.asked.loc s.made d.cont)
+    (drop_request a s) in
     let long : length e.sends ≡ length o.sends = flights_long o.sends e.sends d.answers.sends in
-    let one : length o.sends ≤ 1 = continuation_few mid.tree c.args.counts.now s.number d.asked.loc s.made d.cont (drop_request a s) in
+    let one : length o.sends ≤ 1 =
+    continuation_few mid.tree c.args.counts.now s.number d.asked.loc s.made d.cont
+    (drop_request a s) in
     let room : mid.under_way + 1 < 2 ^ 32 = c.in_ok-make_room.ensures.room.numbers in
     let code = c.requires.whole.0 in
-    let end : Parts = record { version = new.version; sites = new.sites; tree = new.tree; trace = c.add_piece.new.pieces; flights = c.add_flights.new.flights; under_way = c.add_flights.new.under_way } in
-    let can : can_go mid.version mid.tree a s ≡ true = ap (λ (t : Tree). can_go mid.version t a s) same.tree ∙ ap (λ (v : ℕ). can_go v old.tree a s) same.version ∙ c.requires.may.can in
-    let goal_is : d.target.site ≡ i = goal_here mid.version code (net_of code.seen mid) before.running.some i a s s d.asked d.target d.cont here d.here d.asks can c.requires.may.hosted in
-    let made : Moves (net_of c.args.counts.now mid) a (net_of c.args.counts.now end) = moves_net c.args.counts.now mid end refl i a s e here number can moves goal_is c.add_piece.ensures c.add_flights.ensures.flights in
-    subst (λ (n : Net). Moves n a (net_of c.args.counts.now end)) (as_before_net c.args.counts.now old mid same) made
+    let end : Parts = record {
+      version = new.version;
+      sites = new.sites;
+      tree = new.tree;
+      trace = c.add_piece.new.pieces;
+      flights = c.add_flights.new.flights;
+      under_way = c.add_flights.new.under_way;
+    } in
+    let can : can_go mid.version mid.tree a s ≡ true =
+    ap (λ (t : Tree). can_go mid.version t a s) same.tree
+    ∙ ap (λ (v : ℕ). can_go v old.tree a s) same.version ∙ c.requires.may.can in
+    let goal_is : d.target.site ≡ i =
+    goal_here mid.version code (net_of code.seen mid) before.running.some i a s s
+    d.asked d.target d.cont here d.here d.asks can c.requires.may.hosted in
+    let made : Moves (net_of c.args.counts.now mid) a (net_of c.args.counts.now end) =
+    moves_net c.args.counts.now mid end refl i a s e here number can moves goal_is
+    c.add_piece.ensures c.add_flights.ensures.flights in
+    subst (λ (n : Net). Moves n a (net_of c.args.counts.now end))
+    (as_before_net c.args.counts.now old mid same) made
 
 pub returns-clause-whole : goal.returns-clause-whole
 returns-clause-whole c = λ code events seen few whole.
@@ -113,25 +173,64 @@ returns-clause-whole c = λ code events seen few whole.
     let a = c.args.atom.now in
     let s = c.requires.may.site in
     let e = c.in_ok-effects.effects in
-    let here : slice_get mid.sites.items i ≡ Some s = ap (λ (us : List Site). slice_get us i) same.sites ∙ c.requires.may.site_is in
+    let here : slice_get mid.sites.items i ≡ Some s =
+    ap (λ (us : List Site). slice_get us i) same.sites ∙ c.requires.may.site_is in
     let number = (before.running.some.stands.hosts i s here).number in
-    let there : slice_get c.deref_mut.result.now i ≡ Some s = ap (λ (us : List Site). slice_get us i) c.deref_mut.ensures.value ∙ here in
-    let new : Parts = record { version = mid.version; sites = with_items mid.sites c.move_at.new.sites; tree = c.move_at.new.tree; trace = mid.trace; flights = mid.flights; under_way = mid.under_way } in
-    let all : new.sites.items ≡ c.move_at.new.sites = with_items_is mid.sites c.move_at.new.sites (c.move_at.auto.sites ∙ c.deref_mut.ensures.len) in
-    let moves : MovesAt c.args.counts.now mid.tree c.move_at.new.tree i a s mid.sites.items new.sites.items e =
-    subst (λ (us : List Site). MovesAt c.args.counts.now mid.tree c.move_at.new.tree i a s mid.sites.items us e) (sym all)
-    (subst (λ (us : List Site). MovesAt c.args.counts.now mid.tree c.move_at.new.tree i a s us c.move_at.new.sites e) c.deref_mut.ensures.value (c.in_ok-effects.ensures.ok s there)) in
+    let there : slice_get c.deref_mut.result.now i ≡ Some s =
+    ap (λ (us : List Site). slice_get us i) c.deref_mut.ensures.value ∙ here in
+    let new : Parts = record {
+      version = mid.version;
+      sites = with_items mid.sites c.move_at.new.sites;
+      tree = c.move_at.new.tree;
+      trace = mid.trace;
+      flights = mid.flights;
+      under_way = mid.under_way;
+    } in
+    let all : new.sites.items ≡ c.move_at.new.sites =
+    with_items_is mid.sites c.move_at.new.sites (c.move_at.auto.sites ∙ c.deref_mut.ensures.len) in
+    let moves : MovesAt c.args.counts.now mid.tree c.move_at.new.tree i a s
+    mid.sites.items new.sites.items e =
+    subst (λ (us : List Site).
+    MovesAt c.args.counts.now mid.tree c.move_at.new.tree i a s mid.sites.items us e) (sym all)
+    (subst (λ (us : List Site).
+    MovesAt c.args.counts.now mid.tree c.move_at.new.tree i a s us c.move_at.new.sites e)
+    c.deref_mut.ensures.value (c.in_ok-effects.ensures.ok s there)) in
     let d = moves.moves in
-    let o = sent_here mid.tree (continuation_made c.args.counts.now s.number d.asked.loc s.made d.cont) (drop_request a s) in
+    let o =
+    sent_here mid.tree (continuation_made c.args.counts.now s.number d.asked.loc s.made d.cont)
+    (drop_request a s) in
     let long : length e.sends ≡ length o.sends = flights_long o.sends e.sends d.answers.sends in
-    let one : length o.sends ≤ 1 = continuation_few mid.tree c.args.counts.now s.number d.asked.loc s.made d.cont (drop_request a s) in
+    let one : length o.sends ≤ 1 =
+    continuation_few mid.tree c.args.counts.now s.number d.asked.loc s.made d.cont
+    (drop_request a s) in
     let room : mid.under_way + 1 < 2 ^ 32 = c.in_ok-make_room.ensures.room.numbers in
-    let end : Parts = record { version = new.version; sites = new.sites; tree = new.tree; trace = c.add_piece.new.pieces; flights = c.add_flights.new.flights; under_way = c.add_flights.new.under_way } in
-    let can : can_go mid.version mid.tree a s ≡ true = ap (λ (t : Tree). can_go mid.version t a s) same.tree ∙ ap (λ (v : ℕ). can_go v old.tree a s) same.version ∙ c.requires.may.can in
-    let goal_is : d.target.site ≡ i = goal_here mid.version code (net_of code.seen mid) before.running.some i a s s d.asked d.target d.cont here d.here d.asks can c.requires.may.hosted in
-    let made : Moves (net_of c.args.counts.now mid) a (net_of c.args.counts.now end) = moves_net c.args.counts.now mid end refl i a s e here number can moves goal_is c.add_piece.ensures c.add_flights.ensures.flights in
-    let coded : Moves (net_of code.seen mid) a (net_of code.seen end) = subst (λ (ks : List ℕ). Moves (net_of ks mid) a (net_of ks end)) (sym seen) made in
-    let old_fit : AllFit code mid.tree c.deref_mut.result.now = subst (λ (us : List Site). AllFit code mid.tree us) (sym c.deref_mut.ensures.value) (fit_full code mid.tree mid.sites.items before.running.fit) in
-    let fit : AllStayFit code end.tree end.sites.items = subst (λ (us : List Site). AllStayFit code end.tree us) (sym all) (c.in_ok-effects.ensures.fit code old_fit) in
-    event_whole code mid end (event.Move a) events before few (move a _ coded) (stay_bare code end.tree end.sites.items fit) (ap length moves.sites ∙ set_length mid.sites.items i moves.after)
-    e.sends (all_carry o.sends e.sends d.answers.sends).1 c.add_flights.ensures.flights c.add_flights.ensures.count (omega (arith, long, one, room, c.add_flights.ensures.count))
+    let end : Parts = record {
+      version = new.version;
+      sites = new.sites;
+      tree = new.tree;
+      trace = c.add_piece.new.pieces;
+      flights = c.add_flights.new.flights;
+      under_way = c.add_flights.new.under_way;
+    } in
+    let can : can_go mid.version mid.tree a s ≡ true =
+    ap (λ (t : Tree). can_go mid.version t a s) same.tree
+    ∙ ap (λ (v : ℕ). can_go v old.tree a s) same.version ∙ c.requires.may.can in
+    let goal_is : d.target.site ≡ i =
+    goal_here mid.version code (net_of code.seen mid) before.running.some i a s s
+    d.asked d.target d.cont here d.here d.asks can c.requires.may.hosted in
+    let made : Moves (net_of c.args.counts.now mid) a (net_of c.args.counts.now end) =
+    moves_net c.args.counts.now mid end refl i a s e here number can moves goal_is
+    c.add_piece.ensures c.add_flights.ensures.flights in
+    let coded : Moves (net_of code.seen mid) a (net_of code.seen end) =
+    subst (λ (ks : List ℕ). Moves (net_of ks mid) a (net_of ks end)) (sym seen) made in
+    let old_fit : AllFit code mid.tree c.deref_mut.result.now =
+    subst (λ (us : List Site). AllFit code mid.tree us) (sym c.deref_mut.ensures.value)
+    (fit_full code mid.tree mid.sites.items before.running.fit) in
+    let fit : AllStayFit code end.tree end.sites.items =
+    subst (λ (us : List Site). AllStayFit code end.tree us) (sym all)
+    (c.in_ok-effects.ensures.fit code old_fit) in
+    event_whole code mid end (event.Move a) events before few (move a _ coded)
+    (stay_bare code end.tree end.sites.items fit)
+    (ap length moves.sites ∙ set_length mid.sites.items i moves.after)
+    e.sends (all_carry o.sends e.sends d.answers.sends).1 c.add_flights.ensures.flights
+    c.add_flights.ensures.count (omega (arith, long, one, room, c.add_flights.ensures.count))

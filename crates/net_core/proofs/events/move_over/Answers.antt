@@ -1,4 +1,5 @@
-use Rattle.std.proofs.Common.{◌≡◌, ℕ, ◌<◌, ◌≤◌, ◌+◌, ◌∙◌, ◌^◌, List, Some, length, slice_get, refl, sym, ap, subst, true, arith}
+use Rattle.std.proofs.Common.{◌≡◌, ℕ, ◌<◌, ◌≤◌, ◌+◌, ◌∙◌, ◌^◌, List, Some, length, slice_get, refl}
+use Rattle.std.proofs.Common.{sym, ap, subst, true, arith}
 use Rattle.std.specs.Vec.{with_items}
 use Rattle.std.specs.Prelude.{slice_set}
 use Rattle.std.proofs.lemmas.List.{with_items_is}
@@ -34,9 +35,13 @@ cross-requires-clause-may c =
     let i = c.args.from in
     let j = c.args.into in
     let a = c.args.atom.now in
-    let here : slice_get mid.sites.items i ≡ Some may.from = ap (λ (us : List Site). slice_get us i) same.sites ∙ may.from_is in
-    let there : slice_get mid.sites.items j ≡ Some may.into = ap (λ (us : List Site). slice_get us j) same.sites ∙ may.into_is in
-    let can : can_go mid.version mid.tree a may.from ≡ true = ap (λ (t : Tree). can_go mid.version t a may.from) same.tree ∙ ap (λ (v : ℕ). can_go v old.tree a may.from) same.version ∙ may.can in
+    let here : slice_get mid.sites.items i ≡ Some may.from =
+    ap (λ (us : List Site). slice_get us i) same.sites ∙ may.from_is in
+    let there : slice_get mid.sites.items j ≡ Some may.into =
+    ap (λ (us : List Site). slice_get us j) same.sites ∙ may.into_is in
+    let can : can_go mid.version mid.tree a may.from ≡ true =
+    ap (λ (t : Tree). can_go mid.version t a may.from) same.tree
+    ∙ ap (λ (v : ℕ). can_go v old.tree a may.from) same.version ∙ may.can in
     record {
       from = may.from;
       into = may.into;
@@ -55,7 +60,9 @@ cross-requires-clause-fit c =
     let mid = c.make_room.new.parts in
     let same = c.in_ok-make_room.ensures.same in
     let before = as_before_whole code old mid c.requires.whole.0 same c.requires.whole.1 in
-    let old_fit : AllFit code mid.tree c.deref_mut.result.now = subst (λ (us : List Site). AllFit code mid.tree us) (sym c.deref_mut.ensures.value) (fit_full code mid.tree mid.sites.items before.running.fit) in
+    let old_fit : AllFit code mid.tree c.deref_mut.result.now =
+    subst (λ (us : List Site). AllFit code mid.tree us) (sym c.deref_mut.ensures.value)
+    (fit_full code mid.tree mid.sites.items before.running.fit) in
     old_fit
 
 pub cross-requires-clause-numbered : goal.cross-requires-clause-numbered
@@ -65,8 +72,11 @@ cross-requires-clause-numbered c =
     let mid = c.make_room.new.parts in
     let same = c.in_ok-make_room.ensures.same in
     let before = as_before_whole code old mid c.requires.whole.0 same c.requires.whole.1 in
-    let old_fit : AllFit code mid.tree c.deref_mut.result.now = subst (λ (us : List Site). AllFit code mid.tree us) (sym c.deref_mut.ensures.value) (fit_full code mid.tree mid.sites.items before.running.fit) in
-    λ j s at. are_numbered code (net_of code.seen mid) before.running.some j s (ap (λ (us : List Site). slice_get us j) (sym c.deref_mut.ensures.value) ∙ at)
+    let old_fit : AllFit code mid.tree c.deref_mut.result.now =
+    subst (λ (us : List Site). AllFit code mid.tree us) (sym c.deref_mut.ensures.value)
+    (fit_full code mid.tree mid.sites.items before.running.fit) in
+    λ j s at. are_numbered code (net_of code.seen mid) before.running.some j s
+    (ap (λ (us : List Site). slice_get us j) (sym c.deref_mut.ensures.value) ∙ at)
 
 pub add_flights-requires-clause-few : goal.add_flights-requires-clause-few
 add_flights-requires-clause-few c =
@@ -75,28 +85,49 @@ add_flights-requires-clause-few c =
     let mid = c.make_room.new.parts in
     let same = c.in_ok-make_room.ensures.same in
     let before = as_before_whole code old mid c.requires.whole.0 same c.requires.whole.1 in
-    let old_fit : AllFit code mid.tree c.deref_mut.result.now = subst (λ (us : List Site). AllFit code mid.tree us) (sym c.deref_mut.ensures.value) (fit_full code mid.tree mid.sites.items before.running.fit) in
+    let old_fit : AllFit code mid.tree c.deref_mut.result.now =
+    subst (λ (us : List Site). AllFit code mid.tree us) (sym c.deref_mut.ensures.value)
+    (fit_full code mid.tree mid.sites.items before.running.fit) in
     let i = c.args.from in
     let j = c.args.into in
     let a = c.args.atom.now in
     let s = c.requires.may.from in
     let u = c.requires.may.into in
     let e = c.in_ok-effects.effects in
-    let here : slice_get mid.sites.items i ≡ Some s = ap (λ (us : List Site). slice_get us i) same.sites ∙ c.requires.may.from_is in
-    let there : slice_get mid.sites.items j ≡ Some u = ap (λ (us : List Site). slice_get us j) same.sites ∙ c.requires.may.into_is in
+    let here : slice_get mid.sites.items i ≡ Some s =
+    ap (λ (us : List Site). slice_get us i) same.sites ∙ c.requires.may.from_is in
+    let there : slice_get mid.sites.items j ≡ Some u =
+    ap (λ (us : List Site). slice_get us j) same.sites ∙ c.requires.may.into_is in
     let number = (before.running.some.stands.hosts j u there).number in
-    let first : slice_get c.deref_mut.result.now i ≡ Some s = ap (λ (us : List Site). slice_get us i) c.deref_mut.ensures.value ∙ here in
-    let second : slice_get c.deref_mut.result.now j ≡ Some u = ap (λ (us : List Site). slice_get us j) c.deref_mut.ensures.value ∙ there in
-    let new : Parts = record { version = mid.version; sites = with_items mid.sites c.cross.new.sites; tree = c.cross.new.tree; trace = mid.trace; flights = mid.flights; under_way = mid.under_way } in
-    let all : new.sites.items ≡ c.cross.new.sites = with_items_is mid.sites c.cross.new.sites (c.cross.auto.sites ∙ c.deref_mut.ensures.len) in
-    let moves : CrossesAt code.seen mid.tree c.cross.new.tree i j a s u mid.sites.items new.sites.items e =
-    subst (λ (us : List Site). CrossesAt code.seen mid.tree c.cross.new.tree i j a s u mid.sites.items us e) (sym all)
-    (subst (λ (us : List Site). CrossesAt code.seen mid.tree c.cross.new.tree i j a s u us c.cross.new.sites e) c.deref_mut.ensures.value (c.in_ok-effects.ensures.ok s u first second)) in
+    let first : slice_get c.deref_mut.result.now i ≡ Some s =
+    ap (λ (us : List Site). slice_get us i) c.deref_mut.ensures.value ∙ here in
+    let second : slice_get c.deref_mut.result.now j ≡ Some u =
+    ap (λ (us : List Site). slice_get us j) c.deref_mut.ensures.value ∙ there in
+    let new : Parts = record {
+      version = mid.version;
+      sites = with_items mid.sites c.cross.new.sites;
+      tree = c.cross.new.tree;
+      trace = mid.trace;
+      flights = mid.flights;
+      under_way = mid.under_way;
+    } in
+    let all : new.sites.items ≡ c.cross.new.sites =
+    with_items_is mid.sites c.cross.new.sites (c.cross.auto.sites ∙ c.deref_mut.ensures.len) in
+    let moves : CrossesAt code.seen mid.tree c.cross.new.tree i j a s u
+    mid.sites.items new.sites.items e =
+    subst (λ (us : List Site).
+    CrossesAt code.seen mid.tree c.cross.new.tree i j a s u mid.sites.items us e) (sym all)
+    (subst (λ (us : List Site).
+    CrossesAt code.seen mid.tree c.cross.new.tree i j a s u us c.cross.new.sites e)
+    c.deref_mut.ensures.value (c.in_ok-effects.ensures.ok s u first second)) in
     let d = moves.moves in
     let load = take_in (pack d.asked.loc (drop_request a s)) u in
-    let o = sent_here c.cross.new.tree (moved_made (is_alive mid.tree d.target) code.seen u.number d.asked.loc u.made d.cont) load in
+    let o = sent_here c.cross.new.tree
+    (moved_made (is_alive mid.tree d.target) code.seen u.number d.asked.loc u.made d.cont) load in
     let long : length e.sends ≡ length o.sends = flights_long o.sends e.sends d.answers.sends in
-    let one : length o.sends ≤ 1 = moved_few c.cross.new.tree (is_alive mid.tree d.target) code.seen u.number d.asked.loc u.made d.cont load in
+    let one : length o.sends ≤ 1 =
+    moved_few c.cross.new.tree (is_alive mid.tree d.target)
+    code.seen u.number d.asked.loc u.made d.cont load in
     let room : mid.under_way + 1 < 2 ^ 32 = c.in_ok-make_room.ensures.room.numbers in
     omega (arith, long, one, room)
 
@@ -107,34 +138,69 @@ returns-clause-moves c =
     let mid = c.make_room.new.parts in
     let same = c.in_ok-make_room.ensures.same in
     let before = as_before_whole code old mid c.requires.whole.0 same c.requires.whole.1 in
-    let old_fit : AllFit code mid.tree c.deref_mut.result.now = subst (λ (us : List Site). AllFit code mid.tree us) (sym c.deref_mut.ensures.value) (fit_full code mid.tree mid.sites.items before.running.fit) in
+    let old_fit : AllFit code mid.tree c.deref_mut.result.now =
+    subst (λ (us : List Site). AllFit code mid.tree us) (sym c.deref_mut.ensures.value)
+    (fit_full code mid.tree mid.sites.items before.running.fit) in
     let i = c.args.from in
     let j = c.args.into in
     let a = c.args.atom.now in
     let s = c.requires.may.from in
     let u = c.requires.may.into in
     let e = c.in_ok-effects.effects in
-    let here : slice_get mid.sites.items i ≡ Some s = ap (λ (us : List Site). slice_get us i) same.sites ∙ c.requires.may.from_is in
-    let there : slice_get mid.sites.items j ≡ Some u = ap (λ (us : List Site). slice_get us j) same.sites ∙ c.requires.may.into_is in
+    let here : slice_get mid.sites.items i ≡ Some s =
+    ap (λ (us : List Site). slice_get us i) same.sites ∙ c.requires.may.from_is in
+    let there : slice_get mid.sites.items j ≡ Some u =
+    ap (λ (us : List Site). slice_get us j) same.sites ∙ c.requires.may.into_is in
     let number = (before.running.some.stands.hosts j u there).number in
-    let first : slice_get c.deref_mut.result.now i ≡ Some s = ap (λ (us : List Site). slice_get us i) c.deref_mut.ensures.value ∙ here in
-    let second : slice_get c.deref_mut.result.now j ≡ Some u = ap (λ (us : List Site). slice_get us j) c.deref_mut.ensures.value ∙ there in
-    let new : Parts = record { version = mid.version; sites = with_items mid.sites c.cross.new.sites; tree = c.cross.new.tree; trace = mid.trace; flights = mid.flights; under_way = mid.under_way } in
-    let all : new.sites.items ≡ c.cross.new.sites = with_items_is mid.sites c.cross.new.sites (c.cross.auto.sites ∙ c.deref_mut.ensures.len) in
-    let moves : CrossesAt code.seen mid.tree c.cross.new.tree i j a s u mid.sites.items new.sites.items e =
-    subst (λ (us : List Site). CrossesAt code.seen mid.tree c.cross.new.tree i j a s u mid.sites.items us e) (sym all)
-    (subst (λ (us : List Site). CrossesAt code.seen mid.tree c.cross.new.tree i j a s u us c.cross.new.sites e) c.deref_mut.ensures.value (c.in_ok-effects.ensures.ok s u first second)) in
+    let first : slice_get c.deref_mut.result.now i ≡ Some s =
+    ap (λ (us : List Site). slice_get us i) c.deref_mut.ensures.value ∙ here in
+    let second : slice_get c.deref_mut.result.now j ≡ Some u =
+    ap (λ (us : List Site). slice_get us j) c.deref_mut.ensures.value ∙ there in
+    let new : Parts = record {
+      version = mid.version;
+      sites = with_items mid.sites c.cross.new.sites;
+      tree = c.cross.new.tree;
+      trace = mid.trace;
+      flights = mid.flights;
+      under_way = mid.under_way;
+    } in
+    let all : new.sites.items ≡ c.cross.new.sites =
+    with_items_is mid.sites c.cross.new.sites (c.cross.auto.sites ∙ c.deref_mut.ensures.len) in
+    let moves : CrossesAt code.seen mid.tree c.cross.new.tree i j a s u
+    mid.sites.items new.sites.items e =
+    subst (λ (us : List Site).
+    CrossesAt code.seen mid.tree c.cross.new.tree i j a s u mid.sites.items us e) (sym all)
+    (subst (λ (us : List Site).
+    CrossesAt code.seen mid.tree c.cross.new.tree i j a s u us c.cross.new.sites e)
+    c.deref_mut.ensures.value (c.in_ok-effects.ensures.ok s u first second)) in
     let d = moves.moves in
     let load = take_in (pack d.asked.loc (drop_request a s)) u in
-    let o = sent_here c.cross.new.tree (moved_made (is_alive mid.tree d.target) code.seen u.number d.asked.loc u.made d.cont) load in
+    let o = sent_here c.cross.new.tree
+    (moved_made (is_alive mid.tree d.target) code.seen u.number d.asked.loc u.made d.cont) load in
     let long : length e.sends ≡ length o.sends = flights_long o.sends e.sends d.answers.sends in
-    let one : length o.sends ≤ 1 = moved_few c.cross.new.tree (is_alive mid.tree d.target) code.seen u.number d.asked.loc u.made d.cont load in
+    let one : length o.sends ≤ 1 =
+    moved_few c.cross.new.tree (is_alive mid.tree d.target)
+    code.seen u.number d.asked.loc u.made d.cont load in
     let room : mid.under_way + 1 < 2 ^ 32 = c.in_ok-make_room.ensures.room.numbers in
-    let end : Parts = record { version = new.version; sites = new.sites; tree = new.tree; trace = c.add_piece.new.pieces; flights = c.add_flights.new.flights; under_way = c.add_flights.new.under_way } in
-    let can : can_go mid.version mid.tree a s ≡ true = ap (λ (t : Tree). can_go mid.version t a s) same.tree ∙ ap (λ (v : ℕ). can_go v old.tree a s) same.version ∙ c.requires.may.can in
-    let goal_is : d.target.site ≡ j = goal_here mid.version code (net_of code.seen mid) before.running.some j a s u d.asked d.target d.cont there d.here d.asks can c.requires.may.hosted in
-    let made : Moves (net_of code.seen mid) a (net_of code.seen end) = crosses_net code.seen mid end refl i j a s u e here there c.requires.may.away number can moves goal_is c.add_piece.ensures c.add_flights.ensures.flights in
-    subst (λ (n : Net). Moves n a (net_of code.seen end)) (as_before_net code.seen old mid same) made
+    let end : Parts = record {
+      version = new.version;
+      sites = new.sites;
+      tree = new.tree;
+      trace = c.add_piece.new.pieces;
+      flights = c.add_flights.new.flights;
+      under_way = c.add_flights.new.under_way;
+    } in
+    let can : can_go mid.version mid.tree a s ≡ true =
+    ap (λ (t : Tree). can_go mid.version t a s) same.tree
+    ∙ ap (λ (v : ℕ). can_go v old.tree a s) same.version ∙ c.requires.may.can in
+    let goal_is : d.target.site ≡ j =
+    goal_here mid.version code (net_of code.seen mid) before.running.some j a s u
+    d.asked d.target d.cont there d.here d.asks can c.requires.may.hosted in
+    let made : Moves (net_of code.seen mid) a (net_of code.seen end) =
+    crosses_net code.seen mid end refl i j a s u e here there c.requires.may.away number can moves
+    goal_is c.add_piece.ensures c.add_flights.ensures.flights in
+    subst (λ (n : Net). Moves n a (net_of code.seen end)) (as_before_net code.seen old mid same)
+    made
 
 pub returns-clause-whole : goal.returns-clause-whole
 returns-clause-whole c = λ events few whole.
@@ -143,34 +209,72 @@ returns-clause-whole c = λ events few whole.
     let mid = c.make_room.new.parts in
     let same = c.in_ok-make_room.ensures.same in
     let before = as_before_whole code old mid events same whole in
-    let old_fit : AllFit code mid.tree c.deref_mut.result.now = subst (λ (us : List Site). AllFit code mid.tree us) (sym c.deref_mut.ensures.value) (fit_full code mid.tree mid.sites.items before.running.fit) in
+    let old_fit : AllFit code mid.tree c.deref_mut.result.now =
+    subst (λ (us : List Site). AllFit code mid.tree us) (sym c.deref_mut.ensures.value)
+    (fit_full code mid.tree mid.sites.items before.running.fit) in
     let i = c.args.from in
     let j = c.args.into in
     let a = c.args.atom.now in
     let s = c.requires.may.from in
     let u = c.requires.may.into in
     let e = c.in_ok-effects.effects in
-    let here : slice_get mid.sites.items i ≡ Some s = ap (λ (us : List Site). slice_get us i) same.sites ∙ c.requires.may.from_is in
-    let there : slice_get mid.sites.items j ≡ Some u = ap (λ (us : List Site). slice_get us j) same.sites ∙ c.requires.may.into_is in
+    let here : slice_get mid.sites.items i ≡ Some s =
+    ap (λ (us : List Site). slice_get us i) same.sites ∙ c.requires.may.from_is in
+    let there : slice_get mid.sites.items j ≡ Some u =
+    ap (λ (us : List Site). slice_get us j) same.sites ∙ c.requires.may.into_is in
     let number = (before.running.some.stands.hosts j u there).number in
-    let first : slice_get c.deref_mut.result.now i ≡ Some s = ap (λ (us : List Site). slice_get us i) c.deref_mut.ensures.value ∙ here in
-    let second : slice_get c.deref_mut.result.now j ≡ Some u = ap (λ (us : List Site). slice_get us j) c.deref_mut.ensures.value ∙ there in
-    let new : Parts = record { version = mid.version; sites = with_items mid.sites c.cross.new.sites; tree = c.cross.new.tree; trace = mid.trace; flights = mid.flights; under_way = mid.under_way } in
-    let all : new.sites.items ≡ c.cross.new.sites = with_items_is mid.sites c.cross.new.sites (c.cross.auto.sites ∙ c.deref_mut.ensures.len) in
-    let moves : CrossesAt code.seen mid.tree c.cross.new.tree i j a s u mid.sites.items new.sites.items e =
-    subst (λ (us : List Site). CrossesAt code.seen mid.tree c.cross.new.tree i j a s u mid.sites.items us e) (sym all)
-    (subst (λ (us : List Site). CrossesAt code.seen mid.tree c.cross.new.tree i j a s u us c.cross.new.sites e) c.deref_mut.ensures.value (c.in_ok-effects.ensures.ok s u first second)) in
+    let first : slice_get c.deref_mut.result.now i ≡ Some s =
+    ap (λ (us : List Site). slice_get us i) c.deref_mut.ensures.value ∙ here in
+    let second : slice_get c.deref_mut.result.now j ≡ Some u =
+    ap (λ (us : List Site). slice_get us j) c.deref_mut.ensures.value ∙ there in
+    let new : Parts = record {
+      version = mid.version;
+      sites = with_items mid.sites c.cross.new.sites;
+      tree = c.cross.new.tree;
+      trace = mid.trace;
+      flights = mid.flights;
+      under_way = mid.under_way;
+    } in
+    let all : new.sites.items ≡ c.cross.new.sites =
+    with_items_is mid.sites c.cross.new.sites (c.cross.auto.sites ∙ c.deref_mut.ensures.len) in
+    let moves : CrossesAt code.seen mid.tree c.cross.new.tree i j a s u
+    mid.sites.items new.sites.items e =
+    subst (λ (us : List Site).
+    CrossesAt code.seen mid.tree c.cross.new.tree i j a s u mid.sites.items us e) (sym all)
+    (subst (λ (us : List Site).
+    CrossesAt code.seen mid.tree c.cross.new.tree i j a s u us c.cross.new.sites e)
+    c.deref_mut.ensures.value (c.in_ok-effects.ensures.ok s u first second)) in
     let d = moves.moves in
     let load = take_in (pack d.asked.loc (drop_request a s)) u in
-    let o = sent_here c.cross.new.tree (moved_made (is_alive mid.tree d.target) code.seen u.number d.asked.loc u.made d.cont) load in
+    let o = sent_here c.cross.new.tree
+    (moved_made (is_alive mid.tree d.target) code.seen u.number d.asked.loc u.made d.cont) load in
     let long : length e.sends ≡ length o.sends = flights_long o.sends e.sends d.answers.sends in
-    let one : length o.sends ≤ 1 = moved_few c.cross.new.tree (is_alive mid.tree d.target) code.seen u.number d.asked.loc u.made d.cont load in
+    let one : length o.sends ≤ 1 =
+    moved_few c.cross.new.tree (is_alive mid.tree d.target)
+    code.seen u.number d.asked.loc u.made d.cont load in
     let room : mid.under_way + 1 < 2 ^ 32 = c.in_ok-make_room.ensures.room.numbers in
-    let end : Parts = record { version = new.version; sites = new.sites; tree = new.tree; trace = c.add_piece.new.pieces; flights = c.add_flights.new.flights; under_way = c.add_flights.new.under_way } in
-    let can : can_go mid.version mid.tree a s ≡ true = ap (λ (t : Tree). can_go mid.version t a s) same.tree ∙ ap (λ (v : ℕ). can_go v old.tree a s) same.version ∙ c.requires.may.can in
-    let goal_is : d.target.site ≡ j = goal_here mid.version code (net_of code.seen mid) before.running.some j a s u d.asked d.target d.cont there d.here d.asks can c.requires.may.hosted in
-    let made : Moves (net_of code.seen mid) a (net_of code.seen end) = crosses_net code.seen mid end refl i j a s u e here there c.requires.may.away number can moves goal_is c.add_piece.ensures c.add_flights.ensures.flights in
-    let fit : AllStayFit code end.tree end.sites.items = subst (λ (us : List Site). AllStayFit code end.tree us) (sym all) c.in_ok-effects.ensures.fit in
-    event_whole code mid end (event.Move a) events before few (move a _ made) (stay_bare code end.tree end.sites.items fit)
-    (ap length moves.sites ∙ set_length (slice_set mid.sites.items i moves.left) j moves.after ∙ set_length mid.sites.items i moves.left)
-    e.sends (all_carry o.sends e.sends d.answers.sends).1 c.add_flights.ensures.flights c.add_flights.ensures.count (omega (arith, long, one, room, c.add_flights.ensures.count))
+    let end : Parts = record {
+      version = new.version;
+      sites = new.sites;
+      tree = new.tree;
+      trace = c.add_piece.new.pieces;
+      flights = c.add_flights.new.flights;
+      under_way = c.add_flights.new.under_way;
+    } in
+    let can : can_go mid.version mid.tree a s ≡ true =
+    ap (λ (t : Tree). can_go mid.version t a s) same.tree
+    ∙ ap (λ (v : ℕ). can_go v old.tree a s) same.version ∙ c.requires.may.can in
+    let goal_is : d.target.site ≡ j =
+    goal_here mid.version code (net_of code.seen mid) before.running.some j a s u
+    d.asked d.target d.cont there d.here d.asks can c.requires.may.hosted in
+    let made : Moves (net_of code.seen mid) a (net_of code.seen end) =
+    crosses_net code.seen mid end refl i j a s u e here there c.requires.may.away number can moves
+    goal_is c.add_piece.ensures c.add_flights.ensures.flights in
+    let fit : AllStayFit code end.tree end.sites.items =
+    subst (λ (us : List Site). AllStayFit code end.tree us) (sym all) c.in_ok-effects.ensures.fit in
+    event_whole code mid end (event.Move a) events before few (move a _ made)
+    (stay_bare code end.tree end.sites.items fit)
+    (ap length moves.sites ∙ set_length (slice_set mid.sites.items i moves.left) j moves.after
+    ∙ set_length mid.sites.items i moves.left)
+    e.sends (all_carry o.sends e.sends d.answers.sends).1 c.add_flights.ensures.flights
+    c.add_flights.ensures.count (omega (arith, long, one, room, c.add_flights.ensures.count))

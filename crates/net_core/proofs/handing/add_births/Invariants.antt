@@ -5,7 +5,9 @@ use Rattle.net_core.proofs.handing.add_births.Given as goal
 
 abbrev pub invariant-loop-birth : goal.invariant-loop-birth
 invariant-loop-birth l = record {
-  all : with_births l.tree l.site (drop l.birth-index l.births) ≡ with_births l.initial.tree l.site l.births;
+  all :
+      with_births l.tree l.site (drop l.birth-index l.births)
+      ≡ with_births l.initial.tree l.site l.births;
   new : AreNew l.tree l.site (drop l.birth-index l.births);
   room : length (drop l.birth-index l.births) ≤ l.tree.spare;
   low : l.site < l.tree.roots;

@@ -17,16 +17,24 @@ use Rattle.net_core.proofs.Crossing.{ok_three}
 use Rattle.net_core.proofs.moving.move_at.Goals as goal
 
 pub move_within-requires-clause-in_tree : goal.move_within-requires-clause-in_tree
-move_within-requires-clause-in_tree c = (fits_or c.requires.fit.0 c.args.tree.now c.args.sites.now c.args.number c.requires.may.site c.index-sites-number.result c.requires.fit.1 c.requires.may.site_is).in_tree
+move_within-requires-clause-in_tree c =
+    (fits_or c.requires.fit.0 c.args.tree.now c.args.sites.now c.args.number c.requires.may.site
+    c.index-sites-number.result c.requires.fit.1 c.requires.may.site_is).in_tree
 
 pub move_within-requires-clause-can_draw : goal.move_within-requires-clause-can_draw
-move_within-requires-clause-can_draw c = (fits_or c.requires.fit.0 c.args.tree.now c.args.sites.now c.args.number c.requires.may.site c.index-sites-number.result c.requires.fit.1 c.requires.may.site_is).draws
+move_within-requires-clause-can_draw c =
+    (fits_or c.requires.fit.0 c.args.tree.now c.args.sites.now c.args.number c.requires.may.site
+    c.index-sites-number.result c.requires.fit.1 c.requires.may.site_is).draws
 
 pub move_within-requires-clause-ready : goal.move_within-requires-clause-ready
-move_within-requires-clause-ready c = asked_at c.args.sites.now c.args.number c.index-sites-number.result (λ (s : Site). can_go 2 c.args.tree.now c.args.atom.now s ≡ true) c.requires.may.site c.requires.may.site_is c.requires.may.can
+move_within-requires-clause-ready c = asked_at c.args.sites.now c.args.number
+    c.index-sites-number.result (λ (s : Site). can_go 2 c.args.tree.now c.args.atom.now s ≡ true)
+    c.requires.may.site c.requires.may.site_is c.requires.may.can
 
 pub move_within-requires-clause-hosted : goal.move_within-requires-clause-hosted
-move_within-requires-clause-hosted c = asked_at c.args.sites.now c.args.number c.index-sites-number.result (λ (s : Site). leads_into c.args.atom.now s s ≡ true) c.requires.may.site c.requires.may.site_is c.requires.may.hosted
+move_within-requires-clause-hosted c = asked_at c.args.sites.now c.args.number
+    c.index-sites-number.result (λ (s : Site). leads_into c.args.atom.now s s ≡ true)
+    c.requires.may.site c.requires.may.site_is c.requires.may.hosted
 
 pub returns-clause-ok : goal.returns-clause-ok
 returns-clause-ok c =
@@ -49,21 +57,27 @@ returns-clause-fit c =
     let sites = c.args.sites.now in
     let n = c.args.number in
     let new = c.move_within.new.site in
-    ok_three (HasEmitted u new) ((code : CodeParts) → is_in_code code t (slice_index_or sites n c.index-sites-number.result) ≡ true → is_in_code code u new ≡ true)
+    ok_three (HasEmitted u new) ((code : CodeParts)
+    → is_in_code code t (slice_index_or sites n c.index-sites-number.result) ≡ true
+    → is_in_code code u new ≡ true)
     ((code : CodeParts) (other : Site) → StillFits code t other u other)
     ((code : CodeParts) → AllFit code t sites → AllStayFit code u (slice_set sites n new))
     c.move_within.result
-    (λ emitted coded still code fit. stay_set code u sites n new (fit_stays code u sites (all_still code t u sites (still code) fit))
+    (λ emitted coded still code fit.
+    stay_set code u sites n new (fit_stays code u sites (all_still code t u sites (still code) fit))
     (record {
       all_there = emitted.all_there;
-      in_code = coded code (fits_or code t sites n c.requires.may.site c.index-sites-number.result fit c.requires.may.site_is).in_code;
+      in_code = coded code (fits_or code t sites n
+          c.requires.may.site c.index-sites-number.result fit c.requires.may.site_is).in_code;
       drawn = emitted.drawn;
       fresh = emitted.fresh;
     }))
     c.move_within.ensures.keeps c.move_within.ensures.in_code c.move_within.ensures.others_keep
 
 pub returns-clause-err : goal.returns-clause-err
-returns-clause-err c = none_set c.args.sites.now c.args.number c.requires.may.site c.index-sites-number.result c.move_within.new.site c.move_within.result c.requires.may.site_is c.move_within.ensures.err
+returns-clause-err c =
+    none_set c.args.sites.now c.args.number c.requires.may.site c.index-sites-number.result
+    c.move_within.new.site c.move_within.result c.requires.may.site_is c.move_within.ensures.err
 
 pub returns-clause-err_tree : goal.returns-clause-err_tree
 returns-clause-err_tree c = c.move_within.ensures.err_tree

@@ -14,7 +14,8 @@ add_births-requires-clause-new c =
     let t = c.make_room.new.parts.tree in
     let n = c.args.number in
     subst (AreNew t n) (sym c.as_slice.ensures.members)
-    (new_full t n c.args.effects.births (subst (λ (u : Tree). AreNew u n c.args.effects.births) (sym c.make_room.ensures.same.tree) c.requires.new))
+    (new_full t n c.args.effects.births (subst (λ (u : Tree). AreNew u n c.args.effects.births)
+    (sym c.make_room.ensures.same.tree) c.requires.new))
 
 pub returns-in-Ok : goal.returns-in-Ok
 returns-in-Ok c =
@@ -28,9 +29,11 @@ returns-in-Ok c =
       room = same.tree;
       version = same.version;
       sites = same.sites;
-      tree = c.add_births.ensures ∙ ap (λ (ls : List Loc). with_births t c.args.number ls) c.as_slice.ensures.members;
+      tree = c.add_births.ensures
+          ∙ ap (λ (ls : List Loc). with_births t c.args.number ls) c.as_slice.ensures.members;
       trace = c.add_piece.ensures ∙ ap (λ (os : List (List Out)). joined os ++ e.outs) same.trace;
-      flights = c.add_flights.ensures.flights ∙ ap (λ (fs : List (List Flight)). joined fs ++ e.sends) same.flights;
+      flights = c.add_flights.ensures.flights
+          ∙ ap (λ (fs : List (List Flight)). joined fs ++ e.sends) same.flights;
       count = c.add_flights.ensures.count ∙ ap (λ k. k + length e.sends) same.under_way;
       few = omega (arith, c.add_flights.ensures.count, c.len-sends.ensures.count);
     }

@@ -11,14 +11,32 @@ first_tree-requires c = tops_are_of_sites c.requires.0 c.args.code.now c.require
 pub open_each-requires-clause-none : goal.open_each-requires-clause-none
 open_each-requires-clause-none c = (
   c.args.version,
-  none_opened c.requires.0 c.args.code.now c.requires.1 (subst IsCode c.code.view_is c.code.invariant) c.requires.2
-      (record { version = c.args.version; sites = c.new.result; tree = c.in_ok-tree.tree; trace = c.new-2.result; flights = c.new-3.result; under_way = 0 })
-      c.requires.3 c.in_ok-tree.ensures c.new.ensures.items (ap joined c.new-2.ensures.items) (ap joined c.new-3.ensures.items) refl,
+  none_opened c.requires.0 c.args.code.now c.requires.1
+      (subst IsCode c.code.view_is c.code.invariant) c.requires.2
+      (record {
+        version = c.args.version;
+        sites = c.new.result;
+        tree = c.in_ok-tree.tree;
+        trace = c.new-2.result;
+        flights = c.new-3.result;
+        under_way = 0;
+      })
+      c.requires.3 c.in_ok-tree.ensures c.new.ensures.items (ap joined c.new-2.ensures.items)
+      (ap joined c.new-3.ensures.items) refl,
 )
 
 pub returns-in-Ok : goal.returns-in-Ok
 returns-in-Ok c =
     c.in-Ok.ensures c.args.version
-    (none_opened c.requires.0 c.args.code.now c.requires.1 (subst IsCode c.code.view_is c.code.invariant) c.requires.2
-    (record { version = c.args.version; sites = c.new.result; tree = c.in_ok-tree.tree; trace = c.new-2.result; flights = c.new-3.result; under_way = 0 })
-    c.requires.3 c.in_ok-tree.ensures c.new.ensures.items (ap joined c.new-2.ensures.items) (ap joined c.new-3.ensures.items) refl)
+    (none_opened c.requires.0 c.args.code.now c.requires.1
+    (subst IsCode c.code.view_is c.code.invariant) c.requires.2
+    (record {
+      version = c.args.version;
+      sites = c.new.result;
+      tree = c.in_ok-tree.tree;
+      trace = c.new-2.result;
+      flights = c.new-3.result;
+      under_way = 0;
+    })
+    c.requires.3 c.in_ok-tree.ensures c.new.ensures.items (ap joined c.new-2.ensures.items)
+    (ap joined c.new-3.ensures.items) refl)

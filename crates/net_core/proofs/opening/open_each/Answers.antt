@@ -7,5 +7,13 @@ pub returns : goal.returns
 returns c = λ version none.
     let code = c.args.code.now in
     let all : c.loop-number.number ≡ length code.sites =
-    omega (arith, c.loop-number.auto.number-end, c.loop-number-test.false, c.len-number-end.ensures.count, c.len-number-end.ensures.short, ap (λ (k : CodeParts). length k.sites) c.code.view_is) in
-    subst (λ (n : ℕ). IsUpTo version code n c.loop-number.parts) all (c.loop-number.invariant version none)
+    omega (
+      arith,
+      c.loop-number.auto.number-end,
+      c.loop-number-test.false,
+      c.len-number-end.ensures.count,
+      c.len-number-end.ensures.short,
+      ap (λ (k : CodeParts). length k.sites) c.code.view_is,
+    ) in
+    subst (λ (n : ℕ). IsUpTo version code n c.loop-number.parts) all
+    (c.loop-number.invariant version none)

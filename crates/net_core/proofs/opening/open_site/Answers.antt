@@ -9,7 +9,9 @@ pub hand_out-requires-clause-new : goal.hand_out-requires-clause-new
 hand_out-requires-clause-new c =
     let at = get_some c.args.code.now.sites c.args.number c.requires.number in
     let kept : IsCode c.args.code.now = subst IsCode c.code.view_is c.code.invariant in
-    births_new c.requires.before.0 c.args.code.now kept c.args.number c.args.parts.now c.requires.before.1 at.0 at.1 c.in_ok-site.site c.in_ok-site.effects (c.in_ok-site.ensures.ok at.0 at.1)
+    births_new c.requires.before.0 c.args.code.now kept
+    c.args.number c.args.parts.now c.requires.before.1 at.0 at.1 c.in_ok-site.site
+    c.in_ok-site.effects (c.in_ok-site.ensures.ok at.0 at.1)
 
 pub returns-in_ok-push-in-Ok : goal.returns-in_ok-push-in-Ok
 returns-in_ok-push-in-Ok c = λ version before.
@@ -17,9 +19,20 @@ returns-in_ok-push-in-Ok c = λ version before.
     let kept : IsCode c.args.code.now = subst IsCode c.code.view_is c.code.invariant in
     let out = c.in-Ok.ensures in
     let mid = c.hand_out.new.parts in
-    let sites : c.push.new.self.items ≡ c.args.parts.now.sites.items ++ c.in_ok-site.site ∷ [] = c.in_ok-push-in-Ok.ensures.items ∙ ap (λ (ss : List Site). ss ++ c.in_ok-site.site ∷ []) out.sites in
-    opened_next version c.args.code.now kept c.args.number c.args.parts.now before at.0 at.1 c.in_ok-site.site c.in_ok-site.effects (c.in_ok-site.ensures.ok at.0 at.1)
-    (record { version = mid.version; sites = c.push.new.self; tree = mid.tree; trace = mid.trace; flights = mid.flights; under_way = mid.under_way })
+    let sites : c.push.new.self.items ≡ c.args.parts.now.sites.items ++ c.in_ok-site.site ∷ [] =
+    c.in_ok-push-in-Ok.ensures.items
+    ∙ ap (λ (ss : List Site). ss ++ c.in_ok-site.site ∷ []) out.sites in
+    opened_next version c.args.code.now kept c.args.number c.args.parts.now before
+    at.0 at.1 c.in_ok-site.site c.in_ok-site.effects (c.in_ok-site.ensures.ok at.0 at.1)
+    (record {
+      version = mid.version;
+      sites = c.push.new.self;
+      tree = mid.tree;
+      trace = mid.trace;
+      flights = mid.flights;
+      under_way = mid.under_way;
+    })
     out.roomy out.version out.room
-    (c.in_ok-site.ensures.fit c.requires.program (has_tops version c.args.code.now c.args.number c.args.parts.now before))
+    (c.in_ok-site.ensures.fit c.requires.program
+    (has_tops version c.args.code.now c.args.number c.args.parts.now before))
     sites out.tree out.trace out.flights out.count out.few

@@ -16,11 +16,17 @@ lend-requires-clause-each g c κs within =
     let code = c.args.code.now in
     let old = c.args.parts.now in
     let quota = c.args.quota in
-    let mail : c.as_slice.result.now ≡ joined old.flights.items = c.as_slice.ensures.members ∙ c.in_ok-mail.ensures ∙ ap (λ fs. joined fs.items) c.replace-flights.ensures.value in
-    let slots : c.as_mut_slice.result.now ≡ map slot_of old.sites.items = c.as_mut_slice.ensures.value ∙ c.in_ok-slots.ensures ∙ ap (λ ss. map slot_of ss.items) c.replace-sites.ensures.value in
+    let mail : c.as_slice.result.now ≡ joined old.flights.items =
+    c.as_slice.ensures.members ∙ c.in_ok-mail.ensures
+    ∙ ap (λ fs. joined fs.items) c.replace-flights.ensures.value in
+    let slots : c.as_mut_slice.result.now ≡ map slot_of old.sites.items =
+    c.as_mut_slice.ensures.value ∙ c.in_ok-slots.ensures
+    ∙ ap (λ ss. map slot_of ss.items) c.replace-sites.ensures.value in
     let all = can_all code old quota c.requires.few.0 c.requires.few.1 c.requires.few.2 in
-    subst (λ (fs : List Flight). All (CanWork code old.tree fs quota) c.as_mut_slice.result.now) (sym mail)
-    (subst (λ (ss : List Slot). All (CanWork code old.tree (joined old.flights.items) quota) ss) (sym slots) all)
+    subst (λ (fs : List Flight). All (CanWork code old.tree fs quota) c.as_mut_slice.result.now)
+    (sym mail)
+    (subst (λ (ss : List Slot). All (CanWork code old.tree (joined old.flights.items) quota) ss)
+    (sym slots) all)
 
 pub returns-in-Ok : goal.returns-in-Ok
 returns-in-Ok g c =
@@ -30,13 +36,38 @@ returns-in-Ok g c =
     let new = c.take_all_back.new.parts in
     let es = c.take_all_back.new.journal in
     let done = c.lend.new.slots in
-    let mail : c.as_slice.result.now ≡ joined old.flights.items = c.as_slice.ensures.members ∙ c.in_ok-mail.ensures ∙ ap (λ fs. joined fs.items) c.replace-flights.ensures.value in
-    let slots : c.as_mut_slice.result.now ≡ map slot_of old.sites.items = c.as_mut_slice.ensures.value ∙ c.in_ok-slots.ensures ∙ ap (λ ss. map slot_of ss.items) c.replace-sites.ensures.value in
-    let served : Pairwise (IsServed code old.tree (joined old.flights.items) quota) (map slot_of old.sites.items) done =
-    subst (λ (ss : List Slot). Pairwise (IsServed code old.tree (joined old.flights.items) quota) ss done) slots
-    (subst (λ (fs : List Flight). Pairwise (IsServed code old.tree fs quota) c.as_mut_slice.result.now done) mail c.lend.ensures) in
-    let start : Parts = record { version = old.version; sites = c.replace-sites.new.dest; tree = old.tree; trace = old.trace; flights = c.replace-flights.new.dest; under_way = 0 } in
-    let whole : (with_items c.in_ok-slots.slots done).items ≡ done = with_items_is c.in_ok-slots.slots done (c.lend.auto.slots ∙ c.as_mut_slice.ensures.len) in
-    let back : AreBack done start c.new-journal.result new es = subst (λ (ss : List Slot). AreBack ss start c.new-journal.result new es) whole c.in-Ok.ensures in
-    has_round code old new quota es done served back.worked back.version (back.sites ∙ ap (λ ss. ss.items ++ sites_of done) c.replace-sites.ensures.after ∙ ap (λ xs. xs ++ sites_of done) c.new-2.ensures.items) (ap bare back.tree) back.trace
-    (back.flights ∙ ap (λ fs. joined fs.items ++ flights_of done) c.replace-flights.ensures.after ∙ ap (λ xs. joined xs ++ flights_of done) c.new.ensures.items) (let count = back.count in omega arith) (back.few (omega arith)) (back.events ∙ ap (λ xs. xs ++ events_of done) c.new-journal.ensures) c.requires.few.0 c.requires.few.2
+    let mail : c.as_slice.result.now ≡ joined old.flights.items =
+    c.as_slice.ensures.members ∙ c.in_ok-mail.ensures
+    ∙ ap (λ fs. joined fs.items) c.replace-flights.ensures.value in
+    let slots : c.as_mut_slice.result.now ≡ map slot_of old.sites.items =
+    c.as_mut_slice.ensures.value ∙ c.in_ok-slots.ensures
+    ∙ ap (λ ss. map slot_of ss.items) c.replace-sites.ensures.value in
+    let served : Pairwise (IsServed code old.tree (joined old.flights.items) quota)
+    (map slot_of old.sites.items) done =
+    subst
+    (λ (ss : List Slot). Pairwise (IsServed code old.tree (joined old.flights.items) quota) ss done)
+    slots
+    (subst (λ (fs : List Flight).
+    Pairwise (IsServed code old.tree fs quota) c.as_mut_slice.result.now done) mail
+    c.lend.ensures) in
+    let start : Parts = record {
+      version = old.version;
+      sites = c.replace-sites.new.dest;
+      tree = old.tree;
+      trace = old.trace;
+      flights = c.replace-flights.new.dest;
+      under_way = 0;
+    } in
+    let whole : (with_items c.in_ok-slots.slots done).items ≡ done =
+    with_items_is c.in_ok-slots.slots done (c.lend.auto.slots ∙ c.as_mut_slice.ensures.len) in
+    let back : AreBack done start c.new-journal.result new es =
+    subst (λ (ss : List Slot). AreBack ss start c.new-journal.result new es) whole
+    c.in-Ok.ensures in
+    has_round code old new quota es done served back.worked back.version
+    (back.sites ∙ ap (λ ss. ss.items ++ sites_of done) c.replace-sites.ensures.after
+    ∙ ap (λ xs. xs ++ sites_of done) c.new-2.ensures.items) (ap bare back.tree) back.trace
+    (back.flights ∙ ap (λ fs. joined fs.items ++ flights_of done) c.replace-flights.ensures.after
+    ∙ ap (λ xs. joined xs ++ flights_of done) c.new.ensures.items)
+    (let count = back.count in omega arith) (back.few (omega arith))
+    (back.events ∙ ap (λ xs. xs ++ events_of done) c.new-journal.ensures)
+    c.requires.few.0 c.requires.few.2

@@ -11,5 +11,7 @@ loop-number-preserved c =
     let v = c.args.version in
     let n = c.loop-number.number in
     let s = c.index-sites-number.result in
-    let more = least_step v sites t n s c.loop-number.best c.least_at.result (member_at sites n s c.loop-number-test.true c.index-sites-number.is) c.loop-number.invariant (answer_is v sites t s c.least_at.result c.least_at.ensures.none c.least_at.ensures.some) in
+    let more = least_step v sites t n s c.loop-number.best c.least_at.result
+    (member_at sites n s c.loop-number-test.true c.index-sites-number.is) c.loop-number.invariant
+    (answer_is v sites t s c.least_at.result c.least_at.ensures.none c.least_at.ensures.some) in
     subst (IsLeast v sites t (n + 1)) (sym c.lesser-best.ensures) more

@@ -12,7 +12,14 @@ returns-in-Some c =
     let w : Work = c.in-Some.work in
     let is : s.work ≡ Some w = search rules in
     let old = c.args.parts.now in
-    let mid : Parts = record { version = old.version; sites = c.push.new.self; tree = old.tree; trace = old.trace; flights = old.flights; under_way = old.under_way } in
+    let mid : Parts = record {
+      version = old.version;
+      sites = c.push.new.self;
+      tree = old.tree;
+      trace = old.trace;
+      flights = old.flights;
+      under_way = old.under_way;
+    } in
     let es = c.args.journal.now in
     let new = c.take_work.new.parts in
     let fs = c.take_work.new.journal in

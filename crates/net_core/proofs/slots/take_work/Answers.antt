@@ -12,8 +12,16 @@ returns c =
     let old = c.args.parts.now in
     let mid = c.send.new in
     let last = c.send-2.new in
-    let new : Parts = record { version = old.version; sites = old.sites; tree = old.tree; trace = c.add_piece.new.pieces; flights = last.flights; under_way = last.under_way } in
-    on_ok_both (joined last.flights.items ≡ joined mid.flights.items ++ w.made.sends) (last.under_way ≡ mid.under_way + length w.made.sends)
+    let new : Parts = record {
+      version = old.version;
+      sites = old.sites;
+      tree = old.tree;
+      trace = c.add_piece.new.pieces;
+      flights = last.flights;
+      under_way = last.under_way;
+    } in
+    on_ok_both (joined last.flights.items ≡ joined mid.flights.items ++ w.made.sends)
+    (last.under_way ≡ mid.under_way + length w.made.sends)
     (IsTaken w old c.args.journal.now new c.append.new.self)
     c.send-2.result
     (λ flights count. record {
@@ -21,8 +29,10 @@ returns c =
       sites = search rules;
       tree = search rules;
       trace = search rules;
-      flights = both_sent w.on w.made.sends (joined old.flights.items) (joined mid.flights.items) (joined last.flights.items) c.in_ok-send.ensures.flights flights;
-      count = both_counted w.on w.made.sends old.under_way mid.under_way last.under_way c.in_ok-send.ensures.count count;
+      flights = both_sent w.on w.made.sends (joined old.flights.items) (joined mid.flights.items)
+          (joined last.flights.items) c.in_ok-send.ensures.flights flights;
+      count = both_counted w.on w.made.sends old.under_way mid.under_way last.under_way
+          c.in_ok-send.ensures.count count;
       few = λ low. c.send-2.ensures.few;
       events = search rules;
     })

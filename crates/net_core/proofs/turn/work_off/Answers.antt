@@ -8,7 +8,8 @@ use Rattle.net_core.proofs.turn.work_off.Goals.{then-flight-number+in_ok-arrive,
 use Rattle.net_core.proofs.turn.work_off.Goals as goal
 
 pub loop-flight-init : goal.loop-flight-init
-loop-flight-init c = none_came c.args.code.now c.args.tree.now c.args.site.now.number c.args.flights.now c.args.site.now c.new-on.result c.new-on.ensures
+loop-flight-init c = none_came c.args.code.now c.args.tree.now c.args.site.now.number
+    c.args.flights.now c.args.site.now c.new-on.result c.new-on.ensures
 
 pub arrive-requires-clause-can : goal.arrive-requires-clause-can
 arrive-requires-clause-can c =
@@ -17,7 +18,9 @@ arrive-requires-clause-can c =
     let n = c.loop-flight.flight-index in
     let at = member_at c.args.flights.now n f c.loop-flight-test.true c.flight-item.is in
     let same : f.target ≡ i = omega (arith, c.number-number.ensures, c.if-flight-number.true) in
-    may_come c.args.code.now c.args.tree.now i c.args.flights.now c.args.site.now n c.loop-flight.site c.loop-flight.on c.loop-flight.invariant f at (eq-eqb f.target i same) c.requires.alone.0 c.requires.alone.1
+    may_come c.args.code.now c.args.tree.now i c.args.flights.now c.args.site.now n
+    c.loop-flight.site c.loop-flight.on c.loop-flight.invariant f at (eq-eqb f.target i same)
+    c.requires.alone.0 c.requires.alone.1
 
 pub loop-flight-preserved : goal.loop-flight-preserved
 loop-flight-preserved c =
@@ -32,10 +35,17 @@ loop-flight-preserved c =
     let spelled = each_get IsMessageFlight fs n f at c.requires.spelled in
     elim c.if-flight-number.branch [
       | then-flight-number+in_ok-arrive w ↦
-          let same : f.target ≡ i = omega (arith, c.number-number.ensures, w.if-flight-number.true) in
-          coming_as code tree i fs s (n + 1) w.arrive.new.site c.if-flight-number.site w.arrive.new.on c.if-flight-number.on w.site-is w.on-is
-          (comes code tree i fs s n c.loop-flight.site c.loop-flight.on c.loop-flight.invariant f at (eq-eqb f.target i same) c.requires.alone.0 c.requires.alone.1 spelled w.arrive.new.site w.arrive.new.on w.in_ok-arrive.ensures.arrives (w.in_ok-arrive.ensures.fit code))
+          let same : f.target ≡ i =
+          omega (arith, c.number-number.ensures, w.if-flight-number.true) in
+          coming_as code tree i fs s (n + 1) w.arrive.new.site c.if-flight-number.site
+          w.arrive.new.on c.if-flight-number.on w.site-is w.on-is
+          (comes code tree i fs s n c.loop-flight.site c.loop-flight.on c.loop-flight.invariant f at
+          (eq-eqb f.target i same) c.requires.alone.0 c.requires.alone.1 spelled w.arrive.new.site
+          w.arrive.new.on w.in_ok-arrive.ensures.arrives (w.in_ok-arrive.ensures.fit code))
       | else-flight-number w ↦
-          coming_as code tree i fs s (n + 1) c.loop-flight.site c.if-flight-number.site c.loop-flight.on c.if-flight-number.on w.site-is w.on-is
-          (passes_by code tree i fs s n c.loop-flight.site c.loop-flight.on c.loop-flight.invariant f at (not_same f.target i (λ same. absurd (omega (arith, c.number-number.ensures, w.if-flight-number.false, same)))))
+          coming_as code tree i fs s (n + 1) c.loop-flight.site c.if-flight-number.site
+          c.loop-flight.on c.if-flight-number.on w.site-is w.on-is
+          (passes_by code tree i fs s n c.loop-flight.site c.loop-flight.on c.loop-flight.invariant
+          f at (not_same f.target i (λ same.
+          absurd (omega (arith, c.number-number.ensures, w.if-flight-number.false, same)))))
     ]

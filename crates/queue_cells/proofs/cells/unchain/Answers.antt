@@ -8,4 +8,6 @@ remove-message-requires g c =
     rw cell.1 (search rules)
 
 pub returns-clause-unchained : goal.returns-clause-unchained
-returns-clause-unchained g c = Unchained-from _ _ c.args.ends c.remove-message.result c.requires.some c.requires.queue c.requires.once c.remove-message.ensures.value c.remove-message.ensures.updates
+returns-clause-unchained g c =
+    Unchained-from _ _ c.args.ends c.remove-message.result c.requires.some c.requires.queue
+    c.requires.once c.remove-message.ensures.value c.remove-message.ensures.updates

@@ -13,15 +13,24 @@ covered-requires-clause-words c =
     let x = c.requires.pick.0 in
     let picks = c.requires.pick.1 in
     let p = pick_of c.args.group c.args.guard in
-    let same : x.guard ≡ c.guard_at-guard.result.now = guard_same c.args.code.now c.args.site.now p x c.guard_at-guard.result.now picks c.guard_at-guard.ensures.at in
+    let same : x.guard ≡ c.guard_at-guard.result.now =
+    guard_same c.args.code.now c.args.site.now p x c.guard_at-guard.result.now picks
+    c.guard_at-guard.ensures.at in
     ap length (c.as_slice.ensures.members ∙ ap (λ (u : Guard). u.mask.words) (sym same))
-    ∙ mask_words c.args.code.now c.args.site.now p x c.guard_at-guard.ensures.is c.site_is_kept.ensures.kept picks (told_as c.args.code.now c.args.site.now p x picks (c.requires.level x.group picks.group))
+    ∙ mask_words c.args.code.now c.args.site.now p x
+    c.guard_at-guard.ensures.is c.site_is_kept.ensures.kept picks
+    (told_as c.args.code.now c.args.site.now p x picks (c.requires.level x.group picks.group))
 
 pub returns : goal.returns
 returns c = λ x picks.
     let p = pick_of c.args.group c.args.guard in
-    let same : x.guard ≡ c.guard_at-guard.result.now = guard_same c.args.code.now c.args.site.now p x c.guard_at-guard.result.now picks c.guard_at-guard.ensures.at in
-    let words : c.as_slice.result.now ≡ x.guard.mask.words = c.as_slice.ensures.members ∙ ap (λ (u : Guard). u.mask.words) (sym same) in
+    let same : x.guard ≡ c.guard_at-guard.result.now =
+    guard_same c.args.code.now c.args.site.now p x c.guard_at-guard.result.now picks
+    c.guard_at-guard.ensures.at in
+    let words : c.as_slice.result.now ≡ x.guard.mask.words =
+    c.as_slice.ensures.members ∙ ap (λ (u : Guard). u.mask.words) (sym same) in
     let queues = queues_are c.args.site.now.groups c.args.group x.group picks.group in
     subst (λ qs. IsTrue c.covered.result ↔ AllHeld qs x.guard.mask.words) queues
-    (subst (λ ws. IsTrue c.covered.result ↔ AllHeld (queues_of c.args.site.now.groups c.args.group) ws) words c.covered.ensures)
+    (subst
+    (λ ws. IsTrue c.covered.result ↔ AllHeld (queues_of c.args.site.now.groups c.args.group) ws)
+    words c.covered.ensures)

@@ -13,17 +13,26 @@ covered-requires-clause-words c =
     let x = c.requires.pick.0 in
     let picks = c.requires.pick.1 in
     let p = c.args.pick.now in
-    let same : x.guard ≡ c.guard_at-guard.result.now = guard_same c.args.code.now c.args.site.now p x c.guard_at-guard.result.now picks c.guard_at-guard.ensures.at in
+    let same : x.guard ≡ c.guard_at-guard.result.now =
+    guard_same c.args.code.now c.args.site.now p x c.guard_at-guard.result.now picks
+    c.guard_at-guard.ensures.at in
     ap length (c.as_slice.ensures.members ∙ ap (λ (u : Guard). u.mask.words) (sym same))
-    ∙ mask_words c.args.code.now c.args.site.now p x c.guard_at-guard.ensures.is c.site_is_kept.ensures.kept picks (told_as c.args.code.now c.args.site.now p x picks (c.requires.level x.group picks.group))
+    ∙ mask_words c.args.code.now c.args.site.now p x
+    c.guard_at-guard.ensures.is c.site_is_kept.ensures.kept picks
+    (told_as c.args.code.now c.args.site.now p x picks (c.requires.level x.group picks.group))
 
 pub returns : goal.returns
 returns c =
     let x = c.requires.pick.0 in
     let picks = c.requires.pick.1 in
     let p = c.args.pick.now in
-    let same : x.guard ≡ c.guard_at-guard.result.now = guard_same c.args.code.now c.args.site.now p x c.guard_at-guard.result.now picks c.guard_at-guard.ensures.at in
-    let words : c.as_slice.result.now ≡ x.guard.mask.words = c.as_slice.ensures.members ∙ ap (λ (u : Guard). u.mask.words) (sym same) in
+    let same : x.guard ≡ c.guard_at-guard.result.now =
+    guard_same c.args.code.now c.args.site.now p x c.guard_at-guard.result.now picks
+    c.guard_at-guard.ensures.at in
+    let words : c.as_slice.result.now ≡ x.guard.mask.words =
+    c.as_slice.ensures.members ∙ ap (λ (u : Guard). u.mask.words) (sym same) in
     let queues = queues_are c.args.site.now.groups p.group x.group picks.group in
-    let tells = subst (λ qs. IsTrue c.covered.result ↔ AllHeld qs x.guard.mask.words) queues (subst (λ ws. IsTrue c.covered.result ↔ AllHeld (queues_of c.args.site.now.groups p.group) ws) words c.covered.ensures) in
+    let tells = subst (λ qs. IsTrue c.covered.result ↔ AllHeld qs x.guard.mask.words) queues
+    (subst (λ ws. IsTrue c.covered.result ↔ AllHeld (queues_of c.args.site.now.groups p.group) ws)
+    words c.covered.ensures) in
     covered_by c.args.code.now c.args.site.now p x picks c.covered.result tells

@@ -12,5 +12,7 @@ returns-clause-fits c =
     let levels = c.as_slice.ensures.members ∙ ap (λ (v : CodeParts). v.levels) view in
     let guards = ap (λ (v : CodeParts). length v.guards) view in
     let level = c.index-as_slice-number.result in
-    let at : slice_get c.args.code.now.levels c.args.number ≡ Some level = reads c.as_slice.result.now c.args.code.now.levels c.args.number level levels c.requires c.index-as_slice-number.is in
+    let at : slice_get c.args.code.now.levels c.args.number ≡ Some level =
+    reads c.as_slice.result.now c.args.code.now.levels c.args.number level levels
+    c.requires c.index-as_slice-number.is in
     level_fits c.args.code.now c.args.number level code at (omega arith) (omega (arith, guards))

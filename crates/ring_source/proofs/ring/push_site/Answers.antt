@@ -22,4 +22,5 @@ returns c =
     let four = more start ruled agent three c.in_ok-push_agent_at.ensures in
     let five = more start hosting (codes " : ") four c.in_ok-push_all-2.ensures.ok in
     let six = more start colon messages five c.in_ok-push_messages.ensures in
-    last c.push_all-3.result start filled (codes " ]\n") c.push_messages.new.text c.push_all-3.new.text six c.push_all-3.ensures.ok
+    last c.push_all-3.result start filled (codes " ]\n")
+    c.push_messages.new.text c.push_all-3.new.text six c.push_all-3.ensures.ok

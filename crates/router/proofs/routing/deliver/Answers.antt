@@ -12,11 +12,14 @@ use Rattle.site_solution.specs.InTree.{name_stands}
 use Rattle.site_solution.specs.inside.InTree.{names_stand}
 use Rattle.router.specs.Delivering.{home_at, IsDelivery}
 use Rattle.router.specs.declared.routing.Delivery.TheVariants.{Delivered}
-use Rattle.router.proofs.Deliveries.{may_deliver, home_there, no_event, delivery_in_tree, delivery_in_code, delivery_draws}
+use Rattle.router.proofs.Deliveries.{may_deliver, home_there, no_event, delivery_in_tree}
+use Rattle.router.proofs.Deliveries.{delivery_in_code, delivery_draws}
 use Rattle.router.proofs.routing.deliver.Goals as goal
 
 -- a message that was put at its home
-there : (t : Tree) (s : Site) (m : MessageParts) (home : Loc) (new : Site) → ((l : Loc) → home_or l m.on ≡ home) → among s.locs home ≡ true → new ≡ put home m s → IsDelivery t s m Delivered new
+there : (t : Tree) (s : Site) (m : MessageParts) (home : Loc) (new : Site)
+    → ((l : Loc) → home_or l m.on ≡ home) → among s.locs home ≡ true → new ≡ put home m s
+    → IsDelivery t s m Delivered new
 there t s m home new is here done =
     let at : home_at s m ≡ home = is (root_of s.number) in
     (ap (among s.locs) at ∙ here, done ∙ ap (λ (l : Loc). put l m s) (sym at))
@@ -24,25 +27,47 @@ there t s m home new is here done =
 pub address-requires : goal.address-requires
 address-requires c =
     let may = may_deliver c.args.tree.now c.args.site.now c.args.msg c.requires in
-    let home : home_at c.args.site.now c.args.msg ≡ c.home_of-home.result = subst (λ (m : MessageParts). home_or (root_of c.args.site.now.number) m.on ≡ c.home_of-home.result) c.msg.view_is (c.home_of-home.ensures (root_of c.args.site.now.number)) in
-    ap (λ (l : Loc). is_some (spot c.args.tree.now l)) (sym home) ∙ home_there c.args.tree.now c.args.msg.on (root_of c.args.site.now.number) may.channel (and_parts (name_stands c.args.tree.now c.args.msg.on) (names_stand c.args.tree.now c.args.msg.args) may.stands).0
+    let home : home_at c.args.site.now c.args.msg ≡ c.home_of-home.result =
+    subst
+    (λ (m : MessageParts). home_or (root_of c.args.site.now.number) m.on ≡ c.home_of-home.result)
+    c.msg.view_is (c.home_of-home.ensures (root_of c.args.site.now.number)) in
+    ap (λ (l : Loc). is_some (spot c.args.tree.now l)) (sym home)
+    ∙ home_there c.args.tree.now c.args.msg.on (root_of c.args.site.now.number)
+    may.channel (and_parts (name_stands c.args.tree.now c.args.msg.on)
+    (names_stand c.args.tree.now c.args.msg.args) may.stands).0
 
 pub returns-in-Ok-clause-no_event : goal.returns-in-Ok-clause-no_event
 returns-in-Ok-clause-no_event c = λ rules_of.
-    no_event rules_of c.args.tree.now c.args.site.now c.args.msg Delivered c.put.new.self c.site_is_kept.ensures.kept c.requires
-    (there c.args.tree.now c.args.site.now c.args.msg c.home_of-home.result c.put.new.self (subst (λ (m : MessageParts). (l : Loc) → home_or l m.on ≡ c.home_of-home.result) c.msg.view_is c.home_of-home.ensures) (sym c.has.ensures ∙ c.if-not-has.false) c.in-Ok.ensures.ok)
+    no_event rules_of c.args.tree.now c.args.site.now c.args.msg Delivered
+    c.put.new.self c.site_is_kept.ensures.kept c.requires
+    (there c.args.tree.now c.args.site.now c.args.msg c.home_of-home.result c.put.new.self
+    (subst (λ (m : MessageParts). (l : Loc) → home_or l m.on ≡ c.home_of-home.result)
+    c.msg.view_is c.home_of-home.ensures) (sym c.has.ensures ∙ c.if-not-has.false)
+    c.in-Ok.ensures.ok)
 
 pub returns-in-Ok-clause-in_tree : goal.returns-in-Ok-clause-in_tree
 returns-in-Ok-clause-in_tree c =
-    delivery_in_tree c.args.tree.now c.args.site.now c.args.msg c.site_is_kept.ensures.kept c.requires Delivered c.put.new.self
-    (there c.args.tree.now c.args.site.now c.args.msg c.home_of-home.result c.put.new.self (subst (λ (m : MessageParts). (l : Loc) → home_or l m.on ≡ c.home_of-home.result) c.msg.view_is c.home_of-home.ensures) (sym c.has.ensures ∙ c.if-not-has.false) c.in-Ok.ensures.ok)
+    delivery_in_tree c.args.tree.now c.args.site.now c.args.msg c.site_is_kept.ensures.kept
+    c.requires Delivered c.put.new.self
+    (there c.args.tree.now c.args.site.now c.args.msg c.home_of-home.result c.put.new.self
+    (subst (λ (m : MessageParts). (l : Loc) → home_or l m.on ≡ c.home_of-home.result)
+    c.msg.view_is c.home_of-home.ensures) (sym c.has.ensures ∙ c.if-not-has.false)
+    c.in-Ok.ensures.ok)
 
 pub returns-in-Ok-clause-in_code : goal.returns-in-Ok-clause-in_code
 returns-in-Ok-clause-in_code c = λ code.
-    delivery_in_code c.args.tree.now c.args.site.now c.args.msg c.site_is_kept.ensures.kept c.requires code Delivered c.put.new.self
-    (there c.args.tree.now c.args.site.now c.args.msg c.home_of-home.result c.put.new.self (subst (λ (m : MessageParts). (l : Loc) → home_or l m.on ≡ c.home_of-home.result) c.msg.view_is c.home_of-home.ensures) (sym c.has.ensures ∙ c.if-not-has.false) c.in-Ok.ensures.ok)
+    delivery_in_code c.args.tree.now c.args.site.now c.args.msg c.site_is_kept.ensures.kept
+    c.requires code Delivered c.put.new.self
+    (there c.args.tree.now c.args.site.now c.args.msg c.home_of-home.result c.put.new.self
+    (subst (λ (m : MessageParts). (l : Loc) → home_or l m.on ≡ c.home_of-home.result)
+    c.msg.view_is c.home_of-home.ensures) (sym c.has.ensures ∙ c.if-not-has.false)
+    c.in-Ok.ensures.ok)
 
 pub returns-in-Ok-clause-draws : goal.returns-in-Ok-clause-draws
 returns-in-Ok-clause-draws c =
-    delivery_draws c.args.tree.now c.args.site.now c.args.msg c.site_is_kept.ensures.kept c.requires Delivered c.put.new.self
-    (there c.args.tree.now c.args.site.now c.args.msg c.home_of-home.result c.put.new.self (subst (λ (m : MessageParts). (l : Loc) → home_or l m.on ≡ c.home_of-home.result) c.msg.view_is c.home_of-home.ensures) (sym c.has.ensures ∙ c.if-not-has.false) c.in-Ok.ensures.ok)
+    delivery_draws c.args.tree.now c.args.site.now c.args.msg c.site_is_kept.ensures.kept c.requires
+    Delivered c.put.new.self
+    (there c.args.tree.now c.args.site.now c.args.msg c.home_of-home.result c.put.new.self
+    (subst (λ (m : MessageParts). (l : Loc) → home_or l m.on ≡ c.home_of-home.result)
+    c.msg.view_is c.home_of-home.ensures) (sym c.has.ensures ∙ c.if-not-has.false)
+    c.in-Ok.ensures.ok)

@@ -7,8 +7,16 @@ use Rattle.scope_check.proofs.Sites.{drop-next}
 use Rattle.scope_check.proofs.block.+block.Goals as goal
 
 pub level-one-requires : goal.level-one-requires
-level-one-requires t c =
-    (omega (arith, defs_depth-member c.as_slice-d-items.result.now c.loop-d.d-index c.d-item.result c.loop-d-test.true c.d-item.is, c.decreases, ap defs_depth c.as_slice-d-items.ensures.members), tt)
+level-one-requires t c = (
+  omega (
+    arith,
+    defs_depth-member c.as_slice-d-items.result.now c.loop-d.d-index c.d-item.result
+        c.loop-d-test.true c.d-item.is,
+    c.decreases,
+    ap defs_depth c.as_slice-d-items.ensures.members,
+  ),
+  tt,
+)
 
 pub level-loop-d-preserved : goal.level-loop-d-preserved
 level-loop-d-preserved t c =
@@ -23,5 +31,8 @@ level-loop-d-preserved t c =
     record {
       items = inv.items;
       place = omega (arith, ap places all, e.place, inv.place);
-      names = (λ i. e.names i ++ defining c.args.at (e.place i) rest) ∙ append_assoc c.loop-d.list.items one others ∙ ap (λ ds. c.loop-d.list.items ++ defining c.args.at c.loop-d.end ds) (sym all) ∙ inv.names;
+      names = (λ i. e.names i ++ defining c.args.at (e.place i) rest)
+          ∙ append_assoc c.loop-d.list.items one others
+          ∙ ap (λ ds. c.loop-d.list.items ++ defining c.args.at c.loop-d.end ds) (sym all)
+          ∙ inv.names;
     }

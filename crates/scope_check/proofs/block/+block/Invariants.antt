@@ -8,8 +8,12 @@ use Rattle.scope_check.proofs.block.+block.Given as goal
 abbrev pub invariant-level-loop-d : goal.invariant-level-loop-d
 invariant-level-loop-d l = record {
   items : l.d-items ≡ l.defs;
-  place : l.end + places (definitions (drop l.d-index l.d-items)) ≡ l.place + places (definitions l.d-items);
-  names : l.list.items ++ defining l.at l.end (definitions (drop l.d-index l.d-items)) ≡ l.initial.list.items ++ defining l.at l.place (definitions l.d-items);
+  place :
+      l.end + places (definitions (drop l.d-index l.d-items))
+      ≡ l.place + places (definitions l.d-items);
+  names :
+      l.list.items ++ defining l.at l.end (definitions (drop l.d-index l.d-items))
+      ≡ l.initial.list.items ++ defining l.at l.place (definitions l.d-items);
 }
 
 abbrev pub decreases-level : goal.decreases-level

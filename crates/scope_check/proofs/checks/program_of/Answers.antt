@@ -7,4 +7,6 @@ pub program_with-requires : goal.program_with-requires
 program_with-requires c =
     let trees = c.as_slice-2.ensures.members ∙ ap (λ (x : TreeOfText). x.sites) c.tree.view_is in
     let seen = c.as_slice.ensures.members ∙ ap (λ (x : TreeOfText). x.seen) c.tree.view_is in
-    c.as_slice-3.ensures.value ∙ names-are c.args.tree.now c.as_slice-2.result.now c.as_slice.result.now c.in_ok-names.names.items trees seen c.in_ok-names.ensures
+    c.as_slice-3.ensures.value
+    ∙ names-are c.args.tree.now c.as_slice-2.result.now c.as_slice.result.now
+    c.in_ok-names.names.items trees seen c.in_ok-names.ensures

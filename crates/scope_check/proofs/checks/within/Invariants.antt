@@ -5,4 +5,5 @@ use Rattle.scope_check.specs.inside.FaultList.{level_faults}
 use Rattle.scope_check.proofs.checks.within.Given as goal
 
 abbrev pub invariant-loop-tree : goal.invariant-loop-tree
-invariant-loop-tree l = first_of l.least (level_faults (sites_of (drop l.tree-index l.trees))) ≡ first_of l.initial.least (level_faults (sites_of l.trees))
+invariant-loop-tree l = first_of l.least (level_faults (sites_of (drop l.tree-index l.trees)))
+    ≡ first_of l.initial.least (level_faults (sites_of l.trees))

@@ -3,18 +3,35 @@ use Rattle.join_parse.specs.SourceSize.{procs_depth, defs_depth}
 use Rattle.join_parse.specs.Members.{procs_depth-member, defs_depth-member}
 use Rattle.join_parse.specs.Source.{processes, definitions}
 use Rattle.scope_check.specs.inside.Order.{first_of}
-use Rattle.scope_check.specs.inside.FaultList.{process_faults, processes_faults, definition_faults, level_faults}
+use Rattle.scope_check.specs.inside.FaultList.{process_faults, processes_faults, definition_faults}
+use Rattle.scope_check.specs.inside.FaultList.{level_faults}
 use Rattle.scope_check.proofs.Folds.{first-append}
 use Rattle.scope_check.proofs.Sites.{drop-next}
 use Rattle.scope_check.proofs.clashes.+declared.Goals as goal
 
 pub body-process-requires : goal.body-process-requires
-body-process-requires t c =
-    (omega (arith, procs_depth-member c.as_slice-p-items.result.now c.loop-p.p-index c.p-item.result c.loop-p-test.true c.p-item.is, c.decreases, ap procs_depth c.as_slice-p-items.ensures.members), tt)
+body-process-requires t c = (
+  omega (
+    arith,
+    procs_depth-member c.as_slice-p-items.result.now c.loop-p.p-index c.p-item.result
+        c.loop-p-test.true c.p-item.is,
+    c.decreases,
+    ap procs_depth c.as_slice-p-items.ensures.members,
+  ),
+  tt,
+)
 
 pub level-definition-requires : goal.level-definition-requires
-level-definition-requires t c =
-    (omega (arith, defs_depth-member c.as_slice-d-items.result.now c.loop-d.d-index c.d-item.result c.loop-d-test.true c.d-item.is, c.decreases, ap defs_depth c.as_slice-d-items.ensures.members), tt)
+level-definition-requires t c = (
+  omega (
+    arith,
+    defs_depth-member c.as_slice-d-items.result.now c.loop-d.d-index c.d-item.result
+        c.loop-d-test.true c.d-item.is,
+    c.decreases,
+    ap defs_depth c.as_slice-d-items.ensures.members,
+  ),
+  tt,
+)
 
 pub body-loop-p-preserved : goal.body-loop-p-preserved
 body-loop-p-preserved t c =
@@ -24,7 +41,10 @@ body-loop-p-preserved t c =
     let all = ap processes (drop-next items c.loop-p.p-index p c.loop-p-test.true c.p-item.is) in
     record {
       items = c.loop-p.invariant.items;
-      least = ap (λ o. first_of o (processes_faults rest)) c.in_ok-process.ensures ∙ sym (first-append c.loop-p.least (process_faults p) (processes_faults rest)) ∙ ap (λ l. first_of c.loop-p.least (processes_faults l)) (sym all) ∙ c.loop-p.invariant.least;
+      least = ap (λ o. first_of o (processes_faults rest)) c.in_ok-process.ensures
+          ∙ sym (first-append c.loop-p.least (process_faults p) (processes_faults rest))
+          ∙ ap (λ l. first_of c.loop-p.least (processes_faults l)) (sym all)
+          ∙ c.loop-p.invariant.least;
     }
 
 pub level-loop-d-preserved : goal.level-loop-d-preserved
@@ -35,5 +55,7 @@ level-loop-d-preserved t c =
     let all = ap definitions (drop-next items c.loop-d.d-index d c.loop-d-test.true c.d-item.is) in
     record {
       items = c.loop-d.invariant.items;
-      least = ap (λ o. first_of o (level_faults rest)) c.in_ok-definition.ensures ∙ sym (first-append c.loop-d.least (definition_faults d) (level_faults rest)) ∙ ap (λ l. first_of c.loop-d.least (level_faults l)) (sym all) ∙ c.loop-d.invariant.least;
+      least = ap (λ o. first_of o (level_faults rest)) c.in_ok-definition.ensures
+          ∙ sym (first-append c.loop-d.least (definition_faults d) (level_faults rest))
+          ∙ ap (λ l. first_of c.loop-d.least (level_faults l)) (sym all) ∙ c.loop-d.invariant.least;
     }

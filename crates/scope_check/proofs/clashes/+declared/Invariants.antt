@@ -9,13 +9,17 @@ use Rattle.scope_check.proofs.clashes.+declared.Given as goal
 abbrev pub invariant-body-loop-p : goal.invariant-body-loop-p
 invariant-body-loop-p l = record {
   items : l.p-items ≡ l.list;
-  least : first_of l.least (processes_faults (processes (drop l.p-index l.p-items))) ≡ first_of l.initial.least (processes_faults (processes l.p-items));
+  least :
+      first_of l.least (processes_faults (processes (drop l.p-index l.p-items)))
+      ≡ first_of l.initial.least (processes_faults (processes l.p-items));
 }
 
 abbrev pub invariant-level-loop-d : goal.invariant-level-loop-d
 invariant-level-loop-d l = record {
   items : l.d-items ≡ l.list;
-  least : first_of l.least (level_faults (definitions (drop l.d-index l.d-items))) ≡ first_of l.initial.least (level_faults (definitions l.d-items));
+  least :
+      first_of l.least (level_faults (definitions (drop l.d-index l.d-items)))
+      ≡ first_of l.initial.least (level_faults (definitions l.d-items));
 }
 
 abbrev pub decreases-process : goal.decreases-process

@@ -4,4 +4,5 @@ use Rattle.scope_check.specs.inside.Clashes.{clashes_in}
 use Rattle.scope_check.proofs.clashes.clashes_after.Given as goal
 
 abbrev pub invariant-loop-d : goal.invariant-loop-d
-invariant-loop-d l = first_of l.least (clashes_in l.so_far (drop l.d-index l.names)) ≡ first_of l.initial.least (clashes_in l.initial.so_far l.names)
+invariant-loop-d l = first_of l.least (clashes_in l.so_far (drop l.d-index l.names))
+    ≡ first_of l.initial.least (clashes_in l.initial.so_far l.names)

@@ -7,4 +7,5 @@ use Rattle.scope_check.proofs.clashes.join.Goals as goal
 pub returns : goal.returns
 returns c =
     let pats = c.args.pats.now in
-    chained _ _ _ (channel_repeats [] pats) (parameter_repeats [] pats) _ c.in_ok-repeated_channels.ensures c.in_ok-repeated_parameters.ensures (join-is pats)
+    chained _ _ _ (channel_repeats [] pats) (parameter_repeats [] pats) _
+    c.in_ok-repeated_channels.ensures c.in_ok-repeated_parameters.ensures (join-is pats)

@@ -10,24 +10,47 @@ use Rattle.scope_check.proofs.Sites.{drop-next, level-tables}
 use Rattle.scope_check.proofs.naming.+naming.Goals as goal
 
 pub walk_all-walk-requires : goal.walk_all-walk-requires
-walk_all-walk-requires t c =
-    (omega (arith, procs_depth-member c.as_slice-p-items.result.now c.loop-p.p-index c.p-item.result c.loop-p-test.true c.p-item.is, c.decreases, ap procs_depth c.as_slice-p-items.ensures.members), tt)
+walk_all-walk-requires t c = (
+  omega (
+    arith,
+    procs_depth-member c.as_slice-p-items.result.now c.loop-p.p-index c.p-item.result
+        c.loop-p-test.true c.p-item.is,
+    c.decreases,
+    ap procs_depth c.as_slice-p-items.ensures.members,
+  ),
+  tt,
+)
 
 pub walk_level-walk_one-requires : goal.walk_level-walk_one-requires
-walk_level-walk_one-requires t c =
-    (omega (arith, defs_depth-member c.as_slice-d-items.result.now c.loop-d.d-index c.d-item.result c.loop-d-test.true c.d-item.is, c.decreases, ap defs_depth c.as_slice-d-items.ensures.members), tt)
+walk_level-walk_one-requires t c = (
+  omega (
+    arith,
+    defs_depth-member c.as_slice-d-items.result.now c.loop-d.d-index c.d-item.result
+        c.loop-d-test.true c.d-item.is,
+    c.decreases,
+    ap defs_depth c.as_slice-d-items.ensures.members,
+  ),
+  tt,
+)
 
 pub walk-returns-in_ok-fill-in-Ok-clause-scopes : goal.walk-returns-in_ok-fill-in-Ok-clause-scopes
 walk-returns-in_ok-fill-in-Ok-clause-scopes t c =
-    let is : Def (definitions c.in-Def.defs) (processes c.in-Def.body) ≡ c.args.p.now = search rules in
+    let is : Def (definitions c.in-Def.defs) (processes c.in-Def.body) ≡ c.args.p.now =
+    search rules in
     on_ok_weaker c.walk_all-in-Ok.result
-    (λ more. def-tables _ c.in_ok-slot-in-Def.slot _ _ _ _ _ _ _ c.args.scopes.now.items _ _ _ _ is c.in_ok-slot-in-Def.ensures.place c.in_ok-slot-in-Def.ensures.kept c.new-own.ensures c.in-Ok.ensures.scopes c.in-Ok.ensures.own c.in_ok-fill-in-Ok.ensures c.in-Ok.ensures.spell more)
+    (λ more. def-tables _ c.in_ok-slot-in-Def.slot _ _ _ _ _ _ _ c.args.scopes.now.items _ _ _ _ is
+    c.in_ok-slot-in-Def.ensures.place c.in_ok-slot-in-Def.ensures.kept c.new-own.ensures
+    c.in-Ok.ensures.scopes c.in-Ok.ensures.own c.in_ok-fill-in-Ok.ensures c.in-Ok.ensures.spell
+    more)
     c.walk_all-in-Ok.ensures.scopes
 
 pub walk-returns-in_ok-fill-in-Ok-clause-spell : goal.walk-returns-in_ok-fill-in-Ok-clause-spell
 walk-returns-in_ok-fill-in-Ok-clause-spell t c =
-    let is : Def (definitions c.in-Def.defs) (processes c.in-Def.body) ≡ c.args.p.now = search rules in
-    on_ok_weaker c.walk_all-in-Ok.result (λ more. def-spell _ _ _ _ _ _ _ is c.new-own.ensures c.in-Ok.ensures.spell more) c.walk_all-in-Ok.ensures.spell
+    let is : Def (definitions c.in-Def.defs) (processes c.in-Def.body) ≡ c.args.p.now =
+    search rules in
+    on_ok_weaker c.walk_all-in-Ok.result
+    (λ more. def-spell _ _ _ _ _ _ _ is c.new-own.ensures c.in-Ok.ensures.spell more)
+    c.walk_all-in-Ok.ensures.spell
 
 pub walk_level-loop-d-preserved : goal.walk_level-loop-d-preserved
 walk_level-loop-d-preserved t c =
@@ -41,7 +64,17 @@ walk_level-loop-d-preserved t c =
     record {
       items = inv.items;
       place = omega (arith, ap places all, e.place, inv.place);
-      own = (λ i. (walk_level c.args.at (e.place i) (e.spell i) (e.own i) (definitions rest)).own) ∙ ap (λ ds. (walk_level c.args.at c.loop-d.end c.loop-d.spell c.loop-d.own ds).own) (sym all) ∙ inv.own;
-      tables = level-tables c.args.at c.loop-d.end c.in_ok-end.end c.loop-d.spell c.walk_one.new.spell c.loop-d.own c.walk_one.new.own d (definitions rest) c.loop-d.scopes.items c.walk_one.new.scopes.items e.own e.spell e.place e.scopes ∙ ap (λ ds. c.loop-d.scopes.items ++ (walk_level c.args.at c.loop-d.end c.loop-d.spell c.loop-d.own ds).tables) (sym all) ∙ inv.tables;
-      spell = (λ i. (walk_level c.args.at (e.place i) (e.spell i) (e.own i) (definitions rest)).spell) ∙ ap (λ ds. (walk_level c.args.at c.loop-d.end c.loop-d.spell c.loop-d.own ds).spell) (sym all) ∙ inv.spell;
+      own = (λ i. (walk_level c.args.at (e.place i) (e.spell i) (e.own i) (definitions rest)).own)
+          ∙ ap (λ ds. (walk_level c.args.at c.loop-d.end c.loop-d.spell c.loop-d.own ds).own)
+          (sym all) ∙ inv.own;
+      tables = level-tables c.args.at c.loop-d.end c.in_ok-end.end c.loop-d.spell
+          c.walk_one.new.spell c.loop-d.own c.walk_one.new.own d (definitions rest)
+          c.loop-d.scopes.items c.walk_one.new.scopes.items e.own e.spell e.place e.scopes
+          ∙ ap (λ ds. c.loop-d.scopes.items
+          ++ (walk_level c.args.at c.loop-d.end c.loop-d.spell c.loop-d.own ds).tables) (sym all)
+          ∙ inv.tables;
+      spell =
+          (λ i. (walk_level c.args.at (e.place i) (e.spell i) (e.own i) (definitions rest)).spell)
+          ∙ ap (λ ds. (walk_level c.args.at c.loop-d.end c.loop-d.spell c.loop-d.own ds).spell)
+          (sym all) ∙ inv.spell;
     }

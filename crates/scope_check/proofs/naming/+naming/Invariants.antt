@@ -9,17 +9,31 @@ use Rattle.scope_check.proofs.naming.+naming.Given as goal
 abbrev pub invariant-walk_all-loop-p : goal.invariant-walk_all-loop-p
 invariant-walk_all-loop-p l = record {
   items : l.p-items ≡ l.list;
-  tables : l.scopes.items ++ (walk_all l.spell (processes (drop l.p-index l.p-items))).tables ≡ l.initial.scopes.items ++ (walk_all l.initial.spell (processes l.p-items)).tables;
-  spell : (walk_all l.spell (processes (drop l.p-index l.p-items))).spell ≡ (walk_all l.initial.spell (processes l.p-items)).spell;
+  tables :
+      l.scopes.items ++ (walk_all l.spell (processes (drop l.p-index l.p-items))).tables
+      ≡ l.initial.scopes.items ++ (walk_all l.initial.spell (processes l.p-items)).tables;
+  spell :
+      (walk_all l.spell (processes (drop l.p-index l.p-items))).spell
+      ≡ (walk_all l.initial.spell (processes l.p-items)).spell;
 }
 
 abbrev pub invariant-walk_level-loop-d : goal.invariant-walk_level-loop-d
 invariant-walk_level-loop-d l = record {
   items : l.d-items ≡ l.list;
-  place : l.end + places (definitions (drop l.d-index l.d-items)) ≡ l.place + places (definitions l.d-items);
-  own : (walk_level l.at l.end l.spell l.own (definitions (drop l.d-index l.d-items))).own ≡ (walk_level l.at l.place l.initial.spell l.initial.own (definitions l.d-items)).own;
-  tables : l.scopes.items ++ (walk_level l.at l.end l.spell l.own (definitions (drop l.d-index l.d-items))).tables ≡ l.initial.scopes.items ++ (walk_level l.at l.place l.initial.spell l.initial.own (definitions l.d-items)).tables;
-  spell : (walk_level l.at l.end l.spell l.own (definitions (drop l.d-index l.d-items))).spell ≡ (walk_level l.at l.place l.initial.spell l.initial.own (definitions l.d-items)).spell;
+  place :
+      l.end + places (definitions (drop l.d-index l.d-items))
+      ≡ l.place + places (definitions l.d-items);
+  own :
+      (walk_level l.at l.end l.spell l.own (definitions (drop l.d-index l.d-items))).own
+      ≡ (walk_level l.at l.place l.initial.spell l.initial.own (definitions l.d-items)).own;
+  tables :
+      l.scopes.items
+      ++ (walk_level l.at l.end l.spell l.own (definitions (drop l.d-index l.d-items))).tables
+      ≡ l.initial.scopes.items
+      ++ (walk_level l.at l.place l.initial.spell l.initial.own (definitions l.d-items)).tables;
+  spell :
+      (walk_level l.at l.end l.spell l.own (definitions (drop l.d-index l.d-items))).spell
+      ≡ (walk_level l.at l.place l.initial.spell l.initial.own (definitions l.d-items)).spell;
 }
 
 abbrev pub decreases-walk : goal.decreases-walk

@@ -10,17 +10,29 @@ use Rattle.scope_check.proofs.translate.+translate.Given as goal
 abbrev pub invariant-body-loop-p : goal.invariant-body-loop-p
 invariant-body-loop-p l = record {
   items : l.p-items ≡ l.list;
-  end : l.end + scopes_in_all (processes (drop l.p-index l.p-items)) ≡ l.at + scopes_in_all (processes l.p-items);
-  value : l.members ++ members_in l.scopes l.env l.end (processes (drop l.p-index l.p-items)) ≡ members_in l.scopes l.env l.at (processes l.p-items);
-  least : first_of l.least (all_uses_in l.scopes l.env l.end (processes (drop l.p-index l.p-items))) ≡ first_of l.initial.least (all_uses_in l.scopes l.env l.at (processes l.p-items));
+  end :
+      l.end + scopes_in_all (processes (drop l.p-index l.p-items))
+      ≡ l.at + scopes_in_all (processes l.p-items);
+  value :
+      l.members ++ members_in l.scopes l.env l.end (processes (drop l.p-index l.p-items))
+      ≡ members_in l.scopes l.env l.at (processes l.p-items);
+  least :
+      first_of l.least (all_uses_in l.scopes l.env l.end (processes (drop l.p-index l.p-items)))
+      ≡ first_of l.initial.least (all_uses_in l.scopes l.env l.at (processes l.p-items));
 }
 
 abbrev pub invariant-level-loop-d : goal.invariant-level-loop-d
 invariant-level-loop-d l = record {
   items : l.d-items ≡ l.list;
-  end : l.end + scopes_in_defs (definitions (drop l.d-index l.d-items)) ≡ l.at + scopes_in_defs (definitions l.d-items);
-  value : l.defs ++ level_in l.scopes l.own l.env l.end (definitions (drop l.d-index l.d-items)) ≡ level_in l.scopes l.own l.env l.at (definitions l.d-items);
-  least : first_of l.least (level_uses_in l.scopes l.env l.end (definitions (drop l.d-index l.d-items))) ≡ first_of l.initial.least (level_uses_in l.scopes l.env l.at (definitions l.d-items));
+  end :
+      l.end + scopes_in_defs (definitions (drop l.d-index l.d-items))
+      ≡ l.at + scopes_in_defs (definitions l.d-items);
+  value :
+      l.defs ++ level_in l.scopes l.own l.env l.end (definitions (drop l.d-index l.d-items))
+      ≡ level_in l.scopes l.own l.env l.at (definitions l.d-items);
+  least :
+      first_of l.least (level_uses_in l.scopes l.env l.end (definitions (drop l.d-index l.d-items)))
+      ≡ first_of l.initial.least (level_uses_in l.scopes l.env l.at (definitions l.d-items));
 }
 
 abbrev pub decreases-process : goal.decreases-process

@@ -6,7 +6,13 @@ use Rattle.scope_check.proofs.translate.sites.Given as goal
 
 abbrev pub invariant-loop-tree : goal.invariant-loop-tree
 invariant-loop-tree l = record {
-  end : l.end + scopes_in_defs (sites_of (drop l.tree-index l.list)) ≡ 1 + scopes_in_defs (sites_of l.list);
-  value : l.terms ++ site_terms_in l.scopes l.own l.env l.end (drop l.tree-index l.list) ≡ site_terms_in l.scopes l.own l.env 1 l.list;
-  least : first_of l.least (level_uses_in l.scopes l.env l.end (sites_of (drop l.tree-index l.list))) ≡ first_of l.initial.least (level_uses_in l.scopes l.env 1 (sites_of l.list));
+  end :
+      l.end + scopes_in_defs (sites_of (drop l.tree-index l.list))
+      ≡ 1 + scopes_in_defs (sites_of l.list);
+  value :
+      l.terms ++ site_terms_in l.scopes l.own l.env l.end (drop l.tree-index l.list)
+      ≡ site_terms_in l.scopes l.own l.env 1 l.list;
+  least :
+      first_of l.least (level_uses_in l.scopes l.env l.end (sites_of (drop l.tree-index l.list)))
+      ≡ first_of l.initial.least (level_uses_in l.scopes l.env 1 (sites_of l.list));
 }

@@ -17,5 +17,6 @@ returns-in-Did-clause-sends c =
     let u = c.move_between.new.tree in
     let left = c.move_between.new.from in
     let new = c.move_between.new.into in
-    if_ok (λ (e : Effects). IsMoveBetween seen a t from into u left new e) (λ (e : Effects). Each IsMessageFlight e.sends) c.move_between.result
+    if_ok (λ (e : Effects). IsMoveBetween seen a t from into u left new e)
+    (λ (e : Effects). Each IsMessageFlight e.sends) c.move_between.result
     (λ e h. crossing_sent seen t from into a u left new e (Did 0) h) c.move_between.ensures.ok

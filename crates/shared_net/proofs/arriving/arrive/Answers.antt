@@ -9,4 +9,6 @@ pub returns-clause-spelled : goal.returns-clause-spelled
 returns-clause-spelled c =
     let t = c.args.tree.now in
     let s = c.args.site.now in
-    if_ok (HasCome t s c.as_slice.result.now c.work_off.new.site) (Each IsMessageFlight) c.work_off.result (λ on h. are_message_flights (all_come t h.msgs s).on on h.flights) c.work_off.ensures.ok
+    if_ok (HasCome t s c.as_slice.result.now c.work_off.new.site) (Each IsMessageFlight)
+    c.work_off.result (λ on h. are_message_flights (all_come t h.msgs s).on on h.flights)
+    c.work_off.ensures.ok

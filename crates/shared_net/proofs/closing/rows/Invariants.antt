@@ -7,5 +7,6 @@ use Rattle.shared_net.proofs.closing.rows.Given as goal
 abbrev pub invariant-loop-pass : goal.invariant-loop-pass
 invariant-loop-pass g l = record {
   rows : l.rows ++ map row_of (drop l.pass-index l.pass-items) ≡ map row_of l.pass-items;
-  rise : Each (λ (p : PassKept). Rise 0 p.budget p.receipts) (drop l.pass-index l.pass-items) → Each (λ (p : PassKept). Rise 0 p.budget p.receipts) l.pass-items;
+  rise : Each (λ (p : PassKept). Rise 0 p.budget p.receipts) (drop l.pass-index l.pass-items)
+      → Each (λ (p : PassKept). Rise 0 p.budget p.receipts) l.pass-items;
 }

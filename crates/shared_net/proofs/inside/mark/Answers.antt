@@ -15,5 +15,6 @@ loop-receipt-preserved c =
     record {
       short = same ∙ c.loop-receipt.invariant.short;
       below = rw same left.1;
-      marks = λ k. mark-next slots c.args.number rs i r l c.receipt-item.is left.0 k ∙ c.loop-receipt.invariant.marks k;
+      marks = λ k. mark-next slots c.args.number rs i r l c.receipt-item.is left.0 k
+          ∙ c.loop-receipt.invariant.marks k;
     }

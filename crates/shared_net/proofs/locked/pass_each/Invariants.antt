@@ -6,5 +6,7 @@ abbrev pub invariant-loop-i : goal.invariant-loop-i
 invariant-loop-i g l = record {
   parts : l.rest.parts + l.i ≡ l.passes;
   amount : l.rest.amount ≡ 0;
-  list : l.list.items ++ new_passes l.budget (l.i + 1) (l.passes - l.i) ≡ new_passes l.budget 1 l.passes;
+  list :
+      l.list.items ++ new_passes l.budget (l.i + 1) (l.passes - l.i)
+      ≡ new_passes l.budget 1 l.passes;
 }

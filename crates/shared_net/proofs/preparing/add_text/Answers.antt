@@ -11,5 +11,7 @@ returns-then-at-mails c = text_past c.args.target c.args.text c.args.mails.now c
 pub returns : goal.returns
 returns c =
     on_ok _ _ c.push.result
-    (λ e. ap (slice_set c.args.mails.now c.args.target) e ∙ text_put c.args.target c.args.text c.args.mails.now _ (slice_get-get_or c.args.mails.now c.args.target c.index-mails-at.result c.if-at-mails.false))
+    (λ e. ap (slice_set c.args.mails.now c.args.target) e
+    ∙ text_put c.args.target c.args.text c.args.mails.now _
+    (slice_get-get_or c.args.mails.now c.args.target c.index-mails-at.result c.if-at-mails.false))
     c.push.ensures.ok

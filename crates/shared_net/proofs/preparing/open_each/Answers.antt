@@ -4,5 +4,13 @@ use Rattle.shared_net.proofs.Opening.{all_are_opened}
 use Rattle.shared_net.proofs.preparing.open_each.Goals as goal
 
 pub returns : goal.returns
-returns c = all_are_opened c.args.code.now c.loop-number.number c.loop-number.begun.sites.items c.loop-number.begun.tree c.loop-number.begun.mails.items
-    (omega (arith, c.loop-number.auto.number-end, c.loop-number-test.false, c.len-number-end.ensures.count, c.len-number-end.ensures.short, ap (λ (k : CodeParts). length k.sites) c.code.view_is)) c.loop-number.invariant
+returns c = all_are_opened c.args.code.now c.loop-number.number c.loop-number.begun.sites.items
+    c.loop-number.begun.tree c.loop-number.begun.mails.items
+    (omega (
+      arith,
+      c.loop-number.auto.number-end,
+      c.loop-number-test.false,
+      c.len-number-end.ensures.count,
+      c.len-number-end.ensures.short,
+      ap (λ (k : CodeParts). length k.sites) c.code.view_is,
+    )) c.loop-number.invariant

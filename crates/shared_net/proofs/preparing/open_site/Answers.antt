@@ -9,7 +9,9 @@ carry-carried-requires-clause-new c =
     let n = c.args.number in
     let old = c.args.begun.now in
     let at = get_some code.sites n c.requires.number in
-    births_first code n old.sites.items old.tree old.mails.items c.requires.before at.0 at.1 c.in_ok-site.site c.in_ok-site.effects (c.in_ok-site.ensures.ok at.0 at.1) (length c.in_ok-site.effects.births)
+    births_first code n old.sites.items old.tree old.mails.items c.requires.before at.0 at.1
+    c.in_ok-site.site c.in_ok-site.effects (c.in_ok-site.ensures.ok at.0 at.1)
+    (length c.in_ok-site.effects.births)
 
 pub returns-in_ok-push-in-Ok : goal.returns-in_ok-push-in-Ok
 returns-in_ok-push-in-Ok c =
@@ -20,5 +22,8 @@ returns-in_ok-push-in-Ok c =
     let new = c.carry-carried.new.begun in
     let at = get_some code.sites n c.requires.number in
     let sites : c.push.new.self.items ≡ old.sites.items ++ c.in_ok-site.site ∷ [] =
-    c.in_ok-push-in-Ok.ensures.items ∙ ap (λ (ss : List Site). ss ++ c.in_ok-site.site ∷ []) c.in-Ok.ensures.sites in
-    opened_next code n old.sites.items old.tree old.mails.items c.requires.before at.0 at.1 c.in_ok-site.site e (c.in_ok-site.ensures.ok at.0 at.1) c.push.new.self.items new.tree (length e.births) new.mails.items sites c.in-Ok.ensures.tree c.in-Ok.ensures.mail
+    c.in_ok-push-in-Ok.ensures.items
+    ∙ ap (λ (ss : List Site). ss ++ c.in_ok-site.site ∷ []) c.in-Ok.ensures.sites in
+    opened_next code n old.sites.items old.tree old.mails.items c.requires.before at.0 at.1
+    c.in_ok-site.site e (c.in_ok-site.ensures.ok at.0 at.1) c.push.new.self.items new.tree
+    (length e.births) new.mails.items sites c.in-Ok.ensures.tree c.in-Ok.ensures.mail

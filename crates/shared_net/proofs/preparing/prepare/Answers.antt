@@ -8,4 +8,5 @@ use Rattle.shared_net.proofs.preparing.prepare.Goals as goal
 pub returns-in-Ok-clause-mail : goal.returns-in-Ok-clause-mail
 returns-in-Ok-clause-mail g c =
     subst (Each (Each IsMessageText)) (sym c.from_vec-in-Ok.ensures)
-    (mails_spelled (opened_net c.args.program.now.version c.args.code.now).packets c.in_ok-begun.begun.mails.items (c.in_ok-begun.ensures c.args.program.now.version).mail)
+    (mails_spelled (opened_net c.args.program.now.version c.args.code.now).packets
+    c.in_ok-begun.begun.mails.items (c.in_ok-begun.ensures c.args.program.now.version).mail)

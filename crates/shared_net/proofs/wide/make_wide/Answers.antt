@@ -11,5 +11,6 @@ ask_wide-requires-clause-met g c =
     let t = c.args.tree.now in
     let s = c.args.site.now in
     let a = c.in-Ask.atom in
-    let chosen : Chooses w c.args.code.now t s (choice.Ask a) = subst (λ (x : Chosen). Chooses w c.args.code.now t s x) c.in-Ask.is c.requires.chosen in
+    let chosen : Chooses w c.args.code.now t s (choice.Ask a) =
+    subst (λ (x : Chosen). Chooses w c.args.code.now t s x) c.in-Ask.is c.requires.chosen in
     meet_wider w t s a chosen.1.1.met

@@ -4,4 +4,6 @@ use Rattle.site_runner.proofs.Rounding.{as_one}
 use Rattle.site_runner.proofs.in_rounds.are_one.Goals as goal
 
 pub returns : goal.returns
-returns c = as_one c.args.book.now c.args.net.now c.requires c.replays.ensures (subst IsProgram (c.program.view_is ∙ c.program-program.ensures) c.program.invariant) c.code_is_kept.ensures
+returns c = as_one c.args.book.now c.args.net.now c.requires c.replays.ensures
+    (subst IsProgram (c.program.view_is ∙ c.program-program.ensures) c.program.invariant)
+    c.code_is_kept.ensures

@@ -7,4 +7,5 @@ returns-in-Agreed-clause-how c =
     let book = c.in-Agreed.book in
     let report = c.in-Agreed.report in
     let closes = rw c.in-Agreed.is at c.requires in
-    rw c.in-Agreed.is (made_shared c.args.program.now c.args.budget book report closes c.shared.result c.shared.ensures.how)
+    rw c.in-Agreed.is (made_shared c.args.program.now c.args.budget book report closes
+    c.shared.result c.shared.ensures.how)

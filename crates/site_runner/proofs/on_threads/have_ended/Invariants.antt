@@ -7,4 +7,6 @@ use Rattle.site_runner.specs.Free.{HasEnded}
 use Rattle.site_runner.proofs.on_threads.have_ended.Given as goal
 
 abbrev pub invariant-loop-pass : goal.invariant-loop-pass
-invariant-loop-pass g l = Each (λ (p : PassKept). HasEnded l.sites (row_of p)) (drop l.pass-index l.pass-items) → Each (λ (p : PassKept). HasEnded l.sites (row_of p)) l.pass-items
+invariant-loop-pass g l =
+    Each (λ (p : PassKept). HasEnded l.sites (row_of p)) (drop l.pass-index l.pass-items)
+    → Each (λ (p : PassKept). HasEnded l.sites (row_of p)) l.pass-items

@@ -6,6 +6,7 @@ use Rattle.site_runner.proofs.on_threads.lone.Goals as goal
 pub returns-in-Ok-clause-how : goal.returns-in-Ok-clause-how
 returns-in-Ok-clause-how c = (
   refl,
-  has_cause c.args.program.now c.args.report c.requires.some c.differs-cause.ensures.cause c.requires.started,
+  has_cause c.args.program.now c.args.report c.requires.some c.differs-cause.ensures.cause
+      c.requires.started,
   c.in-Ok.ensures.whole,
 )

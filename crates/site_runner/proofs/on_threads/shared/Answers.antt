@@ -14,8 +14,10 @@ pub returns-in-Ok-clause-how : goal.returns-in-Ok-clause-how
 returns-in-Ok-clause-how c =
     let report : Reported = c.args.report in
     let run = c.in-Ok.ensures.run in
-    let many : c.len-events.result ≡ length c.args.book.journal = c.len-events.ensures.count ∙ ap length c.journal.ensures in (
+    let many : c.len-events.result ≡ length c.args.book.journal =
+    c.len-events.ensures.count ∙ ap length c.journal.ensures in (
       ap (λ (d : Option Differs). record { workers = report.workers; differs = d }) c.requires.none,
-      are_first c.args.book.program c.args.budget report.workers c.args.book c.in-Ok.book.journal c.len-events.result run.added c.requires.agreed many run.journal,
+      are_first c.args.book.program c.args.budget report.workers c.args.book c.in-Ok.book.journal
+          c.len-events.result run.added c.requires.agreed many run.journal,
       goes_on_alone c.args.book c.in-Ok.book c.args.budget c.len-events.result many run,
     )

@@ -18,7 +18,9 @@ returns-clause-same g c =
 -- what is said of the passes that are lent whole, said of those that came back
 ended_of_all : (all : List PassKept) (sites counted : ℕ) → counted ≡ sites
     → Each (λ p. HasEnded counted (row_of p)) all → Each (λ p. HasEnded sites (row_of p)) all
-ended_of_all all sites counted is ended = subst (λ (n : ℕ). Each (λ p. HasEnded n (row_of p)) all) is ended
+ended_of_all all sites counted is ended =
+    subst (λ (n : ℕ). Each (λ p. HasEnded n (row_of p)) all) is ended
 
 pub returns-clause-ended : goal.returns-clause-ended
-returns-clause-ended g c = λ yes. ended_of_all _ c.args.net.now.sites c.sites.result c.sites.ensures.count (c.have_ended.ensures yes)
+returns-clause-ended g c = λ yes. ended_of_all _
+    c.args.net.now.sites c.sites.result c.sites.ensures.count (c.have_ended.ensures yes)

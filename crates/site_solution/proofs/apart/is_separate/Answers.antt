@@ -12,18 +12,27 @@ pub returns-then-not-are_separate : goal.returns-then-not-are_separate
 returns-then-not-are_separate c =
     let gs = told_of c.args.groups.now.groups in
     let at = told-at c.args.groups.now.groups c.loop-group.group _ c.told.ensures in
-    let not : are_separate c.args.told.now c.told.result.now ≡ false = sym c.are_separate.ensures ∙ c.if-not-are_separate.true in
-    sym (sym c.loop-group.invariant ∙ all-more (are_separate c.args.told.now) gs c.loop-group.group c.told.result.now at ∙ ap (λ b. b && list_all (are_separate c.args.told.now) (drop (c.loop-group.group + 1) gs)) not)
+    let not : are_separate c.args.told.now c.told.result.now ≡ false =
+    sym c.are_separate.ensures ∙ c.if-not-are_separate.true in
+    sym (sym c.loop-group.invariant
+    ∙ all-more (are_separate c.args.told.now) gs c.loop-group.group c.told.result.now at
+    ∙ ap (λ b. b && list_all (are_separate c.args.told.now) (drop (c.loop-group.group + 1) gs)) not)
 
 pub loop-group-preserved : goal.loop-group-preserved
 loop-group-preserved c =
     let gs = told_of c.args.groups.now.groups in
     let at = told-at c.args.groups.now.groups c.loop-group.group _ c.told.ensures in
-    let so : are_separate c.args.told.now c.told.result.now ≡ true = sym c.are_separate.ensures ∙ c.if-not-are_separate.false in
-    sym (all-more (are_separate c.args.told.now) gs c.loop-group.group c.told.result.now at ∙ ap (λ b. b && list_all (are_separate c.args.told.now) (drop (c.loop-group.group + 1) gs)) so) ∙ c.loop-group.invariant
+    let so : are_separate c.args.told.now c.told.result.now ≡ true =
+    sym c.are_separate.ensures ∙ c.if-not-are_separate.false in
+    sym (all-more (are_separate c.args.told.now) gs c.loop-group.group c.told.result.now at
+    ∙ ap (λ b. b && list_all (are_separate c.args.told.now) (drop (c.loop-group.group + 1) gs)) so)
+    ∙ c.loop-group.invariant
 
 pub returns : goal.returns
 returns c =
     let gs = told_of c.args.groups.now.groups in
-    let past : length gs ≤ c.loop-group.group = omega (arith, told-many c.args.groups.now.groups, c.loop-group-test.false, c.len-group-end.ensures) in
-    sym (sym c.loop-group.invariant ∙ ap (list_all (are_separate c.args.told.now)) (drop-past gs c.loop-group.group past))
+    let past : length gs ≤ c.loop-group.group =
+    omega
+    (arith, told-many c.args.groups.now.groups, c.loop-group-test.false, c.len-group-end.ensures) in
+    sym (sym c.loop-group.invariant
+    ∙ ap (list_all (are_separate c.args.told.now)) (drop-past gs c.loop-group.group past))

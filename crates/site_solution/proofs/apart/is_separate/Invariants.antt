@@ -5,4 +5,5 @@ use Rattle.site_solution.specs.inside.Index.{told_of}
 use Rattle.site_solution.proofs.apart.is_separate.Given as goal
 
 abbrev pub invariant-loop-group : goal.invariant-loop-group
-invariant-loop-group l = list_all (are_separate l.told) (drop l.group (told_of l.groups.groups)) ≡ list_all (are_separate l.told) (told_of l.groups.groups)
+invariant-loop-group l = list_all (are_separate l.told) (drop l.group (told_of l.groups.groups))
+    ≡ list_all (are_separate l.told) (told_of l.groups.groups)

@@ -5,4 +5,6 @@ use Rattle.queue_cells.specs.Grouped.{lists_at}
 use Rattle.site_solution.proofs.apart.queues_are_apart.Given as goal
 
 abbrev pub invariant-loop-chan : goal.invariant-loop-chan
-invariant-loop-chan l = list_all (list_all (message_apart l.site l.but)) (drop l.chan (lists_at l.from.groups l.group)) ≡ list_all (list_all (message_apart l.site l.but)) (lists_at l.from.groups l.group)
+invariant-loop-chan l =
+    list_all (list_all (message_apart l.site l.but)) (drop l.chan (lists_at l.from.groups l.group))
+    ≡ list_all (list_all (message_apart l.site l.but)) (lists_at l.from.groups l.group)

@@ -4,4 +4,5 @@ use Rattle.site_solution.specs.inside.Covered.{IsCovering}
 use Rattle.site_solution.proofs.covering.learn.Given as goal
 
 abbrev pub invariant-loop-group : goal.invariant-loop-group
-invariant-loop-group l = (ss : List ℕ) (gs : List Group) → IsCovering l.fn.covering ss gs → IsCovering l.covering ss gs
+invariant-loop-group l =
+    (ss : List ℕ) (gs : List Group) → IsCovering l.fn.covering ss gs → IsCovering l.covering ss gs

@@ -15,7 +15,9 @@ pub returns-then-covering : goal.returns-then-covering
 returns-then-covering c = λ e. absurd (not-both c.args.covering.now.lost c.if-covering.true e)
 
 pub returns-then-group-len : goal.returns-then-group-len
-returns-then-group-len c = λ e. all-but c.args.covering.now.levels.items c.args.covering.now.keys c.args.spots.now.serials.items (groups_of c.args.groups.now.groups) c.args.group (omega (arith, groups-many c.args.groups.now.groups, c.len.ensures)) (c.requires.others e)
+returns-then-group-len c = λ e. all-but c.args.covering.now.levels.items c.args.covering.now.keys
+    c.args.spots.now.serials.items (groups_of c.args.groups.now.groups) c.args.group
+    (omega (arith, groups-many c.args.groups.now.groups, c.len.ensures)) (c.requires.others e)
 
 pub returns-then-not-renote : goal.returns-then-not-renote
 returns-then-not-renote c = λ e. absurd (not-both c.give_up.new.covering.lost c.give_up.ensures e)
@@ -24,6 +26,13 @@ pub returns-else-not-renote : goal.returns-else-not-renote
 returns-else-not-renote c = λ e.
     let gs = groups_of c.args.groups.now.groups in
     let ss = c.args.spots.now.serials.items in
-    let read : slice_get ss c.args.group ≡ Some c.index-serial.result.now = slice_get_read ss (length ss) c.args.group c.index-serial.result.now refl (omega (arith, c.requires.serials.many, c.len.ensures)) c.index-serial.ensures in
-    let done : (g : Group) → slice_get gs c.args.group ≡ Some g → IsIndexed c.args.covering.now.levels.items c.renote.new.keys c.index-serial.result.now g = λ g here. subst (λ (ls : Levels). IsIndexed ls c.renote.new.keys c.index-serial.result.now g) c.deref.ensures.value (c.if-not-renote.ensures.indexed refl g here) in
-    refreshed c.args.covering.now.levels.items c.args.covering.now.keys c.renote.new.keys ss c.args.spots.now.next gs c.args.group c.index-serial.result.now c.requires.serials.rise read (c.requires.others e) c.renote.ensures.others done
+    let read : slice_get ss c.args.group ≡ Some c.index-serial.result.now =
+    slice_get_read ss (length ss) c.args.group c.index-serial.result.now refl
+    (omega (arith, c.requires.serials.many, c.len.ensures)) c.index-serial.ensures in
+    let done : (g : Group) → slice_get gs c.args.group ≡ Some g
+    → IsIndexed c.args.covering.now.levels.items c.renote.new.keys c.index-serial.result.now g =
+    λ g here. subst (λ (ls : Levels). IsIndexed ls c.renote.new.keys c.index-serial.result.now g)
+    c.deref.ensures.value (c.if-not-renote.ensures.indexed refl g here) in
+    refreshed c.args.covering.now.levels.items c.args.covering.now.keys c.renote.new.keys ss
+    c.args.spots.now.next gs c.args.group c.index-serial.result.now c.requires.serials.rise read
+    (c.requires.others e) c.renote.ensures.others done

@@ -6,7 +6,9 @@ use Rattle.site_solution.proofs.forgetting.close_up.Given as goal
 
 abbrev pub invariant-loop-group : goal.invariant-loop-group
 invariant-loop-group l = record {
-  done : closing l.loc l.serials.items l.groups.groups l.kept l.group ≡ serials_but l.loc l.fn.serials.items (told_of l.groups.groups);
+  done :
+      closing l.loc l.serials.items l.groups.groups l.kept l.group
+      ≡ serials_but l.loc l.fn.serials.items (told_of l.groups.groups);
   behind : l.kept ≤ l.group;
   many : length l.serials.items ≡ length l.groups.groups;
 }

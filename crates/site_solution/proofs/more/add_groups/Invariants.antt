@@ -10,14 +10,20 @@ use Rattle.site_solution.proofs.more.add_groups.Given as goal
 
 abbrev pub invariant-loop-group : goal.invariant-loop-group
 invariant-loop-group l = record {
-  done : groups_of l.groups.groups ++ new_groups (told_of_new (into_iter_items l.group-iterator)) ≡ groups_of l.fn.groups.groups ++ new_groups (told_of_new l.fn.more.items);
-  many : length l.groups.groups + length (into_iter_items l.group-iterator) ≡ length l.fn.groups.groups + length l.fn.more.items;
+  done :
+      groups_of l.groups.groups ++ new_groups (told_of_new (into_iter_items l.group-iterator))
+      ≡ groups_of l.fn.groups.groups ++ new_groups (told_of_new l.fn.more.items);
+  many :
+      length l.groups.groups + length (into_iter_items l.group-iterator)
+      ≡ length l.fn.groups.groups + length l.fn.more.items;
   spare : l.groups.spare ≡ l.fn.groups.spare;
   index : IsIndex l.spots (groups_of l.groups.groups);
   new : Each IsNewGroup (into_iter_items l.group-iterator);
   numbers : Each HasNumbers (told_of_new (into_iter_items l.group-iterator));
   apart : AreApart (told_of l.groups.groups ++ told_of_new (into_iter_items l.group-iterator));
   room : length (into_iter_items l.group-iterator) ≤ l.groups.spare_groups;
-  fits : HasRoom l.spots (length (into_iter_items l.group-iterator)) (widths (into_iter_items l.group-iterator));
+  fits :
+      HasRoom l.spots (length (into_iter_items l.group-iterator))
+      (widths (into_iter_items l.group-iterator));
   covering : IsCovering l.covering l.spots.serials.items (groups_of l.groups.groups);
 }

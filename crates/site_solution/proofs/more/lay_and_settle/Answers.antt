@@ -10,14 +10,18 @@ pub settle-requires-clause-fits : goal.settle-requires-clause-fits
 settle-requires-clause-fits c = omega (arith, c.requires.left)
 
 pub settle-requires-2-clause-room : goal.settle-requires-2-clause-room
-settle-requires-2-clause-room c = omega (arith, c.requires.room, c.add_groups.ensures.spare, c.settle.ensures.spare)
+settle-requires-2-clause-room c =
+    omega (arith, c.requires.room, c.add_groups.ensures.spare, c.settle.ensures.spare)
 
 pub settle-requires-2-clause-fits : goal.settle-requires-2-clause-fits
-settle-requires-2-clause-fits c = omega (arith, c.requires.left, c.settle.ensures.capacity, c.settle.ensures.stuck)
+settle-requires-2-clause-fits c =
+    omega (arith, c.requires.left, c.settle.ensures.capacity, c.settle.ensures.stuck)
 
 pub returns-clause-site : goal.returns-clause-site
 returns-clause-site c = λ s.
-    ap (λ (gs : List Group). put_all c.args.more.waiting.items (put_all c.args.again.items (record s { groups = gs; stuck = c.args.stuck.now.items }))) (sym c.add_groups.ensures.groups)
+    ap (λ (gs : List Group). put_all c.args.more.waiting.items
+    (put_all c.args.again.items (record s { groups = gs; stuck = c.args.stuck.now.items })))
+    (sym c.add_groups.ensures.groups)
     ∙ ap (put_all c.args.more.waiting.items) (c.settle.ensures.site s)
     ∙ c.settle-2.ensures.site s
 

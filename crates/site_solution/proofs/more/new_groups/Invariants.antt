@@ -7,6 +7,8 @@ use Rattle.site_solution.proofs.more.new_groups.Given as goal
 
 abbrev pub invariant-loop-inst : goal.invariant-loop-inst
 invariant-loop-inst l = record {
-  told : told_of_new l.groups.items ++ all_told (told_by l.code) (drop l.inst-index l.insts) ≡ all_told (told_by l.code) l.insts;
+  told :
+      told_of_new l.groups.items ++ all_told (told_by l.code) (drop l.inst-index l.insts)
+      ≡ all_told (told_by l.code) l.insts;
   are : Each IsNewGroup l.groups.items;
 }

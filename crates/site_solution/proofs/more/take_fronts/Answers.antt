@@ -12,7 +12,12 @@ pub loop-chan-preserved : goal.loop-chan-preserved
 loop-chan-preserved c =
     let here = drop-here c.args.chans.now c.loop-chan.chan-index 0 c.loop-chan-test.true in
     record {
-      done = ap (gone_at c.args.group (drop (c.loop-chan.chan-index + 1) c.args.chans.now)) c.take_one.ensures.groups ∙ sym (gone-more (groups_of c.loop-chan.groups.groups) c.args.group _ (drop (c.loop-chan.chan-index + 1) c.args.chans.now)) ∙ ap (λ cs. gone_at c.args.group cs (groups_of c.loop-chan.groups.groups)) (sym here) ∙ c.loop-chan.invariant.done;
+      done = ap (gone_at c.args.group (drop (c.loop-chan.chan-index + 1) c.args.chans.now))
+          c.take_one.ensures.groups
+          ∙ sym (gone-more (groups_of c.loop-chan.groups.groups) c.args.group _
+          (drop (c.loop-chan.chan-index + 1) c.args.chans.now))
+          ∙ ap (λ cs. gone_at c.args.group cs (groups_of c.loop-chan.groups.groups)) (sym here)
+          ∙ c.loop-chan.invariant.done;
       many = c.take_one.ensures.many ∙ c.loop-chan.invariant.many;
       spare = omega (arith, c.take_one.ensures.spare, c.loop-chan.invariant.spare);
       spare_groups = c.take_one.ensures.spare_groups ∙ c.loop-chan.invariant.spare_groups;
@@ -20,19 +25,30 @@ loop-chan-preserved c =
 
 pub returns-then-is_empty-clause-groups : goal.returns-then-is_empty-clause-groups
 returns-then-is_empty-clause-groups c =
-    let none : c.args.chans.now ≡ [] = drop-past c.args.chans.now 0 (omega (arith, eqb-true (length c.args.chans.now) 0 (sym c.if-is_empty.ensures))) in
-    sym (ap (λ cs. gone_at c.args.group cs (groups_of c.args.groups.now.groups)) none ∙ gone-nothing (groups_of c.args.groups.now.groups) c.args.group)
+    let none : c.args.chans.now ≡ [] =
+    drop-past c.args.chans.now 0
+    (omega (arith, eqb-true (length c.args.chans.now) 0 (sym c.if-is_empty.ensures))) in
+    sym (ap (λ cs. gone_at c.args.group cs (groups_of c.args.groups.now.groups)) none
+    ∙ gone-nothing (groups_of c.args.groups.now.groups) c.args.group)
 
 pub refresh-requires-clause-serials : goal.refresh-requires-clause-serials
-refresh-requires-clause-serials c = subst (λ (n : ℕ). HasSerials c.args.spots.now n) (sym c.loop-chan.invariant.many) c.requires.serials
+refresh-requires-clause-serials c = subst (λ (n : ℕ). HasSerials c.args.spots.now n)
+    (sym c.loop-chan.invariant.many) c.requires.serials
 
 pub refresh-requires-clause-others : goal.refresh-requires-clause-others
 refresh-requires-clause-others c =
-    let past : drop c.loop-chan.chan-index c.args.chans.now ≡ [] = drop-past c.args.chans.now c.loop-chan.chan-index (omega (arith, c.loop-chan-test.false)) in
-    let is = sym (ap (λ cs. gone_at c.args.group cs (groups_of c.loop-chan.groups.groups)) past ∙ gone-nothing (groups_of c.loop-chan.groups.groups) c.args.group) ∙ c.loop-chan.invariant.done in
-    fronts-covering c.args.covering.now c.args.spots.now.serials.items (groups_of c.args.groups.now.groups) (groups_of c.loop-chan.groups.groups) c.args.group c.args.chans.now is c.requires.covering
+    let past : drop c.loop-chan.chan-index c.args.chans.now ≡ [] =
+    drop-past c.args.chans.now c.loop-chan.chan-index (omega (arith, c.loop-chan-test.false)) in
+    let is = sym (ap (λ cs. gone_at c.args.group cs (groups_of c.loop-chan.groups.groups)) past
+    ∙ gone-nothing (groups_of c.loop-chan.groups.groups) c.args.group)
+    ∙ c.loop-chan.invariant.done in
+    fronts-covering c.args.covering.now c.args.spots.now.serials.items
+    (groups_of c.args.groups.now.groups) (groups_of c.loop-chan.groups.groups)
+    c.args.group c.args.chans.now is c.requires.covering
 
 pub returns-clause-groups : goal.returns-clause-groups
 returns-clause-groups c =
-    let past : drop c.loop-chan.chan-index c.args.chans.now ≡ [] = drop-past c.args.chans.now c.loop-chan.chan-index (omega (arith, c.loop-chan-test.false)) in
-    sym (ap (λ cs. gone_at c.args.group cs (groups_of c.loop-chan.groups.groups)) past ∙ gone-nothing (groups_of c.loop-chan.groups.groups) c.args.group) ∙ c.loop-chan.invariant.done
+    let past : drop c.loop-chan.chan-index c.args.chans.now ≡ [] =
+    drop-past c.args.chans.now c.loop-chan.chan-index (omega (arith, c.loop-chan-test.false)) in
+    sym (ap (λ cs. gone_at c.args.group cs (groups_of c.loop-chan.groups.groups)) past
+    ∙ gone-nothing (groups_of c.loop-chan.groups.groups) c.args.group) ∙ c.loop-chan.invariant.done

@@ -5,7 +5,9 @@ use Rattle.site_solution.proofs.more.take_fronts.Given as goal
 
 abbrev pub invariant-loop-chan : goal.invariant-loop-chan
 invariant-loop-chan l = record {
-  done : gone_at l.group (drop l.chan-index l.chans) (groups_of l.groups.groups) ≡ gone_at l.group l.chans (groups_of l.fn.groups.groups);
+  done :
+      gone_at l.group (drop l.chan-index l.chans) (groups_of l.groups.groups)
+      ≡ gone_at l.group l.chans (groups_of l.fn.groups.groups);
   many : length l.groups.groups ≡ length l.fn.groups.groups;
   spare : l.fn.groups.spare ≤ l.groups.spare;
   spare_groups : l.groups.spare_groups ≡ l.fn.groups.spare_groups;

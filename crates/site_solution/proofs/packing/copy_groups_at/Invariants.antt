@@ -8,6 +8,8 @@ use Rattle.site_solution.proofs.packing.copy_groups_at.Given as goal
 
 abbrev pub invariant-loop-group : goal.invariant-loop-group
 invariant-loop-group l = record {
-  is : l.members ++ insts_in (told_in (groups_at l.loc (drop l.group (groups_of l.groups.groups)))) ≡ insts_in (told_in (groups_at l.loc (groups_of l.groups.groups)));
+  is :
+      l.members ++ insts_in (told_in (groups_at l.loc (drop l.group (groups_of l.groups.groups))))
+      ≡ insts_in (told_in (groups_at l.loc (groups_of l.groups.groups)));
   names : Each HasFewNames l.members;
 }

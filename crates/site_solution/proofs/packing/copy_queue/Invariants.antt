@@ -4,4 +4,5 @@ use Rattle.net_laws.specs.Parcels.{in_queue}
 use Rattle.site_solution.proofs.packing.copy_queue.Given as goal
 
 abbrev pub invariant-loop-msg : goal.invariant-loop-msg
-invariant-loop-msg l = l.list ++ in_queue l.loc l.msg-iterator ≡ l.fn.list ++ in_queue l.loc (queue_in l.groups.groups l.group l.chan)
+invariant-loop-msg l = l.list ++ in_queue l.loc l.msg-iterator
+    ≡ l.fn.list ++ in_queue l.loc (queue_in l.groups.groups l.group l.chan)

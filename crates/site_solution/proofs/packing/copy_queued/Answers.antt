@@ -7,7 +7,8 @@ use Rattle.site_solution.specs.inside.Index.{groups_of}
 use Rattle.site_solution.proofs.Queueing.{group-at, groups-many}
 use Rattle.site_solution.proofs.Walked.{drop-past}
 use Rattle.site_solution.proofs.Copied.{ended, queued-in, queued-out}
-use Rattle.site_solution.proofs.packing.copy_queued.Goals.{then-same_loc+in_ok-copy_queues, else-same_loc}
+use Rattle.site_solution.proofs.packing.copy_queued.Goals.{then-same_loc+in_ok-copy_queues}
+use Rattle.site_solution.proofs.packing.copy_queued.Goals.{else-same_loc}
 use Rattle.site_solution.proofs.packing.copy_queued.Goals as goal
 
 pub loop-group-preserved : goal.loop-group-preserved
@@ -15,14 +16,27 @@ loop-group-preserved c =
     let gs = groups_of c.args.groups.now.groups in
     let at = group-at c.args.groups.now.groups c.loop-group.group _ c.told.ensures in
     let done = c.args.list.now ++ in_all_queues (groups_at c.args.loc gs) in
-    let place = ap (λ (d : Told). same_loc c.args.loc d.inst.loc) (sym c.behind-groups.view_is) ∙ ap (λ (d : Inside). same_loc c.args.loc d.inst.loc) (sym c.told-in-loop-group.view_is) ∙ sym c.same_loc.ensures in
+    let place = ap (λ (d : Told). same_loc c.args.loc d.inst.loc) (sym c.behind-groups.view_is)
+    ∙ ap (λ (d : Inside). same_loc c.args.loc d.inst.loc) (sym c.told-in-loop-group.view_is)
+    ∙ sym c.same_loc.ensures in
     elim c.if-same_loc.branch [
-      | then-same_loc+in_ok-copy_queues w ↦ rw w.list-is (queued-in c.args.loc gs c.loop-group.group _ c.loop-group.list w.copy_queues.new.list done at (place ∙ w.if-same_loc.true) w.in_ok-copy_queues.ensures c.loop-group.invariant)
-      | else-same_loc w ↦ rw w.list-is (queued-out c.args.loc gs c.loop-group.group _ c.loop-group.list done at (place ∙ w.if-same_loc.false) c.loop-group.invariant)
+      | then-same_loc+in_ok-copy_queues w ↦ rw w.list-is
+          (queued-in c.args.loc gs c.loop-group.group _ c.loop-group.list w.copy_queues.new.list
+          done at (place ∙ w.if-same_loc.true) w.in_ok-copy_queues.ensures c.loop-group.invariant)
+      | else-same_loc w ↦ rw w.list-is (queued-out c.args.loc gs c.loop-group.group _
+          c.loop-group.list done at (place ∙ w.if-same_loc.false) c.loop-group.invariant)
     ]
 
 pub returns : goal.returns
 returns c =
     let gs = groups_of c.args.groups.now.groups in
-    let past : length gs ≤ c.loop-group.group = omega (arith, groups-many c.args.groups.now.groups, c.loop-group-test.false, c.len-group-end.ensures) in
-    ended c.loop-group.list (in_all_queues (groups_at c.args.loc (drop c.loop-group.group gs))) (c.args.list.now ++ in_all_queues (groups_at c.args.loc gs)) (ap (λ xs. in_all_queues (groups_at c.args.loc xs)) (drop-past gs c.loop-group.group past)) c.loop-group.invariant
+    let past : length gs ≤ c.loop-group.group = omega (
+      arith,
+      groups-many c.args.groups.now.groups,
+      c.loop-group-test.false,
+      c.len-group-end.ensures,
+    ) in
+    ended c.loop-group.list (in_all_queues (groups_at c.args.loc (drop c.loop-group.group gs)))
+    (c.args.list.now ++ in_all_queues (groups_at c.args.loc gs))
+    (ap (λ xs. in_all_queues (groups_at c.args.loc xs)) (drop-past gs c.loop-group.group past))
+    c.loop-group.invariant

@@ -8,5 +8,8 @@ use Rattle.site_solution.proofs.site.drop_stuck.Goals as goal
 
 pub returns : goal.returns
 returns c =
-    let left : c.retain.new.self.items ≡ filter (λ (w : Waiting). not (same_loc c.args.loc w.loc)) c.args.stuck.now.items = filter_same _ (λ (w : Waiting). not (same_loc c.args.loc w.loc)) _ (λ x b f' k. search rules) _ _ c.retain.ensures.filtered in
+    let left : c.retain.new.self.items
+    ≡ filter (λ (w : Waiting). not (same_loc c.args.loc w.loc)) c.args.stuck.now.items =
+    filter_same _ (λ (w : Waiting). not (same_loc c.args.loc w.loc)) _ (λ x b f' k. search rules) _
+    _ c.retain.ensures.filtered in
     left ∙ stuck-kept c.args.loc c.args.stuck.now.items

@@ -11,13 +11,17 @@ pub returns-clause-kept : goal.returns-clause-kept
 returns-clause-kept c = subst IsKept c.site.view_is c.site.invariant.kept
 
 pub returns-clause-numbers : goal.returns-clause-numbers
-returns-clause-numbers c = subst (λ (s : Site). Each HasNumbers (told_in s.groups)) c.site.view_is c.site.invariant.numbers
+returns-clause-numbers c =
+    subst (λ (s : Site). Each HasNumbers (told_in s.groups)) c.site.view_is c.site.invariant.numbers
 
 pub returns-clause-once : goal.returns-clause-once
-returns-clause-once c = subst (λ (s : Site). (i : AtomId) → times i s ≤ 1) c.site.view_is c.site.invariant.once
+returns-clause-once c =
+    subst (λ (s : Site). (i : AtomId) → times i s ≤ 1) c.site.view_is c.site.invariant.once
 
 pub returns-clause-few_waiting : goal.returns-clause-few_waiting
-returns-clause-few_waiting c = subst (λ (s : Site). waiting_in s < 2 ^ 32) c.site.view_is c.site.invariant.few_waiting
+returns-clause-few_waiting c =
+    subst (λ (s : Site). waiting_in s < 2 ^ 32) c.site.view_is c.site.invariant.few_waiting
 
 pub returns-clause-few_locs : goal.returns-clause-few_locs
-returns-clause-few_locs c = subst (λ (s : Site). length s.locs < 2 ^ 32) c.site.view_is c.are_few.ensures
+returns-clause-few_locs c =
+    subst (λ (s : Site). length s.locs < 2 ^ 32) c.site.view_is c.are_few.ensures

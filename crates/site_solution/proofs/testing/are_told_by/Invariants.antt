@@ -5,4 +5,5 @@ use Rattle.site_solution.specs.inside.Index.{told_of}
 use Rattle.site_solution.proofs.testing.are_told_by.Given as goal
 
 abbrev pub invariant-loop-group : goal.invariant-loop-group
-invariant-loop-group l = list_all (is_told_by l.code) (drop l.group (told_of l.groups.groups)) ≡ list_all (is_told_by l.code) (told_of l.groups.groups)
+invariant-loop-group l = list_all (is_told_by l.code) (drop l.group (told_of l.groups.groups))
+    ≡ list_all (is_told_by l.code) (told_of l.groups.groups)

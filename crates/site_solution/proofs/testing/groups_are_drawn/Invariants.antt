@@ -5,4 +5,6 @@ use Rattle.site_solution.specs.inside.Index.{groups_of}
 use Rattle.site_solution.proofs.testing.groups_are_drawn.Given as goal
 
 abbrev pub invariant-loop-group : goal.invariant-loop-group
-invariant-loop-group l = list_all (group_drawn l.count.number l.count.made) (drop l.group (groups_of l.groups.groups)) ≡ list_all (group_drawn l.count.number l.count.made) (groups_of l.groups.groups)
+invariant-loop-group l =
+    list_all (group_drawn l.count.number l.count.made) (drop l.group (groups_of l.groups.groups))
+    ≡ list_all (group_drawn l.count.number l.count.made) (groups_of l.groups.groups)

@@ -6,4 +6,6 @@ use Rattle.chem_model.specs.declared.name.Loc.{Loc}
 use Rattle.site_solution.proofs.testing.locs_are_drawn.Given as goal
 
 abbrev pub invariant-loop-pair : goal.invariant-loop-pair
-invariant-loop-pair l = list_all (λ (x : Loc). is_drawn l.count.number l.count.made x.site x.k) (locs_of (drop l.pair-index l.pairs)) ≡ list_all (λ (x : Loc). is_drawn l.count.number l.count.made x.site x.k) (locs_of l.pairs)
+invariant-loop-pair l = list_all (λ (x : Loc). is_drawn l.count.number l.count.made x.site x.k)
+    (locs_of (drop l.pair-index l.pairs))
+    ≡ list_all (λ (x : Loc). is_drawn l.count.number l.count.made x.site x.k) (locs_of l.pairs)

@@ -4,4 +4,5 @@ use Rattle.site_solution.specs.Draws.{message_drawn}
 use Rattle.site_solution.proofs.testing.queue_is_drawn.Given as goal
 
 abbrev pub invariant-loop-msg : goal.invariant-loop-msg
-invariant-loop-msg l = list_all (message_drawn l.count.number l.count.made) l.msg-iterator ≡ list_all (message_drawn l.count.number l.count.made) l.fn.queue
+invariant-loop-msg l = list_all (message_drawn l.count.number l.count.made) l.msg-iterator
+    ≡ list_all (message_drawn l.count.number l.count.made) l.fn.queue

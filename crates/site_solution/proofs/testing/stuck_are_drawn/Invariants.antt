@@ -5,4 +5,7 @@ use Rattle.wire_packet.specs.declared.packet.Waiting.{Waiting}
 use Rattle.site_solution.proofs.testing.stuck_are_drawn.Given as goal
 
 abbrev pub invariant-loop-waiting : goal.invariant-loop-waiting
-invariant-loop-waiting l = list_all (λ (w : Waiting). message_drawn l.count.number l.count.made w.msg) (drop l.waiting-index l.stuck) ≡ list_all (λ (w : Waiting). message_drawn l.count.number l.count.made w.msg) l.stuck
+invariant-loop-waiting l =
+    list_all (λ (w : Waiting). message_drawn l.count.number l.count.made w.msg)
+    (drop l.waiting-index l.stuck)
+    ≡ list_all (λ (w : Waiting). message_drawn l.count.number l.count.made w.msg) l.stuck

@@ -5,4 +5,5 @@ use Rattle.site_solution.specs.inside.Index.{groups_of}
 use Rattle.site_solution.proofs.walking.groups_are_there.Given as goal
 
 abbrev pub invariant-loop-group : goal.invariant-loop-group
-invariant-loop-group l = list_all (group_stands l.tree) (drop l.group (groups_of l.groups.groups)) ≡ list_all (group_stands l.tree) (groups_of l.groups.groups)
+invariant-loop-group l = list_all (group_stands l.tree) (drop l.group (groups_of l.groups.groups))
+    ≡ list_all (group_stands l.tree) (groups_of l.groups.groups)

@@ -4,4 +4,5 @@ use Rattle.site_solution.specs.Held.{is_id_of}
 use Rattle.site_solution.proofs.walking.in_queue.Given as goal
 
 abbrev pub invariant-loop-msg : goal.invariant-loop-msg
-invariant-loop-msg l = list_any (is_id_of l.atom) l.msg-iterator ≡ list_any (is_id_of l.atom) l.fn.queue
+invariant-loop-msg l =
+    list_any (is_id_of l.atom) l.msg-iterator ≡ list_any (is_id_of l.atom) l.fn.queue

@@ -4,4 +4,5 @@ use Rattle.site_solution.specs.InTree.{message_stands}
 use Rattle.site_solution.proofs.walking.queue_is_there.Given as goal
 
 abbrev pub invariant-loop-msg : goal.invariant-loop-msg
-invariant-loop-msg l = list_all (message_stands l.tree) l.msg-iterator ≡ list_all (message_stands l.tree) l.fn.queue
+invariant-loop-msg l =
+    list_all (message_stands l.tree) l.msg-iterator ≡ list_all (message_stands l.tree) l.fn.queue

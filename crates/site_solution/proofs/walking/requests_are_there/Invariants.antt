@@ -4,4 +4,5 @@ use Rattle.site_solution.specs.inside.InTree.{request_stands}
 use Rattle.site_solution.proofs.walking.requests_are_there.Given as goal
 
 abbrev pub invariant-loop-request : goal.invariant-loop-request
-invariant-loop-request l = list_all (request_stands l.tree) (drop l.request-index l.requests) ≡ list_all (request_stands l.tree) l.requests
+invariant-loop-request l = list_all (request_stands l.tree) (drop l.request-index l.requests)
+    ≡ list_all (request_stands l.tree) l.requests

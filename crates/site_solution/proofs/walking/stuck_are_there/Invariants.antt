@@ -5,4 +5,6 @@ use Rattle.wire_packet.specs.declared.packet.Waiting.{Waiting}
 use Rattle.site_solution.proofs.walking.stuck_are_there.Given as goal
 
 abbrev pub invariant-loop-waiting : goal.invariant-loop-waiting
-invariant-loop-waiting l = list_all (λ (w : Waiting). message_stands l.tree w.msg) (drop l.waiting-index l.stuck) ≡ list_all (λ (w : Waiting). message_stands l.tree w.msg) l.stuck
+invariant-loop-waiting l =
+    list_all (λ (w : Waiting). message_stands l.tree w.msg) (drop l.waiting-index l.stuck)
+    ≡ list_all (λ (w : Waiting). message_stands l.tree w.msg) l.stuck

@@ -10,5 +10,7 @@ returns c =
     let level_at : slice_get c.args.code.now.levels guard.level ≡ Some level = search rules in
     let one : length guard.chans ≡ 1 = search rules in
     let chan : slice_get guard.chans 0 ≡ Some c.in_ok-chan.field-0.now = search rules in
-    let count : slice_get level.counts c.in_ok-chan.field-0.now ≡ Some c.in_ok-count.count = search rules in
-    body_is c.args.code.now c.args.guard guard level c.in_ok-chan.field-0.now c.in_ok-count.count c.code_is_kept.ensures at level_at one chan count
+    let count : slice_get level.counts c.in_ok-chan.field-0.now ≡ Some c.in_ok-count.count =
+    search rules in
+    body_is c.args.code.now c.args.guard guard level
+    c.in_ok-chan.field-0.now c.in_ok-count.count c.code_is_kept.ensures at level_at one chan count

@@ -8,7 +8,9 @@ use Rattle.site_tests.proofs.by_hand.emit_at.Goals as goal
 pub emit-requires-clause-can : goal.emit-requires-clause-can
 emit-requires-clause-can g c =
     let there : is_in_tree c.args.tree.now c.args.site.now ≡ true = search rules in
-    let stands : name_stands c.args.tree.now c.args.on && names_stand c.args.tree.now c.args.args ≡ true = search rules in
+    let stands : name_stands c.args.tree.now c.args.on && names_stand c.args.tree.now c.args.args
+    ≡ true = search rules in
     let few : length c.args.args ≤ 255 = search rules in
     let plain : IsTrue c.is_plain.result = search rules in
-    can_emit c.args.tree.now c.args.site.now c.args.on c.args.args there c.draws.ensures stands few c.requires (c.is_plain.ensures.count plain (length c.args.args))
+    can_emit c.args.tree.now c.args.site.now c.args.on c.args.args there c.draws.ensures stands few
+    c.requires (c.is_plain.ensures.count plain (length c.args.args))

@@ -6,5 +6,7 @@ use Rattle.sort_check.proofs.walk.arguments.Given as goal
 
 abbrev pub invariant-loop-index : goal.invariant-loop-index
 invariant-loop-index l =
-    first_of (kept l.table).args l.least (pair_arguments (kept l.table) (drop l.index l.asked) (drop l.index l.args) (drop l.index l.names))
-    ≡ first_of (kept l.table).args l.initial.least (pair_arguments (kept l.table) l.asked l.args l.names)
+    first_of (kept l.table).args l.least (pair_arguments (kept l.table) (drop l.index l.asked)
+    (drop l.index l.args) (drop l.index l.names))
+    ≡ first_of (kept l.table).args l.initial.least
+    (pair_arguments (kept l.table) l.asked l.args l.names)

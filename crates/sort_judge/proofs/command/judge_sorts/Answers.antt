@@ -27,4 +27,6 @@ pub returns-clause-silent : goal.returns-clause-silent
 returns-clause-silent g c = ended.is_silent _ _ _ _ _ _ _ _ _ _ c.judge_source.ensures
 
 pub returns-clause-line : goal.returns-clause-line
-returns-clause-line g c = ended.line g.E.Sink.held g.E.Sink.faults c.args.err.now c.judge_source.new.err _ _ _ _ _ _ _ _ c.judge_source.ensures
+returns-clause-line g c =
+    ended.line g.E.Sink.held g.E.Sink.faults c.args.err.now c.judge_source.new.err _ _ _ _ _ _ _ _
+    c.judge_source.ensures

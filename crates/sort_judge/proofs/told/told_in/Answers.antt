@@ -5,12 +5,14 @@ use Rattle.sort_judge.proofs.told.told_in.Goals as goal
 
 pub returns-in_err-tree-clause-refusal : goal.returns-in_err-tree-clause-refusal
 returns-in_err-tree-clause-refusal c =
-    let named = by_tokens c.args.text.now c.in_ok-tokens.tokens c.in_err-tree.field-0.0 c.in_ok-tokens.ensures.tokens in
+    let named = by_tokens c.args.text.now c.in_ok-tokens.tokens c.in_err-tree.field-0.0
+    c.in_ok-tokens.ensures.tokens in
     search (rules, named)
 
 pub returns-in_err-program-clause-refusal : goal.returns-in_err-program-clause-refusal
 returns-in_err-program-clause-refusal c =
-    let named = by_tree c.args.text.now c.in_ok-tokens.tokens c.in_ok-tree.tree c.in_err-program.field-0.0 c.in_ok-tokens.ensures.tokens c.in_ok-tree.ensures.tree in
+    let named = by_tree c.args.text.now c.in_ok-tokens.tokens c.in_ok-tree.tree
+    c.in_err-program.field-0.0 c.in_ok-tokens.ensures.tokens c.in_ok-tree.ensures.tree in
     search (rules, named)
 
 pub returns-clause-told : goal.returns-clause-told

@@ -13,5 +13,7 @@ returns c =
     let x = c.index-tokens-0.result in
     let y = c.index-tokens-1.result in
     let z = c.index-tokens-2.result in
-    let same = three_rest ts x y z (omega (arith, c.if-tokens-lt3.false)) c.index-tokens-0.is c.index-tokens-1.is c.index-tokens-2.is in
-    if_ok (λ said. said ≡ three_in x.kind y.kind z.kind (kinds (take (length ts - 3) (drop 3 ts)))) (λ said. said ≡ content_in (kinds ts)) c.three.result (λ o e. e ∙ same) c.three.ensures
+    let same = three_rest ts x y z (omega (arith, c.if-tokens-lt3.false))
+    c.index-tokens-0.is c.index-tokens-1.is c.index-tokens-2.is in
+    if_ok (λ said. said ≡ three_in x.kind y.kind z.kind (kinds (take (length ts - 3) (drop 3 ts))))
+    (λ said. said ≡ content_in (kinds ts)) c.three.result (λ o e. e ∙ same) c.three.ensures

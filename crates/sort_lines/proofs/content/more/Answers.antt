@@ -11,5 +11,8 @@ loop-at-preserved c =
     let p : Some c.in-Some.name ≡ pair_in k.kind n.kind = search rules in
     record {
       within = omega (arith, c.loop-at-test.true, i.within);
-      leads = leads_on c.args.tokens.now c.args.names.now c.loop-at.names c.push.new.self c.loop-at.at k n c.in-Some.name (omega (arith, c.loop-at-test.true, i.within)) c.index-tokens-at.is c.index-tokens-at-in-loop-at.is p c.in_ok-push-in-Some.ensures.ok i.leads;
+      leads =
+          leads_on c.args.tokens.now c.args.names.now c.loop-at.names c.push.new.self c.loop-at.at k
+          n c.in-Some.name (omega (arith, c.loop-at-test.true, i.within)) c.index-tokens-at.is
+          c.index-tokens-at-in-loop-at.is p c.in_ok-push-in-Some.ensures.ok i.leads;
     }

@@ -8,7 +8,9 @@ pub returns-in-Ok : goal.returns-in-Ok
 returns-in-Ok c =
     let t = c.in-Ok.tokens in
     let made : IfOk c.content_of.result (λ o. o ≡ content_in (kinds t.list)) = search rules in
-    if_ok (λ o. o ≡ content_in (kinds t.list)) (IsSaid c.args.text.now) c.content_of.result (λ o e. said_of c.args.text.now t o c.in-Ok.ensures.tokens e) made
+    if_ok (λ o. o ≡ content_in (kinds t.list)) (IsSaid c.args.text.now)
+    c.content_of.result (λ o e. said_of c.args.text.now t o c.in-Ok.ensures.tokens e) made
 
 pub returns-in-Err-Refused : goal.returns-in-Err-Refused
-returns-in-Err-Refused c = nothing_said c.args.text.now _ c.requires (λ q. cc) c.in-Err-Refused.ensures.reads
+returns-in-Err-Refused c =
+    nothing_said c.args.text.now _ c.requires (λ q. cc) c.in-Err-Refused.ensures.reads

@@ -6,4 +6,5 @@ use Rattle.sort_lines.proofs.lines.sort_lines.Goals as goal
 pub returns-clause-short : goal.returns-clause-short
 returns-clause-short c =
     are_short c.args.bytes.now c.loop-place.lines.items c.requires
-    (all_told c.args.bytes.now c.loop-place.place (told c.loop-place.lines.items) c.loop-place-test.false c.loop-place.invariant.read)
+    (all_told c.args.bytes.now c.loop-place.place (told c.loop-place.lines.items)
+    c.loop-place-test.false c.loop-place.invariant.read)

@@ -4,4 +4,5 @@ use Rattle.trace_history.specs.inside.Causes.{Covers}
 use Rattle.trace_history.proofs.all_causes.file_newest.Given as goal
 
 abbrev pub invariant-loop-atom : goal.invariant-loop-atom
-invariant-loop-atom l = Covers (whole l.older.table l.numbered) (l.older.table ++ take l.atom-index l.atom-items) l.lefts
+invariant-loop-atom l = Covers (whole l.older.table l.numbered)
+    (l.older.table ++ take l.atom-index l.atom-items) l.lefts

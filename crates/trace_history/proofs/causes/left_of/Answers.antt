@@ -12,5 +12,7 @@ returns c =
       atom = refl;
       loc = refl;
       cause = subst (λ (d : Cause). IsCause n c.args.atom.now d) (sym c.cause_by.ensures)
-          (c.causes_are_decided.ensures n c.requires.all c.args.atom.now c.requires.there c.is_live-live.result found.0 found.1 c.is_live-live.ensures c.found_of-ready.ensures.ready c.found_of-ready.ensures.waited);
+          (c.causes_are_decided.ensures n
+          c.requires.all c.args.atom.now c.requires.there c.is_live-live.result found.0 found.1
+          c.is_live-live.ensures c.found_of-ready.ensures.ready c.found_of-ready.ensures.waited);
     }

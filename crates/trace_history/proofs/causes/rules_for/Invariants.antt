@@ -7,5 +7,8 @@ use Rattle.trace_history.proofs.causes.rules_for.Given as goal
 
 abbrev pub invariant-loop-rule : goal.invariant-loop-rule
 invariant-loop-rule l =
-    (list_any (takes_up (whole l.older.table l.numbered) l.on l.count) (drop l.rule-index l.rule-items) ≡ list_any (takes_up (whole l.older.table l.numbered) l.on l.count) l.rule-items)
-    × ((l.waited || has_pattern (drop l.rule-index l.rule-items) l.on l.count) ≡ has_pattern l.rule-items l.on l.count)
+    (list_any (takes_up (whole l.older.table l.numbered) l.on l.count)
+    (drop l.rule-index l.rule-items)
+    ≡ list_any (takes_up (whole l.older.table l.numbered) l.on l.count) l.rule-items)
+    × ((l.waited || has_pattern (drop l.rule-index l.rule-items) l.on l.count)
+    ≡ has_pattern l.rule-items l.on l.count)

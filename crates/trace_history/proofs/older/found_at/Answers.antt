@@ -3,7 +3,9 @@ use Rattle.trace_history.proofs.Queued.{found_passes, found_fails}
 use Rattle.trace_history.proofs.older.found_at.Goals as goal
 
 pub returns-then-meets : goal.returns-then-meets
-returns-then-meets c = found_passes c.args.at c.args.pat.now c.in-Some.atom.now _ c.meets.result c.in-Some.ensures c.meets.ensures c.if-meets.true
+returns-then-meets c = found_passes c.args.at c.args.pat.now c.in-Some.atom.now _
+    c.meets.result c.in-Some.ensures c.meets.ensures c.if-meets.true
 
 pub returns-else-meets : goal.returns-else-meets
-returns-else-meets c = found_fails c.args.at c.args.pat.now c.in-Some.atom.now _ c.meets.result c.in-Some.ensures c.meets.ensures c.if-meets.false
+returns-else-meets c = found_fails c.args.at c.args.pat.now c.in-Some.atom.now _
+    c.meets.result c.in-Some.ensures c.meets.ensures c.if-meets.false

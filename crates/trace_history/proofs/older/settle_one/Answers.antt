@@ -11,18 +11,24 @@ use Rattle.trace_history.proofs.older.settle_one.Goals as goal
 pub returns-in_err-add_key-in-Some-channel_of-clause-queued :
     goal.returns-in_err-add_key-in-Some-channel_of-clause-queued
 returns-in_err-add_key-in-Some-channel_of-clause-queued c =
-    subst (λ (ks : List Key). AreQueued c.args.older.now.table ks) (sym c.in_err-add_key-in-Some-channel_of.ensures.err) c.requires.queued
+    subst (λ (ks : List Key). AreQueued c.args.older.now.table ks)
+    (sym c.in_err-add_key-in-Some-channel_of.ensures.err) c.requires.queued
 
 pub insert-requires : goal.insert-requires
 insert-requires c =
-    ap (λ (x : NumberedAtom). atom_at c.args.older.now.table x.id) c.in_ok-copy-in-Some-channel_of.ensures
-    ∙ new_there c.args.older.now.table [] c.args.atoms.now c.as_slice.result.now c.in-Some.atom.now c.args.index c.requires.differ c.as_slice.ensures.members c.in-Some.ensures.lookup.3.0 c.in-Some.ensures.lookup.1
+    ap (λ (x : NumberedAtom). atom_at c.args.older.now.table x.id)
+    c.in_ok-copy-in-Some-channel_of.ensures
+    ∙ new_there c.args.older.now.table []
+    c.args.atoms.now c.as_slice.result.now c.in-Some.atom.now c.args.index c.requires.differ
+    c.as_slice.ensures.members c.in-Some.ensures.lookup.3.0 c.in-Some.ensures.lookup.1
 
 pub returns-in_err-insert-in-Some-channel_of-clause-queued :
     goal.returns-in_err-insert-in-Some-channel_of-clause-queued
 returns-in_err-insert-in-Some-channel_of-clause-queued c =
-    subst (λ (l : List NumberedAtom). AreQueued l c.add_key.new.keys.keys) (sym c.in_err-insert-in-Some-channel_of.ensures.err)
-    (queued_more c.args.older.now.table c.args.older.now.keys.keys c.add_key.new.keys.keys c.in_ok-add_key-in-Some-channel_of.ensures.kept c.requires.queued)
+    subst (λ (l : List NumberedAtom). AreQueued l c.add_key.new.keys.keys)
+    (sym c.in_err-insert-in-Some-channel_of.ensures.err)
+    (queued_more c.args.older.now.table c.args.older.now.keys.keys c.add_key.new.keys.keys
+    c.in_ok-add_key-in-Some-channel_of.ensures.kept c.requires.queued)
 
 pub returns-in_ok-insert-in-Some-channel_of-clause-queued :
     goal.returns-in_ok-insert-in-Some-channel_of-clause-queued
@@ -31,10 +37,12 @@ returns-in_ok-insert-in-Some-channel_of-clause-queued c =
     let n = c.in-Some-channel_of.number in
     let same : copy ≡ c.in-Some.atom.now = c.in_ok-copy-in-Some-channel_of.ensures in
     let ks = c.add_key.new.keys.keys in
-    queued_added c.args.older.now.table c.insert.new.self c.args.older.now.keys.keys ks copy n c.are_different.ensures c.in_ok-insert-in-Some-channel_of.ensures.ok
+    queued_added c.args.older.now.table c.insert.new.self c.args.older.now.keys.keys ks copy n
+    c.are_different.ensures c.in_ok-insert-in-Some-channel_of.ensures.ok
     (ap (λ (x : NumberedAtom). channel_of x.term) same ∙ sym c.in-Some-channel_of.ensures)
     c.in_ok-add_key-in-Some-channel_of.ensures.kept
-    (subst (λ (x : NumberedAtom). IsIn {X = Key} (n, (x.id.site, x.id.k)) ks) (sym same) c.in_ok-add_key-in-Some-channel_of.ensures.there)
+    (subst (λ (x : NumberedAtom). IsIn {X = Key} (n, (x.id.site, x.id.k)) ks) (sym same)
+    c.in_ok-add_key-in-Some-channel_of.ensures.there)
     c.requires.queued
 
 pub returns-in_ok-insert-in-Some-channel_of-clause-keeps :
@@ -42,6 +50,9 @@ pub returns-in_ok-insert-in-Some-channel_of-clause-keeps :
 returns-in_ok-insert-in-Some-channel_of-clause-keeps c =
     let old = c.args.older.now.table in
     let now = c.insert.new.self in
-    let adds = subst (λ (x : NumberedAtom). Adds x old now) c.in_ok-copy-in-Some-channel_of.ensures c.in_ok-insert-in-Some-channel_of.ensures.ok in
+    let adds = subst (λ (x : NumberedAtom). Adds x old now)
+    c.in_ok-copy-in-Some-channel_of.ensures c.in_ok-insert-in-Some-channel_of.ensures.ok in
     subst (λ (l : List NumberedAtom). Keeps old c.args.atoms.now now l) (sym c.remove.ensures)
-    (settled old now c.args.atoms.now c.as_slice.result.now c.in-Some.atom.now c.args.index c.requires.differ c.as_slice.ensures.members c.in-Some.ensures.lookup.3.0 c.in-Some.ensures.lookup.1 adds)
+    (settled old now
+    c.args.atoms.now c.as_slice.result.now c.in-Some.atom.now c.args.index c.requires.differ
+    c.as_slice.ensures.members c.in-Some.ensures.lookup.3.0 c.in-Some.ensures.lookup.1 adds)

@@ -4,7 +4,9 @@ use Rattle.trace_history.proofs.Joined.{found_first, found_second}
 use Rattle.trace_history.proofs.possible.atom_of.Goals as goal
 
 pub returns-in-Some : goal.returns-in-Some
-returns-in-Some c = found_first c.args.older.now.table c.args.numbered.now.atoms c.args.id c.in-Some.atom.now c.in-Some.ensures
+returns-in-Some c = found_first c.args.older.now.table c.args.numbered.now.atoms c.args.id
+    c.in-Some.atom.now c.in-Some.ensures
 
 pub returns-in-None : goal.returns-in-None
-returns-in-None c = found_second c.args.older.now.table c.args.numbered.now.atoms c.args.id (option_copied c.atom_at.result) c.in-None.ensures c.atom_at.ensures
+returns-in-None c = found_second c.args.older.now.table c.args.numbered.now.atoms c.args.id
+    (option_copied c.atom_at.result) c.in-None.ensures c.atom_at.ensures

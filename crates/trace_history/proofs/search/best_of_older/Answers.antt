@@ -18,14 +18,17 @@ loop-key-preserved c =
     let sized : length c.as_slice.result.now ≡ length heads = search rules in
     let slot : c.slot_of_number-slot.result ≡ Some (c.in-Some.key.now.0 % length heads) =
     c.slot_of_number-slot.ensures ∙ ap (λ (k : ℕ). Some (c.in-Some.key.now.0 % k)) sized in (
-      betters_along n c.args.from (option_copied c.args.found) old new c.loop-key.invariant.0 better,
+      betters_along n c.args.from (option_copied c.args.found) old new
+          c.loop-key.invariant.0 better,
       c.best_of_next_slot-best.ensures.looked,
       one_along
           (λ (k : Key). IsSlotLookedAt n c.args.from heads links (Some (k.0 % length heads)) old)
           (λ (k : Key). IsSlotLookedAt n c.args.from heads links (Some (k.0 % length heads)) new)
-          c.args.older.now.keys.keys c.loop-key.key-iterator c.next.new.self c.in-Some.key.now c.in-Some.ensures.steps
+          c.args.older.now.keys.keys c.loop-key.key-iterator c.next.new.self c.in-Some.key.now
+          c.in-Some.ensures.steps
           (λ k. slot_kept n c.args.from heads links (Some (k.0 % length heads)) old new better)
-          (subst (λ o. IsSlotLookedAt n c.args.from heads links o new) slot c.best_of_next_slot-best.ensures.looked)
+          (subst (λ o. IsSlotLookedAt n c.args.from heads links o new) slot
+          c.best_of_next_slot-best.ensures.looked)
           c.loop-key.invariant.2,
     )
 
@@ -33,5 +36,8 @@ pub returns-clause-looked : goal.returns-clause-looked
 returns-clause-looked c =
     let heads = c.args.waiting.now.heads.items in
     all_along
-    (λ (k : Key). IsSlotLookedAt (whole c.args.older.now.table c.args.numbered.now) c.args.from heads c.args.waiting.now.links.items (Some (k.0 % length heads)) (option_copied c.loop-key.best))
-    c.args.older.now.keys.keys c.loop-key.key-iterator c.in-None.ensures.steps.0 c.loop-key.invariant.2
+    (λ (k : Key).
+    IsSlotLookedAt (whole c.args.older.now.table c.args.numbered.now) c.args.from heads
+    c.args.waiting.now.links.items (Some (k.0 % length heads)) (option_copied c.loop-key.best))
+    c.args.older.now.keys.keys c.loop-key.key-iterator c.in-None.ensures.steps.0
+    c.loop-key.invariant.2

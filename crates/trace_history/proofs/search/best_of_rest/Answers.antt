@@ -10,6 +10,8 @@ loop-place-preserved c =
     let n = whole c.args.older.now.table c.args.numbered.now in
     let old = option_copied c.loop-place.best in
     let new = option_copied c.better_at-best.result in (
-      betters_along n c.args.from None old new c.loop-place.invariant.0 c.better_at-best.ensures.better,
-      rest_next n c.args.from c.args.noted c.loop-place.place old new c.better_at-best.ensures.better c.better_at-best.ensures.looked c.loop-place.invariant.1,
+      betters_along n c.args.from None old new
+          c.loop-place.invariant.0 c.better_at-best.ensures.better,
+      rest_next n c.args.from c.args.noted c.loop-place.place old new
+          c.better_at-best.ensures.better c.better_at-best.ensures.looked c.loop-place.invariant.1,
     )

@@ -10,4 +10,5 @@ abbrev pub decreases-loop-place : goal.decreases-loop-place
 decreases-loop-place l = l.count - l.place
 
 abbrev pub invariant-loop-place : goal.invariant-loop-place
-invariant-loop-place l = Betters (whole l.older.table l.numbered) l.from None (option_copied l.best) × IsRest (whole l.older.table l.numbered) l.from l.noted l.place (option_copied l.best)
+invariant-loop-place l = Betters (whole l.older.table l.numbered) l.from None (option_copied l.best)
+    × IsRest (whole l.older.table l.numbered) l.from l.noted l.place (option_copied l.best)

@@ -11,5 +11,7 @@ pub returns-then-is_better-clause-better : goal.returns-then-is_better-clause-be
 returns-then-is_better-clause-better c =
     let n = whole c.args.older.now.table c.args.numbered.now in
     let r = c.in-Some.rule.now in
-    let at : IsAt n.rules c.args.place r = subst (λ (l : List NumberedRule). IsAt l c.args.place r) c.as_slice.ensures.members (c.in-Some.ensures.lookup.3.0, c.in-Some.ensures.lookup.1) in
-    taken_better n c.args.from (option_copied c.args.found) c.args.place r at (sym c.is_better.ensures ∙ c.if-is_better.true)
+    let at : IsAt n.rules c.args.place r = subst (λ (l : List NumberedRule). IsAt l c.args.place r)
+    c.as_slice.ensures.members (c.in-Some.ensures.lookup.3.0, c.in-Some.ensures.lookup.1) in
+    taken_better n c.args.from (option_copied c.args.found) c.args.place r at
+    (sym c.is_better.ensures ∙ c.if-is_better.true)

@@ -7,4 +7,8 @@ use Rattle.trace_history.proofs.Founds.{rules_order}
 use Rattle.trace_history.proofs.search.first_of_few.Goals as goal
 
 pub returns : goal.returns
-returns c = finds_at_end (is_ready (whole c.args.older.now.table c.args.numbered.now)) (rule_before c.args.numbered.now c.args.from) (rules_order c.args.numbered.now c.args.from) c.args.numbered.now.rules c.as_slice-rule-items.result.now c.loop-rule.rule-index (option_copied c.loop-rule.first) c.as_slice-rule-items.ensures.members c.loop-rule-test.false c.loop-rule.invariant
+returns c = finds_at_end (is_ready (whole c.args.older.now.table c.args.numbered.now))
+    (rule_before c.args.numbered.now c.args.from) (rules_order c.args.numbered.now c.args.from)
+    c.args.numbered.now.rules c.as_slice-rule-items.result.now c.loop-rule.rule-index
+    (option_copied c.loop-rule.first)
+    c.as_slice-rule-items.ensures.members c.loop-rule-test.false c.loop-rule.invariant

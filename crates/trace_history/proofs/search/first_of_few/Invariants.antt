@@ -6,4 +6,7 @@ use Rattle.trace_history.specs.inside.Older.{whole}
 use Rattle.trace_history.proofs.search.first_of_few.Given as goal
 
 abbrev pub invariant-loop-rule : goal.invariant-loop-rule
-invariant-loop-rule l = first_of (is_ready (whole l.older.table l.numbered)) (rule_before l.numbered l.from) (option_copied l.first) (drop l.rule-index l.rule-items) ≡ first_of (is_ready (whole l.older.table l.numbered)) (rule_before l.numbered l.from) None l.rule-items
+invariant-loop-rule l = first_of (is_ready (whole l.older.table l.numbered))
+    (rule_before l.numbered l.from) (option_copied l.first) (drop l.rule-index l.rule-items)
+    ≡ first_of (is_ready (whole l.older.table l.numbered)) (rule_before l.numbered l.from) None
+    l.rule-items

@@ -13,5 +13,7 @@ returns c =
     let old = c.args.older.now.table in
     let before = request_before n c.args.from in
     let o = option_copied c.first_request_of.result in
-    subst (λ (l : List NumberedAtom). IsFirstOf (can_act (whole old n)) before (old ++ l) o) c.as_slice.ensures.members
-    (request_joined n before old c.as_slice.result.now c.args.older.now.keys.keys o c.requires.queued c.first_request_of.ensures)
+    subst (λ (l : List NumberedAtom). IsFirstOf (can_act (whole old n)) before (old ++ l) o)
+    c.as_slice.ensures.members
+    (request_joined n before old c.as_slice.result.now c.args.older.now.keys.keys o
+    c.requires.queued c.first_request_of.ensures)

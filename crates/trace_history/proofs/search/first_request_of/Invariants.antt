@@ -5,4 +5,6 @@ use Rattle.trace_history.specs.inside.Search.{first_of, can_act, request_before}
 use Rattle.trace_history.proofs.search.first_request_of.Given as goal
 
 abbrev pub invariant-loop-atom : goal.invariant-loop-atom
-invariant-loop-atom l = first_of (can_act l.numbered) (request_before l.numbered l.from) (option_copied l.first) (drop l.atom-index l.atoms) ≡ first_of (can_act l.numbered) (request_before l.numbered l.from) None l.atoms
+invariant-loop-atom l = first_of (can_act l.numbered) (request_before l.numbered l.from)
+    (option_copied l.first) (drop l.atom-index l.atoms)
+    ≡ first_of (can_act l.numbered) (request_before l.numbered l.from) None l.atoms

@@ -6,4 +6,5 @@ abbrev pub decreases-loop-left : goal.decreases-loop-left
 decreases-loop-left l = l.left
 
 abbrev pub invariant-loop-left : goal.invariant-loop-left
-invariant-loop-left l = (l.left ≤ length l.atoms) × (is_met (drop l.left l.atoms) l.at l.pat ≡ false)
+invariant-loop-left l =
+    (l.left ≤ length l.atoms) × (is_met (drop l.left l.atoms) l.at l.pat ≡ false)

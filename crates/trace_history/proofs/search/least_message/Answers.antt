@@ -12,5 +12,7 @@ returns c =
     let old = c.args.older.now.table in
     let test = receives c.args.at c.args.pat.now in
     let o = option_copied c.least_of.result in
-    subst (λ (l : List NumberedAtom). IsFirstOf test atom_before (old ++ l) o) c.as_slice.ensures.members
-    (first_joined test atom_before messages_order old c.as_slice.result.now (option_copied c.first_older-kept.result) o c.first_older-kept.ensures c.least_of.ensures)
+    subst (λ (l : List NumberedAtom). IsFirstOf test atom_before (old ++ l) o)
+    c.as_slice.ensures.members
+    (first_joined test atom_before messages_order old c.as_slice.result.now
+    (option_copied c.first_older-kept.result) o c.first_older-kept.ensures c.least_of.ensures)

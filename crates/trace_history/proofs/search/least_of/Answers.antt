@@ -7,4 +7,7 @@ use Rattle.trace_history.specs.inside.Search.{first_of, receives, atom_before}
 use Rattle.trace_history.proofs.search.least_of.Goals as goal
 
 pub returns : goal.returns
-returns c = sym c.loop-atom.invariant ∙ ap (λ (l : List NumberedAtom). first_of (receives c.args.at c.args.pat.now) atom_before (option_copied c.loop-atom.least) l) (drop_all c.loop-atom.atom-index c.args.atoms.now c.loop-atom-test.false)
+returns c = sym c.loop-atom.invariant
+    ∙ ap (λ (l : List NumberedAtom).
+    first_of (receives c.args.at c.args.pat.now) atom_before (option_copied c.loop-atom.least) l)
+    (drop_all c.loop-atom.atom-index c.args.atoms.now c.loop-atom-test.false)

@@ -4,4 +4,6 @@ use Rattle.trace_history.specs.inside.Search.{first_of, receives, atom_before}
 use Rattle.trace_history.proofs.search.least_of.Given as goal
 
 abbrev pub invariant-loop-atom : goal.invariant-loop-atom
-invariant-loop-atom l = first_of (receives l.at l.pat) atom_before (option_copied l.least) (drop l.atom-index l.atoms) ≡ first_of (receives l.at l.pat) atom_before (option_copied l.fn.found) l.atoms
+invariant-loop-atom l =
+    first_of (receives l.at l.pat) atom_before (option_copied l.least) (drop l.atom-index l.atoms)
+    ≡ first_of (receives l.at l.pat) atom_before (option_copied l.fn.found) l.atoms

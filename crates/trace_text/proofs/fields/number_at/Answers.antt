@@ -5,4 +5,5 @@ use Rattle.trace_text.specs.Fields.{is_digit}
 use Rattle.trace_text.proofs.fields.number_at.Goals as goal
 
 pub split_at-requires : goal.split_at-requires
-split_at-requires c = omega (arith, c.digits_len.ensures, prefix_len-le-length is_digit c.args.bytes.now)
+split_at-requires c =
+    omega (arith, c.digits_len.ensures, prefix_len-le-length is_digit c.args.bytes.now)

@@ -5,5 +5,7 @@ use Rattle.trace_text.proofs.names.add_all_ranked.Goals as goal
 
 pub loop-out-preserved : goal.loop-out-preserved
 loop-out-preserved c =
-    ranked_step c.args.program.now c.args.binders.now c.as_slice-out-items.result.now c.loop-out.ranks c.add_ranked.new.ranks c.out-item.result c.loop-out.out-index c.loop-out-test.true c.out-item.is c.in_ok-add_ranked.ensures
+    ranked_step c.args.program.now c.args.binders.now c.as_slice-out-items.result.now
+    c.loop-out.ranks c.add_ranked.new.ranks c.out-item.result c.loop-out.out-index
+    c.loop-out-test.true c.out-item.is c.in_ok-add_ranked.ensures
     ∙ c.loop-out.invariant

@@ -8,7 +8,8 @@ use Rattle.trace_text.proofs.read.lines_of.Given as goal
 
 abbrev pub invariant-loop-left : goal.invariant-loop-left
 invariant-loop-left l =
-    ((n : ℕ) (next : List Event → Format LogParts) → length l.fn.text ≤ n → read (lines n [] l.fn.count next) l.fn.text ≡ read (lines n l.events l.left next) l.rest)
+    ((n : ℕ) (next : List Event → Format LogParts) → length l.fn.text ≤ n
+    → read (lines n [] l.fn.count next) l.fn.text ≡ read (lines n l.events l.left next) l.rest)
     × (length l.rest ≤ length l.fn.text)
     × (0 < l.part)
 

@@ -13,7 +13,8 @@ moved n count budget source text bytes rest copy same copied reads =
     ∙ reads
     ∙ ap (λ (b : List ℕ). read (lines n [] count (last_part source budget)) b) (sym copied)
 
-fits : (text bytes rest copy : List ℕ) → bytes ≡ text → copy ≡ rest → length rest ≤ length bytes → length copy ≤ length text
+fits : (text bytes rest copy : List ℕ) → bytes ≡ text → copy ≡ rest → length rest ≤ length bytes
+    → length copy ≤ length text
 fits text bytes rest copy same copied le =
     let as_long : length bytes ≡ length text = ap (λ (b : List ℕ). length b) same in
     let as_much : length copy ≡ length rest = ap (λ (b : List ℕ). length b) copied in
@@ -21,25 +22,46 @@ fits text bytes rest copy same copied le =
 
 pub returns-in_err-events : goal.returns-in_err-events
 returns-in_err-events c =
-    let p = err_from_is_err_and c.from_residual-in_err-events.result c.from_residual-in_err-events.ensures.1 in
+    let p = err_from_is_err_and c.from_residual-in_err-events.result
+    c.from_residual-in_err-events.ensures.1 in
     let n = length c.args.text in
-    let head = moved n c.in_ok-source.count c.in_ok-source.budget c.in_ok-source.source.now c.args.text c.as_slice.result.now c.in_ok-source.rest.now c.in_ok-rest.rest c.as_slice.ensures.members c.in_ok-rest.ensures (c.in_ok-source.ensures.reads n) in
-    let le = fits c.args.text c.as_slice.result.now c.in_ok-source.rest.now c.in_ok-rest.rest c.as_slice.ensures.members c.in_ok-rest.ensures c.in_ok-source.ensures.shorter in
-    rw (p.1, p.2) (rw head (c.in_err-events.ensures n le (last_part c.in_ok-source.source.now c.in_ok-source.budget)))
+    let head = moved n c.in_ok-source.count c.in_ok-source.budget c.in_ok-source.source.now
+    c.args.text c.as_slice.result.now c.in_ok-source.rest.now c.in_ok-rest.rest
+    c.as_slice.ensures.members c.in_ok-rest.ensures (c.in_ok-source.ensures.reads n) in
+    let le = fits c.args.text c.as_slice.result.now c.in_ok-source.rest.now c.in_ok-rest.rest
+    c.as_slice.ensures.members c.in_ok-rest.ensures c.in_ok-source.ensures.shorter in
+    rw (p.1, p.2) (rw head
+    (c.in_err-events.ensures n le (last_part c.in_ok-source.source.now c.in_ok-source.budget)))
 
 pub returns-in_err-trace : goal.returns-in_err-trace
 returns-in_err-trace c =
-    let p = err_from_is_err_and c.from_residual-in_err-trace.result c.from_residual-in_err-trace.ensures.1 in
+    let p = err_from_is_err_and c.from_residual-in_err-trace.result
+    c.from_residual-in_err-trace.ensures.1 in
     let n = length c.args.text in
-    let head = moved n c.in_ok-source.count c.in_ok-source.budget c.in_ok-source.source.now c.args.text c.as_slice.result.now c.in_ok-source.rest.now c.in_ok-rest.rest c.as_slice.ensures.members c.in_ok-rest.ensures (c.in_ok-source.ensures.reads n) in
-    let le = fits c.args.text c.as_slice.result.now c.in_ok-source.rest.now c.in_ok-rest.rest c.as_slice.ensures.members c.in_ok-rest.ensures c.in_ok-source.ensures.shorter in
-    let events = c.in_ok-events.ensures n le (last_part c.in_ok-source.source.now c.in_ok-source.budget) in
-    rw (p.1, p.2) (rw (head, events, sym c.as_slice-2.ensures.members) (c.in_err-trace.ensures c.in_ok-source.source.now c.in_ok-source.budget c.in_ok-events.events))
+    let head = moved n c.in_ok-source.count c.in_ok-source.budget c.in_ok-source.source.now
+    c.args.text c.as_slice.result.now c.in_ok-source.rest.now c.in_ok-rest.rest
+    c.as_slice.ensures.members c.in_ok-rest.ensures (c.in_ok-source.ensures.reads n) in
+    let le = fits c.args.text c.as_slice.result.now c.in_ok-source.rest.now c.in_ok-rest.rest
+    c.as_slice.ensures.members c.in_ok-rest.ensures c.in_ok-source.ensures.shorter in
+    let events =
+    c.in_ok-events.ensures n le (last_part c.in_ok-source.source.now c.in_ok-source.budget) in
+    rw (p.1, p.2) (rw (head, events, sym c.as_slice-2.ensures.members)
+    (c.in_err-trace.ensures c.in_ok-source.source.now c.in_ok-source.budget c.in_ok-events.events))
 
 pub returns : goal.returns
 returns c =
     let n = length c.args.text in
-    let head = moved n c.in_ok-source.count c.in_ok-source.budget c.in_ok-source.source.now c.args.text c.as_slice.result.now c.in_ok-source.rest.now c.in_ok-rest.rest c.as_slice.ensures.members c.in_ok-rest.ensures (c.in_ok-source.ensures.reads n) in
-    let le = fits c.args.text c.as_slice.result.now c.in_ok-source.rest.now c.in_ok-rest.rest c.as_slice.ensures.members c.in_ok-rest.ensures c.in_ok-source.ensures.shorter in
-    let events = c.in_ok-events.ensures n le (last_part c.in_ok-source.source.now c.in_ok-source.budget) in
-    rw (head, events, sym c.as_slice-2.ensures.members, c.in_ok-source-2.ensures, c.in_ok-trace-2.ensures) (c.in_ok-trace.ensures c.in_ok-source.source.now c.in_ok-source.budget c.in_ok-events.events)
+    let head = moved n c.in_ok-source.count c.in_ok-source.budget c.in_ok-source.source.now
+    c.args.text c.as_slice.result.now c.in_ok-source.rest.now c.in_ok-rest.rest
+    c.as_slice.ensures.members c.in_ok-rest.ensures (c.in_ok-source.ensures.reads n) in
+    let le = fits c.args.text c.as_slice.result.now c.in_ok-source.rest.now c.in_ok-rest.rest
+    c.as_slice.ensures.members c.in_ok-rest.ensures c.in_ok-source.ensures.shorter in
+    let events =
+    c.in_ok-events.ensures n le (last_part c.in_ok-source.source.now c.in_ok-source.budget) in
+    rw (
+      head,
+      events,
+      sym c.as_slice-2.ensures.members,
+      c.in_ok-source-2.ensures,
+      c.in_ok-trace-2.ensures,
+    ) (c.in_ok-trace.ensures c.in_ok-source.source.now c.in_ok-source.budget c.in_ok-events.events)

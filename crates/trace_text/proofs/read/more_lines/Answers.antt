@@ -12,13 +12,18 @@ returns-in_err-event-clause-reads c =
     let p = err_from_is_err_and c.from_residual.result c.from_residual.ensures.1 in
     let shorter = c.loop.invariant.1 in
     let more = c.loop-test.true in
-    rw (p.1, p.2) (λ n total next le up. rw (c.loop.invariant.0 n total next le up) (ends n c.loop.events total c.loop.counter c.loop.rest.now c.in_err-event.field-0.0 next (omega (arith, more, up)) (c.in_err-event.ensures.reads n (omega (arith, le, shorter)))))
+    rw (p.1, p.2) (λ n total next le up. rw (c.loop.invariant.0 n total next le up)
+    (ends n c.loop.events total c.loop.counter c.loop.rest.now c.in_err-event.field-0.0 next
+    (omega (arith, more, up)) (c.in_err-event.ensures.reads n (omega (arith, le, shorter)))))
 
 pub loop-preserved : goal.loop-preserved
 loop-preserved c =
     let shorter = c.loop.invariant.1 in
     let more = c.loop-test.true in
     rw c.in_ok-push.ensures.ok (
-      λ n total next le up. c.loop.invariant.0 n total next le up ∙ steps n c.loop.events total c.loop.counter c.loop.rest.now c.in_ok-event.later.now c.in_ok-event.event next (omega (arith, more, up)) (c.in_ok-event.ensures.reads n (omega (arith, le, shorter))),
+      λ n total next le up. c.loop.invariant.0 n total next le up
+          ∙ steps n c.loop.events total
+          c.loop.counter c.loop.rest.now c.in_ok-event.later.now c.in_ok-event.event next
+          (omega (arith, more, up)) (c.in_ok-event.ensures.reads n (omega (arith, le, shorter))),
       omega (arith, shorter, c.in_ok-event.ensures.shorter),
     )

@@ -8,5 +8,7 @@ use Rattle.trace_text.proofs.read.more_lines.Given as goal
 
 abbrev pub invariant-loop : goal.invariant-loop
 invariant-loop l =
-    ((n total : ℕ) (next : List Event → Format LogParts) → length l.bytes ≤ n → l.count ≤ total → read (lines n l.initial.events total next) l.bytes ≡ read (lines n l.events (total - l.counter) next) l.rest)
+    ((n total : ℕ) (next : List Event → Format LogParts) → length l.bytes ≤ n → l.count ≤ total
+    → read (lines n l.initial.events total next) l.bytes
+    ≡ read (lines n l.events (total - l.counter) next) l.rest)
     × (length l.rest ≤ length l.bytes)

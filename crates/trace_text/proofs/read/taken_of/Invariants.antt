@@ -8,7 +8,8 @@ use Rattle.trace_text.proofs.read.taken_of.Given as goal
 
 abbrev pub invariant-loop-after : goal.invariant-loop-after
 invariant-loop-after l =
-    ((n : ℕ) (next : List AtomId → Format LogParts) → length l.bytes ≤ n → read (taken n next) l.bytes ≡ read (further (suc n - length l.atoms) l.atoms next) l.rest)
+    ((n : ℕ) (next : List AtomId → Format LogParts) → length l.bytes ≤ n
+    → read (taken n next) l.bytes ≡ read (further (suc n - length l.atoms) l.atoms next) l.rest)
     × (length l.atoms + length l.rest ≤ length l.bytes)
 
 abbrev pub decreases-loop-after : goal.decreases-loop-after

@@ -7,4 +7,5 @@ abbrev pub decreases-loop-left : goal.decreases-loop-left
 decreases-loop-left l = l.left
 
 abbrev pub invariant-loop-left : goal.invariant-loop-left
-invariant-loop-left l = (l.left ≤ length l.entries) × ((x : Name) → binder_in l.binders x ≡ binder_in (drop l.left l.entries) x)
+invariant-loop-left l = (l.left ≤ length l.entries)
+    × ((x : Name) → binder_in l.binders x ≡ binder_in (drop l.left l.entries) x)

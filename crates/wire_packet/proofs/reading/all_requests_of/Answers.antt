@@ -6,4 +6,7 @@ use Rattle.wire_packet.proofs.Loop.{behind}
 use Rattle.wire_packet.proofs.reading.all_requests_of.Goals as goal
 
 pub returns : goal.returns
-returns c = behind _ _ (λ next. request_list c.args.loc (holds c.args.ids.now) c.in_ok-count.count next) (all_requests c.args.loc (holds c.args.ids.now)) c.in_ok-count.rest.now c.args.bytes.now (λ next. rw c.in_ok-count.ensures refl) c.requests_of.result c.requests_of.ensures
+returns c =
+    behind _ _ (λ next. request_list c.args.loc (holds c.args.ids.now) c.in_ok-count.count next)
+    (all_requests c.args.loc (holds c.args.ids.now)) c.in_ok-count.rest.now c.args.bytes.now
+    (λ next. rw c.in_ok-count.ensures refl) c.requests_of.result c.requests_of.ensures

@@ -8,7 +8,8 @@ use Rattle.wire_packet.proofs.Loop.{fails_behind, fails_then, past}
 use Rattle.wire_packet.proofs.reading.group_head_of.Goals as goal
 
 abbrev with_rules : {Z : Type 0} → (ℕ × AtomId × RuleId → Format Z) → ℕ → ℕ × ℕ → ℕ × ℕ → Format Z
-with_rules next level chans rules = next (level, record { site = chans.0; k = chans.1 }, record { site = rules.0; k = rules.1 })
+with_rules next level chans rules =
+    next (level, record { site = chans.0; k = chans.1 }, record { site = rules.0; k = rules.1 })
 
 abbrev after_chans : {Z : Type 0} → (ℕ × AtomId × RuleId → Format Z) → ℕ → ℕ × ℕ → Format Z
 after_chans next level chans = one_pair (with_rules next level chans)
@@ -23,15 +24,19 @@ returns-in_err-level c =
 
 pub returns-in_err-chans_site : goal.returns-in_err-chans_site
 returns-in_err-chans_site c =
-    let p = err_from_is_err_and c.from_residual-in_err-chans_site.result c.from_residual-in_err-chans_site.ensures.1 in
-    rw (p.1, p.2) (λ next. fails_behind _ _ _ (past four (after_level next) _ _ _ c.in_ok-level.ensures)
+    let p = err_from_is_err_and c.from_residual-in_err-chans_site.result
+    c.from_residual-in_err-chans_site.ensures.1 in
+    rw (p.1, p.2)
+    (λ next. fails_behind _ _ _ (past four (after_level next) _ _ _ c.in_ok-level.ensures)
     (c.in_err-chans_site.ensures (after_chans next c.in_ok-level.level)))
 
 pub returns-in_err-rules_site : goal.returns-in_err-rules_site
 returns-in_err-rules_site c =
-    let p = err_from_is_err_and c.from_residual-in_err-rules_site.result c.from_residual-in_err-rules_site.ensures.1 in
+    let p = err_from_is_err_and c.from_residual-in_err-rules_site.result
+    c.from_residual-in_err-rules_site.ensures.1 in
     let chans : ℕ × ℕ = (c.in_ok-chans_site.chans_site, c.in_ok-chans_site.chans_k) in
-    rw (p.1, p.2) (λ next. fails_behind _ _ _ (past four (after_level next) _ _ _ c.in_ok-level.ensures
+    rw (p.1, p.2)
+    (λ next. fails_behind _ _ _ (past four (after_level next) _ _ _ c.in_ok-level.ensures
     ∙ c.in_ok-chans_site.ensures (after_chans next c.in_ok-level.level))
     (c.in_err-rules_site.ensures (with_rules next c.in_ok-level.level chans)))
 

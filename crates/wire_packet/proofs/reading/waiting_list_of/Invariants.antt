@@ -10,5 +10,7 @@ use Rattle.wire_packet.proofs.reading.waiting_list_of.Given as goal
 
 abbrev pub invariant-loop : goal.invariant-loop
 invariant-loop l =
-    ((next : List Waiting → Format Packet) → read (waiting_list l.loc l.count next) l.bytes ≡ read (members (waiting_member l.loc) l.waiting (l.count - l.counter) next) l.rest)
+    ((next : List Waiting → Format Packet)
+    → read (waiting_list l.loc l.count next) l.bytes
+    ≡ read (members (waiting_member l.loc) l.waiting (l.count - l.counter) next) l.rest)
     × ((s k : ℕ) → holds l.ids s k ≡ has s k (waiting_ids l.waiting))

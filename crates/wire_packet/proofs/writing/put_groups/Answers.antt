@@ -6,5 +6,7 @@ use Rattle.wire_packet.proofs.writing.put_groups.Goals as goal
 
 pub loop-one-preserved : goal.loop-one-preserved
 loop-one-preserved c =
-    member_put group IsGroupValue c.args.out.now c.loop-one.out _ c.args.groups.now c.loop-one.one-index _ c.loop-one-test.true c.loop-one.invariant
-    (c.in_ok-put_group.ensures.is ∙ ap (λ g. c.loop-one.out ++ group g) c.one-item.is) (subst IsGroupValue c.one-item.is c.in_ok-put_group.ensures.fits)
+    member_put group IsGroupValue c.args.out.now c.loop-one.out _
+    c.args.groups.now c.loop-one.one-index _ c.loop-one-test.true c.loop-one.invariant
+    (c.in_ok-put_group.ensures.is ∙ ap (λ g. c.loop-one.out ++ group g) c.one-item.is)
+    (subst IsGroupValue c.one-item.is c.in_ok-put_group.ensures.fits)

@@ -6,4 +6,6 @@ use Rattle.wire_packet.specs.Allowed.{IsName}
 use Rattle.wire_packet.proofs.writing.put_names.Given as goal
 
 abbrev pub invariant-loop-name : goal.invariant-loop-name
-invariant-loop-name l = (l.out ++ flat_map name_bytes (drop l.name-index l.names) ≡ l.initial.out ++ flat_map name_bytes l.names) × (Each IsName (drop l.name-index l.names) → Each IsName l.names)
+invariant-loop-name l = (l.out ++ flat_map name_bytes (drop l.name-index l.names)
+    ≡ l.initial.out ++ flat_map name_bytes l.names)
+    × (Each IsName (drop l.name-index l.names) → Each IsName l.names)

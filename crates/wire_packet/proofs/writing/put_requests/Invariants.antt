@@ -6,4 +6,6 @@ use Rattle.wire_packet.specs.Allowed.{IsRequestValue}
 use Rattle.wire_packet.proofs.writing.put_requests.Given as goal
 
 abbrev pub invariant-loop-one : goal.invariant-loop-one
-invariant-loop-one l = (l.out ++ flat_map request (drop l.one-index l.requests) ≡ l.initial.out ++ flat_map request l.requests) × (Each IsRequestValue (drop l.one-index l.requests) → Each IsRequestValue l.requests)
+invariant-loop-one l = (l.out ++ flat_map request (drop l.one-index l.requests)
+    ≡ l.initial.out ++ flat_map request l.requests)
+    × (Each IsRequestValue (drop l.one-index l.requests) → Each IsRequestValue l.requests)

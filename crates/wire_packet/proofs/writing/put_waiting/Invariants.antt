@@ -6,4 +6,6 @@ use Rattle.wire_packet.specs.Allowed.{IsWaitingValue}
 use Rattle.wire_packet.proofs.writing.put_waiting.Given as goal
 
 abbrev pub invariant-loop-one : goal.invariant-loop-one
-invariant-loop-one l = (l.out ++ flat_map waiting_message (drop l.one-index l.waiting) ≡ l.initial.out ++ flat_map waiting_message l.waiting) × (Each IsWaitingValue (drop l.one-index l.waiting) → Each IsWaitingValue l.waiting)
+invariant-loop-one l = (l.out ++ flat_map waiting_message (drop l.one-index l.waiting)
+    ≡ l.initial.out ++ flat_map waiting_message l.waiting)
+    × (Each IsWaitingValue (drop l.one-index l.waiting) → Each IsWaitingValue l.waiting)

@@ -5,4 +5,7 @@ use Rattle.chem_plain.specs.inside.Drawn.{drawn}
 use Rattle.chem_plain.proofs.pour.Level.name_channels.Given as goal
 
 abbrev pub invariant-loop-definition : goal.invariant-loop-definition
-invariant-loop-definition l = name_channels l.site l.at (definitions (drop l.definition-index l.definition-items)) (drawn l.self) ≡ name_channels l.site l.at (definitions l.definition-items) (drawn l.initial.self)
+invariant-loop-definition l =
+    name_channels l.site l.at (definitions (drop l.definition-index l.definition-items))
+    (drawn l.self)
+    ≡ name_channels l.site l.at (definitions l.definition-items) (drawn l.initial.self)

@@ -5,4 +5,6 @@ use Rattle.chem_plain.specs.inside.Drawn.{drawn}
 use Rattle.chem_plain.proofs.pour.Level.name_places.Given as goal
 
 abbrev pub invariant-loop-definition : goal.invariant-loop-definition
-invariant-loop-definition l = name_places l.site (definitions (drop l.definition-index l.definition-items)) (drawn l.self) ≡ name_places l.site (definitions l.definition-items) (drawn l.initial.self)
+invariant-loop-definition l =
+    name_places l.site (definitions (drop l.definition-index l.definition-items)) (drawn l.self)
+    ≡ name_places l.site (definitions l.definition-items) (drawn l.initial.self)

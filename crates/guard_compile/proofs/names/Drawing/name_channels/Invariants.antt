@@ -6,5 +6,6 @@ use Rattle.guard_compile.proofs.names.Drawing.name_channels.Given as goal
 
 abbrev pub invariant-loop-definition : goal.invariant-loop-definition
 invariant-loop-definition l =
-    name_channels l.site l.home (definitions (drop l.definition-index l.definition-items)) (drawn l.self)
+    name_channels l.site l.home (definitions (drop l.definition-index l.definition-items))
+    (drawn l.self)
     ≡ name_channels l.site l.home (definitions l.definition-items) (drawn l.initial.self)

@@ -16,12 +16,20 @@ returns c =
     let code = c.self.inside.code in
     let net = net_of code.seen p in
     let count = carried_length (joined p.flights.items) ∙ sym c.self.invariant.flying.counted in
-    let parts : HasSites c.as_slice.result.now p.tree net = record { sites_are = sym c.as_slice.ensures.value; tree_is = refl } in
-    let none = none_of p.version c.as_slice.result.now p.tree code p.under_way net parts refl count c.next_choice.result c.next_choice.ensures.none in
-    let some = some_of p.version c.as_slice.result.now p.tree code p.under_way net parts refl count c.next_choice.result c.next_choice.ensures.some in
-    let quiet = none_where_quiet code net c.self.invariant.running.code c.next_choice.result none some in
+    let parts : HasSites c.as_slice.result.now p.tree net =
+    record { sites_are = sym c.as_slice.ensures.value; tree_is = refl } in
+    let none = none_of p.version c.as_slice.result.now p.tree code p.under_way net parts refl count
+    c.next_choice.result c.next_choice.ensures.none in
+    let some = some_of p.version c.as_slice.result.now p.tree code p.under_way net parts refl count
+    c.next_choice.result c.next_choice.ensures.some in
+    let quiet =
+    none_where_quiet code net c.self.invariant.running.code c.next_choice.result none some in
     record {
-      none = subst (λ (v : NetParts). IfNone c.next_choice.result ((x : Choice) → Allows v.code v.net x → ⊥)) c.self.view_is none;
-      some = subst (λ (v : NetParts). IfSome c.next_choice.result (IsNext v.code v.net)) c.self.view_is some;
-      quiet = subst (λ (v : NetParts). IsNoneWhereQuiet v.code v.net c.next_choice.result) c.self.view_is quiet;
+      none = subst
+          (λ (v : NetParts). IfNone c.next_choice.result ((x : Choice) → Allows v.code v.net x → ⊥))
+          c.self.view_is none;
+      some = subst (λ (v : NetParts). IfSome c.next_choice.result (IsNext v.code v.net))
+          c.self.view_is some;
+      quiet = subst (λ (v : NetParts). IsNoneWhereQuiet v.code v.net c.next_choice.result)
+          c.self.view_is quiet;
     }

@@ -13,6 +13,10 @@ returns-clause-none c =
     let p = c.self.inside.parts in
     let code = c.self.inside.code in
     let net = net_of code.seen p in
-    let parts : HasSites c.as_slice.result.now p.tree net = record { sites_are = sym c.as_slice.ensures.value; tree_is = refl } in
-    subst (λ (v : NetParts). IfNone c.opening_of.result (ReadyOpensNone v.code v.net c.args.site)) c.self.view_is
-    (if_none c.opening_of.result ((n : Net) → HasSites c.as_slice.result.now p.tree n → ReadyOpensNone code n c.args.site) (ReadyOpensNone code net c.args.site) (λ f. f net parts) c.opening_of.ensures.none)
+    let parts : HasSites c.as_slice.result.now p.tree net =
+    record { sites_are = sym c.as_slice.ensures.value; tree_is = refl } in
+    subst (λ (v : NetParts). IfNone c.opening_of.result (ReadyOpensNone v.code v.net c.args.site))
+    c.self.view_is
+    (if_none c.opening_of.result
+    ((n : Net) → HasSites c.as_slice.result.now p.tree n → ReadyOpensNone code n c.args.site)
+    (ReadyOpensNone code net c.args.site) (λ f. f net parts) c.opening_of.ensures.none)

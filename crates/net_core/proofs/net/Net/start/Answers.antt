@@ -15,29 +15,49 @@ use Rattle.net_core.proofs.net.Net.start.Goals as goal
 
 pub invariant_of-result : goal.invariant_of-result
 invariant_of-result c =
-    let upto : IsUpTo c.args.program.now.version c.args.code.now (length c.args.code.now.sites) c.in_ok-parts.parts = subst (λ (v : ℕ). IsUpTo v c.args.code.now (length c.args.code.now.sites) c.in_ok-parts.parts) (ap (λ (p : ProgramTerms). p.version) c.program.view_is) c.in_ok-parts.ensures in
+    let upto : IsUpTo c.args.program.now.version c.args.code.now (length c.args.code.now.sites)
+    c.in_ok-parts.parts =
+    subst (λ (v : ℕ). IsUpTo v c.args.code.now (length c.args.code.now.sites) c.in_ok-parts.parts)
+    (ap (λ (p : ProgramTerms). p.version) c.program.view_is) c.in_ok-parts.ensures in
     let ok : IsProgram c.args.program.now = subst IsProgram c.program.view_is c.program.invariant in
     let kept : IsCode c.args.code.now = subst IsCode c.code.view_is c.code.invariant in
-    let few : length c.args.code.now.sites < 2 ^ 32 = omega (arith, c.requires.no_other_sites, ok.few_sites, sites-few c.args.program.now.version) in
-    subst (λ (x : CodeParts). IsWhole x c.in_ok-parts.parts 0) (sym c.in-Ok.ensures) (opened_whole c.args.program.now c.args.code.now ok kept c.requires few c.in_ok-parts.parts upto)
+    let few : length c.args.code.now.sites < 2 ^ 32 =
+    omega (arith, c.requires.no_other_sites, ok.few_sites, sites-few c.args.program.now.version) in
+    subst (λ (x : CodeParts). IsWhole x c.in_ok-parts.parts 0) (sym c.in-Ok.ensures)
+    (opened_whole c.args.program.now c.args.code.now ok kept c.requires few
+    c.in_ok-parts.parts upto)
 
 pub returns-in-Ok-clause-stands : goal.returns-in-Ok-clause-stands
 returns-in-Ok-clause-stands c =
-    let upto : IsUpTo c.args.program.now.version c.args.code.now (length c.args.code.now.sites) c.in_ok-parts.parts = subst (λ (v : ℕ). IsUpTo v c.args.code.now (length c.args.code.now.sites) c.in_ok-parts.parts) (ap (λ (p : ProgramTerms). p.version) c.program.view_is) c.in_ok-parts.ensures in
+    let upto : IsUpTo c.args.program.now.version c.args.code.now (length c.args.code.now.sites)
+    c.in_ok-parts.parts =
+    subst (λ (v : ℕ). IsUpTo v c.args.code.now (length c.args.code.now.sites) c.in_ok-parts.parts)
+    (ap (λ (p : ProgramTerms). p.version) c.program.view_is) c.in_ok-parts.ensures in
     let ok : IsProgram c.args.program.now = subst IsProgram c.program.view_is c.program.invariant in
     let kept : IsCode c.args.code.now = subst IsCode c.code.view_is c.code.invariant in
-    subst (λ (x : CodeParts). Stands (rules_of_group c.args.program.now) (net_of x.seen c.in_ok-parts.parts) (opening c.args.program.now)) (sym c.in-Ok.ensures)
+    subst (λ (x : CodeParts). Stands (rules_of_group c.args.program.now)
+    (net_of x.seen c.in_ok-parts.parts) (opening c.args.program.now)) (sym c.in-Ok.ensures)
     (opened_is c.args.program.now c.args.code.now ok kept c.requires c.in_ok-parts.parts upto)
 
 pub returns-in-Ok-clause-opened : goal.returns-in-Ok-clause-opened
 returns-in-Ok-clause-opened c =
-    let upto : IsUpTo c.args.program.now.version c.args.code.now (length c.args.code.now.sites) c.in_ok-parts.parts = subst (λ (v : ℕ). IsUpTo v c.args.code.now (length c.args.code.now.sites) c.in_ok-parts.parts) (ap (λ (p : ProgramTerms). p.version) c.program.view_is) c.in_ok-parts.ensures in
-    subst (λ (x : CodeParts). net_of x.seen c.in_ok-parts.parts ≡ opened_net c.args.program.now.version c.args.code.now) (sym c.in-Ok.ensures) (all_are_opened c.args.program.now.version c.args.code.now c.in_ok-parts.parts upto)
+    let upto : IsUpTo c.args.program.now.version c.args.code.now (length c.args.code.now.sites)
+    c.in_ok-parts.parts =
+    subst (λ (v : ℕ). IsUpTo v c.args.code.now (length c.args.code.now.sites) c.in_ok-parts.parts)
+    (ap (λ (p : ProgramTerms). p.version) c.program.view_is) c.in_ok-parts.ensures in
+    subst (λ (x : CodeParts).
+    net_of x.seen c.in_ok-parts.parts ≡ opened_net c.args.program.now.version c.args.code.now)
+    (sym c.in-Ok.ensures)
+    (all_are_opened c.args.program.now.version c.args.code.now c.in_ok-parts.parts upto)
 
 pub returns-in-Ok-clause-runs : goal.returns-in-Ok-clause-runs
 returns-in-Ok-clause-runs c =
-    let upto : IsUpTo c.args.program.now.version c.args.code.now (length c.args.code.now.sites) c.in_ok-parts.parts = subst (λ (v : ℕ). IsUpTo v c.args.code.now (length c.args.code.now.sites) c.in_ok-parts.parts) (ap (λ (p : ProgramTerms). p.version) c.program.view_is) c.in_ok-parts.ensures in
+    let upto : IsUpTo c.args.program.now.version c.args.code.now (length c.args.code.now.sites)
+    c.in_ok-parts.parts =
+    subst (λ (v : ℕ). IsUpTo v c.args.code.now (length c.args.code.now.sites) c.in_ok-parts.parts)
+    (ap (λ (p : ProgramTerms). p.version) c.program.view_is) c.in_ok-parts.ensures in
     let ok : IsProgram c.args.program.now = subst IsProgram c.program.view_is c.program.invariant in
     let kept : IsCode c.args.code.now = subst IsCode c.code.view_is c.code.invariant in
-    subst (λ (x : CodeParts). RunsCode c.args.program.now x (net_of x.seen c.in_ok-parts.parts)) (sym c.in-Ok.ensures)
+    subst (λ (x : CodeParts). RunsCode c.args.program.now x (net_of x.seen c.in_ok-parts.parts))
+    (sym c.in-Ok.ensures)
     (opened_runs c.args.program.now c.args.code.now ok kept c.requires c.in_ok-parts.parts upto)

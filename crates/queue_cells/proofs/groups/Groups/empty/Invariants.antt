@@ -9,6 +9,8 @@ invariant-loop-chan g l = record {
   count : length l.self.groups ≡ length l.fn.self.groups;
   wide : length (lists_at l.self.groups l.group) ≡ l.width;
   empty : (c : ℕ) → c < l.chan → queue_in l.self.groups l.group c ≡ [];
-  spare : l.self.spare + waiting (lists_at l.self.groups l.group) ≡ l.fn.self.spare + waiting (lists_at l.fn.self.groups l.group);
+  spare :
+      l.self.spare + waiting (lists_at l.self.groups l.group)
+      ≡ l.fn.self.spare + waiting (lists_at l.fn.self.groups l.group);
   rows : l.self.spare_groups ≡ l.fn.self.spare_groups;
 }

@@ -11,22 +11,45 @@ pub remove-requires : goal.remove-requires
 remove-requires g c =
     let groups = rw (← c.self.view_is) at c.empty.ensures.groups in
     let held = c.self.inside.rows.ok in
-    omega (arith, c.requires, length-map c.self.inside.rows.items (queued {G = g.row.G.Denot} c.self.inside.cells.slots), ap length groups, length-emptied c.args.self.now.groups c.args.group)
+    omega (
+      arith,
+      c.requires,
+      length-map c.self.inside.rows.items (queued {G = g.row.G.Denot} c.self.inside.cells.slots),
+      ap length groups,
+      length-emptied c.args.self.now.groups c.args.group,
+    )
 
 pub invariant_of-self : goal.invariant_of-self
 invariant_of-self g c =
     let groups = rw (← c.self.view_is) at c.empty.ensures.groups in
     let within : c.args.group < length c.self.inside.rows.items =
-    omega (arith, c.requires, length-map c.self.inside.rows.items (queued {G = g.row.G.Denot} c.self.inside.cells.slots), ap length groups, length-emptied c.args.self.now.groups c.args.group) in
-    rw c.remove.ensures.items (AreRows-remove c.self.inside.cells c.self.inside.rows.items c.args.group c.remove.result within (sym c.remove.ensures.value) (λ k less. ap (λ qs. queue_in qs c.args.group k) groups ∙ queue_in-emptied c.args.self.now.groups c.args.group k) c.self.invariant).0
+    omega (
+      arith,
+      c.requires,
+      length-map c.self.inside.rows.items (queued {G = g.row.G.Denot} c.self.inside.cells.slots),
+      ap length groups,
+      length-emptied c.args.self.now.groups c.args.group,
+    ) in
+    rw c.remove.ensures.items
+    (AreRows-remove c.self.inside.cells c.self.inside.rows.items c.args.group c.remove.result within
+    (sym c.remove.ensures.value) (λ k less. ap (λ qs. queue_in qs c.args.group k) groups
+    ∙ queue_in-emptied c.args.self.now.groups c.args.group k) c.self.invariant).0
 
 pub returns-clause-groups : goal.returns-clause-groups
 returns-clause-groups g c =
     let groups = rw (← c.self.view_is) at c.empty.ensures.groups in
     let within : c.args.group < length c.self.inside.rows.items =
-    omega (arith, c.requires, length-map c.self.inside.rows.items (queued {G = g.row.G.Denot} c.self.inside.cells.slots), ap length groups, length-emptied c.args.self.now.groups c.args.group) in
+    omega (
+      arith,
+      c.requires,
+      length-map c.self.inside.rows.items (queued {G = g.row.G.Denot} c.self.inside.cells.slots),
+      ap length groups,
+      length-emptied c.args.self.now.groups c.args.group,
+    ) in
     rw c.remove.ensures.items (
-    (AreRows-remove c.self.inside.cells c.self.inside.rows.items c.args.group c.remove.result within (sym c.remove.ensures.value) (λ k less. ap (λ qs. queue_in qs c.args.group k) groups ∙ queue_in-emptied c.args.self.now.groups c.args.group k) c.self.invariant).1
+    (AreRows-remove c.self.inside.cells c.self.inside.rows.items c.args.group c.remove.result within
+    (sym c.remove.ensures.value) (λ k less. ap (λ qs. queue_in qs c.args.group k) groups
+    ∙ queue_in-emptied c.args.self.now.groups c.args.group k) c.self.invariant).1
     ∙ ap (λ qs. remove qs c.args.group) groups
     ∙ remove-emptied c.args.self.now.groups c.args.group
     )

@@ -9,6 +9,7 @@ returns-clause-width g c = ap length c.in_ok-status.ensures ∙ length-replicate
 
 pub invariant_of-result : goal.invariant_of-result
 invariant_of-result g c =
-    let size : length c.in_ok-status.status ≡ c.args.width = ap length c.in_ok-status.ensures ∙ length-replicate c.args.width false in
+    let size : length c.in_ok-status.status ≡ c.args.width =
+    ap length c.in_ok-status.ensures ∙ length-replicate c.args.width false in
     let ends : c.in_ok-ends.ends.items ≡ replicate c.args.width no_ends = search rules in
     record { ends = rw size ends; status = rw size c.in_ok-status.ensures }

@@ -5,4 +5,5 @@ pub after_pick-requires-clause-act : goal.after_pick-requires-clause-act
 after_pick-requires-clause-act g c = c.requires.0
 
 pub after_pick-requires-clause-fires : goal.after_pick-requires-clause-fires
-after_pick-requires-clause-fires g c = may_fire c.args.code.now c.args.tree.now c.args.site.now c.args.pick.now c.requires.0 c.requires.1
+after_pick-requires-clause-fires g c = may_fire c.args.code.now c.args.tree.now c.args.site.now
+    c.args.pick.now c.requires.0 c.requires.1

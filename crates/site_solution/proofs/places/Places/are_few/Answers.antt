@@ -3,4 +3,5 @@ use Rattle.site_solution.proofs.Hosting.{length-locs_of}
 use Rattle.site_solution.proofs.places.Places.are_few.Goals as goal
 
 pub returns : goal.returns
-returns c = rw (← c.self.view_is) (omega (arith, length-locs_of c.self.inside.pairs.keys, c.self.invariant))
+returns c =
+    rw (← c.self.view_is) (omega (arith, length-locs_of c.self.inside.pairs.keys, c.self.invariant))

@@ -6,12 +6,16 @@ use Rattle.status_words.specs.Words.{number_of_words}
 use Rattle.site_solution.proofs.site.Site.covered.Goals as goal
 
 pub covers-requires-clause-group : goal.covers-requires-clause-group
-covers-requires-clause-group c = let inside = rw (← c.self.view_is) at c.requires.group in omega (arith, groups-many c.self.inside.groups.groups)
+covers-requires-clause-group c =
+    let inside = rw (← c.self.view_is) at c.requires.group in
+    omega (arith, groups-many c.self.inside.groups.groups)
 
 pub covers-requires-clause-words : goal.covers-requires-clause-words
 covers-requires-clause-words c =
     let inside = rw (← c.self.view_is) at c.requires.words in
-    inside ∙ ap (λ qs. number_of_words (length qs)) (queues-are c.self.inside.groups.groups c.args.group)
+    inside
+    ∙ ap (λ qs. number_of_words (length qs)) (queues-are c.self.inside.groups.groups c.args.group)
 
 pub returns : goal.returns
-returns c = rw (← c.self.view_is) (subst (λ qs. IsTrue c.covers.result ↔ AllHeld qs c.args.mask.now) (sym (queues-are c.self.inside.groups.groups c.args.group)) c.covers.ensures)
+returns c = rw (← c.self.view_is) (subst (λ qs. IsTrue c.covers.result ↔ AllHeld qs c.args.mask.now)
+    (sym (queues-are c.self.inside.groups.groups c.args.group)) c.covers.ensures)

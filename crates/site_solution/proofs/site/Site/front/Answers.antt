@@ -5,7 +5,9 @@ use Rattle.std.specs.Prelude.{slice_index_or}
 use Rattle.site_solution.proofs.site.Site.front.Goals as goal
 
 pub front-requires-clause-group : goal.front-requires-clause-group
-front-requires-clause-group c = let inside = rw (← c.self.view_is) at c.requires.group in omega (arith, groups-many c.self.inside.groups.groups)
+front-requires-clause-group c =
+    let inside = rw (← c.self.view_is) at c.requires.group in
+    omega (arith, groups-many c.self.inside.groups.groups)
 
 pub front-requires-clause-chan : goal.front-requires-clause-chan
 front-requires-clause-chan c =
@@ -13,4 +15,6 @@ front-requires-clause-chan c =
     omega (arith, ap length (queues-are c.self.inside.groups.groups c.args.group))
 
 pub returns : goal.returns
-returns c = rw (← c.self.view_is) (c.front.ensures ∙ ap (λ qs. slice_get (slice_index_or qs c.args.chan []) 0) (sym (queues-are c.self.inside.groups.groups c.args.group)))
+returns c = rw (← c.self.view_is) (c.front.ensures
+    ∙ ap (λ qs. slice_get (slice_index_or qs c.args.chan []) 0)
+    (sym (queues-are c.self.inside.groups.groups c.args.group)))

@@ -5,4 +5,6 @@ use Rattle.site_solution.specs.InTree.{has_number}
 use Rattle.site_solution.proofs.site.Site.locs_are_there.Given as goal
 
 abbrev pub invariant-loop-pair : goal.invariant-loop-pair
-invariant-loop-pair l = list_all (has_number l.tree l.self.number) (locs_of (drop l.pair-index l.pair-items)) ≡ list_all (has_number l.tree l.self.number) (locs_of l.pair-items)
+invariant-loop-pair l =
+    list_all (has_number l.tree l.self.number) (locs_of (drop l.pair-index l.pair-items))
+    ≡ list_all (has_number l.tree l.self.number) (locs_of l.pair-items)

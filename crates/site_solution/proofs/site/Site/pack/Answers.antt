@@ -15,16 +15,33 @@ invariant_of-result c =
     let s : Site = seen c.self.inside in
     let l = c.args.loc.now in
     let groups = c.in_ok-groups.ensures.is in
-    let waiting = c.in_ok-waiting.ensures ∙ ap (λ ws. in_all_queues (groups_at l s.groups) ++ stuck_at l ws) c.deref.ensures.value in
+    let waiting = c.in_ok-waiting.ensures
+    ∙ ap (λ ws. in_all_queues (groups_at l s.groups) ++ stuck_at l ws) c.deref.ensures.value in
     let requests = c.in_ok-requests.ensures ∙ ap (requests_at l) c.as_slice.ensures.members in
-    let few_groups : length c.in_ok-groups.groups < 2 ^ 32 = subst (λ (gs : List GroupParts). length gs < 2 ^ 32) c.groups.view_is c.groups.invariant in
-    let few_waiting : length c.in_ok-waiting.waiting < 2 ^ 32 = subst (λ (ws : List Waiting). length ws < 2 ^ 32) c.waiting.view_is c.waiting.invariant in
-    let is : record { loc = l; groups = c.in_ok-groups.groups; waiting = c.in_ok-waiting.waiting; requests = c.in_ok-requests.requests } ≡ parcel_of (pack l s) =
-    ap (λ gs. record { loc = l; groups = gs; waiting = c.in_ok-waiting.waiting; requests = c.in_ok-requests.requests }) groups
-    ∙ ap (λ ws. record (parcel_of (pack l s)) { waiting = ws; requests = c.in_ok-requests.requests }) waiting
+    let few_groups : length c.in_ok-groups.groups < 2 ^ 32 =
+    subst (λ (gs : List GroupParts). length gs < 2 ^ 32) c.groups.view_is c.groups.invariant in
+    let few_waiting : length c.in_ok-waiting.waiting < 2 ^ 32 =
+    subst (λ (ws : List Waiting). length ws < 2 ^ 32) c.waiting.view_is c.waiting.invariant in
+    let is : record {
+      loc = l;
+      groups = c.in_ok-groups.groups;
+      waiting = c.in_ok-waiting.waiting;
+      requests = c.in_ok-requests.requests;
+    } ≡ parcel_of (pack l s) =
+    ap (λ gs. record {
+      loc = l;
+      groups = gs;
+      waiting = c.in_ok-waiting.waiting;
+      requests = c.in_ok-requests.requests;
+    }) groups
+    ∙ ap
+    (λ ws. record (parcel_of (pack l s)) { waiting = ws; requests = c.in_ok-requests.requests })
+    waiting
     ∙ ap (λ qs. record (parcel_of (pack l s)) { requests = qs }) requests in
-    subst IsParcel (sym is) (packed-parcel l s c.self.invariant.kept c.as_slice.ensures.asked c.self.invariant.once (record {
+    subst IsParcel (sym is) (packed-parcel l s
+    c.self.invariant.kept c.as_slice.ensures.asked c.self.invariant.once (record {
       groups = subst (λ (gs : List GroupParts). length gs < 2 ^ 32) groups few_groups;
       waiting = subst (λ (ws : List Waiting). length ws < 2 ^ 32) waiting few_waiting;
-      names = subst (λ (gs : List GroupParts). Each HasFewNames gs) groups c.in_ok-groups.ensures.names;
+      names =
+          subst (λ (gs : List GroupParts). Each HasFewNames gs) groups c.in_ok-groups.ensures.names;
     }))

@@ -17,21 +17,33 @@ add_all-requires c =
     let loc = ap (λ (p : ParcelParts). p.loc) c.parcel.view_is in
     let ls = c.args.self.now.locs ++ c.args.parcel.now.loc ∷ [] in
     let ps = all_posted c.args.posts in
-    let sorted : IsSorted c.args.tree.now ls ps c.in_ok-waiting.field-0 = resort c.args.tree.now _ _ _ _ _ _ c.in_ok-waiting.field-0 c.places.ensures (ap (λ (l : Loc). l ∷ []) loc) refl c.in_ok-waiting.ensures in
-    let arrive = arrive-sorted c.args.tree.now c.args.code.now c.args.parcel.now c.args.next ls ps c.in_ok-waiting.field-0 c.in_ok-more.more sorted c.in_ok-more.ensures.more in
-    subst (λ l. CanAdd (l ∷ []) c.in_ok-more.more c.args.self.now) (sym loc) (received-can c.args.code.now c.args.parcel.now c.args.next ps arrive.before c.in_ok-more.more c.args.self.now c.carried_beside.ensures.kept c.requires.can c.requires.posts arrive.carried arrive.beside)
+    let sorted : IsSorted c.args.tree.now ls ps c.in_ok-waiting.field-0 =
+    resort c.args.tree.now _ _ _ _ _ _ c.in_ok-waiting.field-0 c.places.ensures
+    (ap (λ (l : Loc). l ∷ []) loc) refl c.in_ok-waiting.ensures in
+    let arrive = arrive-sorted c.args.tree.now c.args.code.now c.args.parcel.now c.args.next ls ps
+    c.in_ok-waiting.field-0 c.in_ok-more.more sorted c.in_ok-more.ensures.more in
+    subst (λ l. CanAdd (l ∷ []) c.in_ok-more.more c.args.self.now) (sym loc)
+    (received-can c.args.code.now c.args.parcel.now c.args.next ps
+    arrive.before c.in_ok-more.more c.args.self.now c.carried_beside.ensures.kept c.requires.can
+    c.requires.posts arrive.carried arrive.beside)
 
 pub returns-clause-ok : goal.returns-clause-ok
 returns-clause-ok c =
     let loc = ap (λ (p : ParcelParts). p.loc) c.parcel.view_is in
     let ls = c.args.self.now.locs ++ c.args.parcel.now.loc ∷ [] in
     let ps = all_posted c.args.posts in
-    let sorted : IsSorted c.args.tree.now ls ps c.in_ok-waiting.field-0 = resort c.args.tree.now _ _ _ _ _ _ c.in_ok-waiting.field-0 c.places.ensures (ap (λ (l : Loc). l ∷ []) loc) refl c.in_ok-waiting.ensures in
-    let arrive = arrive-sorted c.args.tree.now c.args.code.now c.args.parcel.now c.args.next ls ps c.in_ok-waiting.field-0 c.in_ok-more.more sorted c.in_ok-more.ensures.more in
+    let sorted : IsSorted c.args.tree.now ls ps c.in_ok-waiting.field-0 =
+    resort c.args.tree.now _ _ _ _ _ _ c.in_ok-waiting.field-0 c.places.ensures
+    (ap (λ (l : Loc). l ∷ []) loc) refl c.in_ok-waiting.ensures in
+    let arrive = arrive-sorted c.args.tree.now c.args.code.now c.args.parcel.now c.args.next ls ps
+    c.in_ok-waiting.field-0 c.in_ok-more.more sorted c.in_ok-more.ensures.more in
     record {
       more = c.in_ok-more.more;
       arrive = arrive;
-      can = received-can c.args.code.now c.args.parcel.now c.args.next ps arrive.before c.in_ok-more.more c.args.self.now c.carried_beside.ensures.kept c.requires.can c.requires.posts arrive.carried arrive.beside;
-      is = c.in_ok-add_all.ensures.ok ∙ ap (λ l. added (l ∷ []) c.in_ok-more.more (taken_at 0 [] c.args.self.now)) loc;
+      can = received-can c.args.code.now c.args.parcel.now c.args.next ps
+          arrive.before c.in_ok-more.more c.args.self.now c.carried_beside.ensures.kept
+          c.requires.can c.requires.posts arrive.carried arrive.beside;
+      is = c.in_ok-add_all.ensures.ok
+          ∙ ap (λ l. added (l ∷ []) c.in_ok-more.more (taken_at 0 [] c.args.self.now)) loc;
       sends = sorted.flights_are;
     }

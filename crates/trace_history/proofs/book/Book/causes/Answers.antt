@@ -14,8 +14,10 @@ use Rattle.trace_history.proofs.book.Book.causes.Goals as goal
 
 pub all_left-requires-clause-all : goal.all_left-requires-clause-all
 all_left-requires-clause-all c =
-    let sound : (m : Numbered) → replay c.self.inside.program c.self.inside.journal ≡ Some m → IsSound m =
-    subst (λ (b : BookKept). (m : Numbered) → solution b ≡ Some m → IsSound m) (sym c.self.view_is) c.is_sound.ensures in
+    let sound : (m : Numbered) → replay c.self.inside.program c.self.inside.journal ≡ Some m
+    → IsSound m =
+    subst (λ (b : BookKept). (m : Numbered) → solution b ≡ Some m → IsSound m) (sym c.self.view_is)
+    c.is_sound.ensures in
     let o = replay c.self.inside.program c.self.inside.journal in
     let old = c.self.inside.older.table in
     let n = c.self.inside.solution in
@@ -24,8 +26,10 @@ all_left-requires-clause-all c =
 
 pub all_left-requires-clause-sound : goal.all_left-requires-clause-sound
 all_left-requires-clause-sound c =
-    let sound : (m : Numbered) → replay c.self.inside.program c.self.inside.journal ≡ Some m → IsSound m =
-    subst (λ (b : BookKept). (m : Numbered) → solution b ≡ Some m → IsSound m) (sym c.self.view_is) c.is_sound.ensures in
+    let sound : (m : Numbered) → replay c.self.inside.program c.self.inside.journal ≡ Some m
+    → IsSound m =
+    subst (λ (b : BookKept). (m : Numbered) → solution b ≡ Some m → IsSound m) (sym c.self.view_is)
+    c.is_sound.ensures in
     let o = replay c.self.inside.program c.self.inside.journal in
     let old = c.self.inside.older.table in
     let n = c.self.inside.solution in
@@ -34,12 +38,16 @@ all_left-requires-clause-sound c =
 
 pub returns : goal.returns
 returns c =
-    let sound : (m : Numbered) → replay c.self.inside.program c.self.inside.journal ≡ Some m → IsSound m =
-    subst (λ (b : BookKept). (m : Numbered) → solution b ≡ Some m → IsSound m) (sym c.self.view_is) c.is_sound.ensures in
+    let sound : (m : Numbered) → replay c.self.inside.program c.self.inside.journal ≡ Some m
+    → IsSound m =
+    subst (λ (b : BookKept). (m : Numbered) → solution b ≡ Some m → IsSound m) (sym c.self.view_is)
+    c.is_sound.ensures in
     let o = replay c.self.inside.program c.self.inside.journal in
     let old = c.self.inside.older.table in
     let n = c.self.inside.solution in
     let h = c.self.invariant.0 in
     let leads : solution c.args.self.now ≡ Some h.left = rw (← c.self.view_is) h.replays in
-    IfOk-weaker c.all_left.result (AreLeft (whole old n)) (λ lefts. OnItsSolution c.args.self.now (λ m. AreLeft m lefts))
-    (λ lefts is. all_left_book c.args.self.now h.left leads lefts (all_left_in o old n h (possible_whole o old n h sound) lefts is)) c.all_left.ensures
+    IfOk-weaker c.all_left.result (AreLeft (whole old n))
+    (λ lefts. OnItsSolution c.args.self.now (λ m. AreLeft m lefts))
+    (λ lefts is. all_left_book c.args.self.now h.left leads lefts
+    (all_left_in o old n h (possible_whole o old n h sound) lefts is)) c.all_left.ensures

@@ -1,5 +1,6 @@
 -- The journal with the event at its end replays to what the event makes, which is a reduction away.
-use Rattle.std.proofs.Common.{◌≡◌, Some, None, [], ◌∷◌, ℕ, List, length, take, ap, sym, ◌∙◌, subst, is_some}
+use Rattle.std.proofs.Common.{◌≡◌, Some, None, [], ◌∷◌, ℕ, List, length, take, ap, sym, ◌∙◌, subst}
+use Rattle.std.proofs.Common.{is_some}
 use Rattle.std.proofs.Math.Seq.{take-append_seam}
 use Rattle.chem_model.specs.declared.event.Event.{Event}
 use Rattle.chem_model.specs.declared.numbered.Numbered.{Numbered}
@@ -9,113 +10,167 @@ use Rattle.trace_history.specs.Kept.{BookKept, solution}
 use Rattle.trace_history.specs.inside.Older.{Holds}
 use Rattle.trace_history.specs.inside.Waiting.{AreFiled}
 use Rattle.trace_history.proofs.Replays.{replaced, replay_pushed, unchanged}
-use Rattle.trace_history.proofs.Holding.{holds_on, left_sound, base_sound, event_made, event_not_made, not_replaced, enabled_in, commits_place, commits_none}
+use Rattle.trace_history.proofs.Holding.{holds_on, left_sound, base_sound, event_made}
+use Rattle.trace_history.proofs.Holding.{event_not_made, not_replaced, enabled_in, commits_place}
+use Rattle.trace_history.proofs.Holding.{commits_none}
 use Rattle.trace_history.proofs.Quiets.{one_reduction}
 use Rattle.trace_history.proofs.Behind.{filed_after}
 use Rattle.trace_history.proofs.book.Book.commit.Goals as goal
 
 pub make_event-requires : goal.make_event-requires
 make_event-requires c =
-    let sound : (m : Numbered) → replay c.self.inside.program c.self.inside.journal ≡ Some m → IsSound m =
-    subst (λ (b : BookKept). (m : Numbered) → solution b ≡ Some m → IsSound m) (sym c.self.view_is) c.is_sound.ensures in
+    let sound : (m : Numbered) → replay c.self.inside.program c.self.inside.journal ≡ Some m
+    → IsSound m =
+    subst (λ (b : BookKept). (m : Numbered) → solution b ≡ Some m → IsSound m) (sym c.self.view_is)
+    c.is_sound.ensures in
     let o = replay c.self.inside.program c.self.inside.journal in
     let old = c.ready.new.older.table in
     let n : Numbered = record c.self.inside.solution { atoms = c.ready.new.atoms } in
-    let h : Holds o old n = holds_on o c.self.inside.older.table old c.ready.new.atoms c.self.inside.solution c.self.invariant.0 c.in_ok-ready.ensures.keeps in
+    let h : Holds o old n = holds_on o c.self.inside.older.table old
+    c.ready.new.atoms c.self.inside.solution c.self.invariant.0 c.in_ok-ready.ensures.keeps in
     base_sound o old n h sound
 
 pub invariant_of-self-in-Ok-true : goal.invariant_of-self-in-Ok-true
 invariant_of-self-in-Ok-true c =
-    let sound : (m : Numbered) → replay c.self.inside.program c.self.inside.journal ≡ Some m → IsSound m =
-    subst (λ (b : BookKept). (m : Numbered) → solution b ≡ Some m → IsSound m) (sym c.self.view_is) c.is_sound.ensures in
+    let sound : (m : Numbered) → replay c.self.inside.program c.self.inside.journal ≡ Some m
+    → IsSound m =
+    subst (λ (b : BookKept). (m : Numbered) → solution b ≡ Some m → IsSound m) (sym c.self.view_is)
+    c.is_sound.ensures in
     let o = replay c.self.inside.program c.self.inside.journal in
     let old = c.ready.new.older.table in
     let n : Numbered = record c.self.inside.solution { atoms = c.ready.new.atoms } in
-    let h : Holds o old n = holds_on o c.self.inside.older.table old c.ready.new.atoms c.self.inside.solution c.self.invariant.0 c.in_ok-ready.ensures.keeps in
+    let h : Holds o old n = holds_on o c.self.inside.older.table old
+    c.ready.new.atoms c.self.inside.solution c.self.invariant.0 c.in_ok-ready.ensures.keeps in
     let e = c.args.event.now in
     let after = c.make_event.new.solution in
-    let made : apply n e ≡ Some after = replaced _ n after c.in-Ok-true.field-0 c.in-Ok-true.ensures.done c.in-Ok-true.field-0-test in
-    let m = event_made o old n h sound c.event_is_a_reduction.ensures e after c.in_ok-ready.ensures.gone made in
+    let made : apply n e ≡ Some after =
+    replaced _ n after c.in-Ok-true.field-0 c.in-Ok-true.ensures.done c.in-Ok-true.field-0-test in
+    let m = event_made o old n h sound c.event_is_a_reduction.ensures e after
+    c.in_ok-ready.ensures.gone made in
     let pushed : replay c.self.inside.program c.push.new.self ≡ Some m.after =
-    replay_pushed c.self.inside.program c.self.inside.journal c.push.new.self e c.in_ok-copy.copy h.left m.after h.replays c.in_ok-push.ensures.ok c.in_ok-copy.ensures m.applied in (
+    replay_pushed c.self.inside.program c.self.inside.journal c.push.new.self e c.in_ok-copy.copy
+    h.left m.after h.replays c.in_ok-push.ensures.ok c.in_ok-copy.ensures m.applied in (
       m.holds (replay c.self.inside.program c.push.new.self) pushed,
-      filed_after c.file.new.waiting.heads.items c.file.new.waiting.links.items n after e made c.file.ensures,
+      filed_after c.file.new.waiting.heads.items c.file.new.waiting.links.items n after e made
+          c.file.ensures,
       c.in_ok-ready.ensures.queued,
     )
 
 pub returns-in-Ok-true-clause-done : goal.returns-in-Ok-true-clause-done
 returns-in-Ok-true-clause-done c =
-    let sound : (m : Numbered) → replay c.self.inside.program c.self.inside.journal ≡ Some m → IsSound m =
-    subst (λ (b : BookKept). (m : Numbered) → solution b ≡ Some m → IsSound m) (sym c.self.view_is) c.is_sound.ensures in
+    let sound : (m : Numbered) → replay c.self.inside.program c.self.inside.journal ≡ Some m
+    → IsSound m =
+    subst (λ (b : BookKept). (m : Numbered) → solution b ≡ Some m → IsSound m) (sym c.self.view_is)
+    c.is_sound.ensures in
     let o = replay c.self.inside.program c.self.inside.journal in
     let old = c.ready.new.older.table in
     let n : Numbered = record c.self.inside.solution { atoms = c.ready.new.atoms } in
-    let h : Holds o old n = holds_on o c.self.inside.older.table old c.ready.new.atoms c.self.inside.solution c.self.invariant.0 c.in_ok-ready.ensures.keeps in
+    let h : Holds o old n = holds_on o c.self.inside.older.table old
+    c.ready.new.atoms c.self.inside.solution c.self.invariant.0 c.in_ok-ready.ensures.keeps in
     let e = c.args.event.now in
     let after = c.make_event.new.solution in
-    let made : apply n e ≡ Some after = replaced _ n after c.in-Ok-true.field-0 c.in-Ok-true.ensures.done c.in-Ok-true.field-0-test in
-    let m = event_made o old n h sound c.event_is_a_reduction.ensures e after c.in_ok-ready.ensures.gone made in
+    let made : apply n e ≡ Some after =
+    replaced _ n after c.in-Ok-true.field-0 c.in-Ok-true.ensures.done c.in-Ok-true.field-0-test in
+    let m = event_made o old n h sound c.event_is_a_reduction.ensures e after
+    c.in_ok-ready.ensures.gone made in
     let leads : solution c.args.self.now ≡ Some h.left = rw (← c.self.view_is) h.replays in
-    commits_place c.args.self.now c.self.inside.program c.self.inside.journal c.push.new.self e c.in_ok-copy.copy c.len-place.result c.self.view_is
-    (enabled_in c.args.self.now h.left e leads ∙ ap is_some m.applied) c.in_ok-push.ensures.ok c.in_ok-copy.ensures c.len-place.ensures.count
+    commits_place c.args.self.now c.self.inside.program c.self.inside.journal c.push.new.self e
+    c.in_ok-copy.copy c.len-place.result c.self.view_is
+    (enabled_in c.args.self.now h.left e leads ∙ ap is_some m.applied)
+    c.in_ok-push.ensures.ok c.in_ok-copy.ensures c.len-place.ensures.count
 
 pub returns-in-Ok-true-clause-reduction : goal.returns-in-Ok-true-clause-reduction
 returns-in-Ok-true-clause-reduction c =
-    let sound : (m : Numbered) → replay c.self.inside.program c.self.inside.journal ≡ Some m → IsSound m =
-    subst (λ (b : BookKept). (m : Numbered) → solution b ≡ Some m → IsSound m) (sym c.self.view_is) c.is_sound.ensures in
+    let sound : (m : Numbered) → replay c.self.inside.program c.self.inside.journal ≡ Some m
+    → IsSound m =
+    subst (λ (b : BookKept). (m : Numbered) → solution b ≡ Some m → IsSound m) (sym c.self.view_is)
+    c.is_sound.ensures in
     let o = replay c.self.inside.program c.self.inside.journal in
     let old = c.ready.new.older.table in
     let n : Numbered = record c.self.inside.solution { atoms = c.ready.new.atoms } in
-    let h : Holds o old n = holds_on o c.self.inside.older.table old c.ready.new.atoms c.self.inside.solution c.self.invariant.0 c.in_ok-ready.ensures.keeps in
+    let h : Holds o old n = holds_on o c.self.inside.older.table old
+    c.ready.new.atoms c.self.inside.solution c.self.invariant.0 c.in_ok-ready.ensures.keeps in
     let e = c.args.event.now in
     let after = c.make_event.new.solution in
-    let made : apply n e ≡ Some after = replaced _ n after c.in-Ok-true.field-0 c.in-Ok-true.ensures.done c.in-Ok-true.field-0-test in
-    let m = event_made o old n h sound c.event_is_a_reduction.ensures e after c.in_ok-ready.ensures.gone made in
+    let made : apply n e ≡ Some after =
+    replaced _ n after c.in-Ok-true.field-0 c.in-Ok-true.ensures.done c.in-Ok-true.field-0-test in
+    let m = event_made o old n h sound c.event_is_a_reduction.ensures e after
+    c.in_ok-ready.ensures.gone made in
     let pushed : replay c.self.inside.program c.push.new.self ≡ Some m.after =
-    replay_pushed c.self.inside.program c.self.inside.journal c.push.new.self e c.in_ok-copy.copy h.left m.after h.replays c.in_ok-push.ensures.ok c.in_ok-copy.ensures m.applied in
+    replay_pushed c.self.inside.program c.self.inside.journal c.push.new.self e c.in_ok-copy.copy
+    h.left m.after h.replays c.in_ok-push.ensures.ok c.in_ok-copy.ensures m.applied in
     let leads : solution c.args.self.now ≡ Some h.left = rw (← c.self.view_is) h.replays in
-    one_reduction c.event_is_a_reduction.ensures (solution c.args.self.now) (replay c.self.inside.program c.push.new.self) h.left m.after e leads pushed m.applied (left_sound o old n h sound)
+    one_reduction c.event_is_a_reduction.ensures (solution c.args.self.now)
+    (replay c.self.inside.program c.push.new.self) h.left m.after e leads pushed
+    m.applied (left_sound o old n h sound)
 
 pub invariant_of-self-in-Ok-false : goal.invariant_of-self-in-Ok-false
 invariant_of-self-in-Ok-false c =
     let o = replay c.self.inside.program c.self.inside.journal in
     let old = c.ready.new.older.table in
     let n : Numbered = record c.self.inside.solution { atoms = c.ready.new.atoms } in
-    let h : Holds o old n = holds_on o c.self.inside.older.table old c.ready.new.atoms c.self.inside.solution c.self.invariant.0 c.in_ok-ready.ensures.keeps in
+    let h : Holds o old n = holds_on o c.self.inside.older.table old
+    c.ready.new.atoms c.self.inside.solution c.self.invariant.0 c.in_ok-ready.ensures.keeps in
     let journal = c.self.inside.journal in
-    let back : c.truncate.new.self ≡ journal = c.truncate.ensures ∙ ap (λ (k : ℕ). take k c.push.new.self) c.len-place.ensures.count ∙ ap (take (length journal)) c.in_ok-push.ensures.ok ∙ take-append_seam journal (c.in_ok-copy.copy ∷ []) in
-    let same : n ≡ c.make_event.new.solution = sym (unchanged _ n c.make_event.new.solution c.in-Ok-false.field-0 c.in-Ok-false.ensures.done c.in-Ok-false.field-0-test) in (
-      subst (λ (l : List Event). Holds (replay c.self.inside.program l) old c.make_event.new.solution) (sym back) (subst (λ (x : Numbered). Holds o old x) same h),
-      subst (λ (x : Numbered). AreFiled c.file.new.waiting.heads.items c.file.new.waiting.links.items x.rules) same c.file.ensures,
+    let back : c.truncate.new.self ≡ journal =
+    c.truncate.ensures ∙ ap (λ (k : ℕ). take k c.push.new.self) c.len-place.ensures.count
+    ∙ ap (take (length journal)) c.in_ok-push.ensures.ok
+    ∙ take-append_seam journal (c.in_ok-copy.copy ∷ []) in
+    let same : n ≡ c.make_event.new.solution =
+    sym (unchanged _ n c.make_event.new.solution c.in-Ok-false.field-0 c.in-Ok-false.ensures.done
+    c.in-Ok-false.field-0-test) in (
+      subst
+          (λ (l : List Event). Holds (replay c.self.inside.program l) old c.make_event.new.solution)
+          (sym back) (subst (λ (x : Numbered). Holds o old x) same h),
+      subst (λ (x : Numbered).
+          AreFiled c.file.new.waiting.heads.items c.file.new.waiting.links.items x.rules) same
+          c.file.ensures,
       c.in_ok-ready.ensures.queued,
     )
 
 pub returns-in-Ok-false-clause-done : goal.returns-in-Ok-false-clause-done
 returns-in-Ok-false-clause-done c =
-    let sound : (m : Numbered) → replay c.self.inside.program c.self.inside.journal ≡ Some m → IsSound m =
-    subst (λ (b : BookKept). (m : Numbered) → solution b ≡ Some m → IsSound m) (sym c.self.view_is) c.is_sound.ensures in
+    let sound : (m : Numbered) → replay c.self.inside.program c.self.inside.journal ≡ Some m
+    → IsSound m =
+    subst (λ (b : BookKept). (m : Numbered) → solution b ≡ Some m → IsSound m) (sym c.self.view_is)
+    c.is_sound.ensures in
     let o = replay c.self.inside.program c.self.inside.journal in
     let old = c.ready.new.older.table in
     let n : Numbered = record c.self.inside.solution { atoms = c.ready.new.atoms } in
-    let h : Holds o old n = holds_on o c.self.inside.older.table old c.ready.new.atoms c.self.inside.solution c.self.invariant.0 c.in_ok-ready.ensures.keeps in
+    let h : Holds o old n = holds_on o c.self.inside.older.table old
+    c.ready.new.atoms c.self.inside.solution c.self.invariant.0 c.in_ok-ready.ensures.keeps in
     let journal = c.self.inside.journal in
-    let back : c.truncate.new.self ≡ journal = c.truncate.ensures ∙ ap (λ (k : ℕ). take k c.push.new.self) c.len-place.ensures.count ∙ ap (take (length journal)) c.in_ok-push.ensures.ok ∙ take-append_seam journal (c.in_ok-copy.copy ∷ []) in
+    let back : c.truncate.new.self ≡ journal =
+    c.truncate.ensures ∙ ap (λ (k : ℕ). take k c.push.new.self) c.len-place.ensures.count
+    ∙ ap (take (length journal)) c.in_ok-push.ensures.ok
+    ∙ take-append_seam journal (c.in_ok-copy.copy ∷ []) in
     let leads : solution c.args.self.now ≡ Some h.left = rw (← c.self.view_is) h.replays in
     let e = c.args.event.now in
-    let not : apply n e ≡ None = not_replaced _ n c.make_event.new.solution c.in-Ok-false.field-0 c.in-Ok-false.ensures.done c.in-Ok-false.field-0-test in
+    let not : apply n e ≡ None =
+    not_replaced _ n c.make_event.new.solution c.in-Ok-false.field-0 c.in-Ok-false.ensures.done
+    c.in-Ok-false.field-0-test in
     commits_none c.args.self.now c.self.inside.program journal c.truncate.new.self e c.self.view_is
-    (enabled_in c.args.self.now h.left e leads ∙ event_not_made o old n h sound e c.in_ok-ready.ensures.gone not) back
+    (enabled_in c.args.self.now h.left e leads
+    ∙ event_not_made o old n h sound e c.in_ok-ready.ensures.gone not) back
 
 pub invariant_of-self-in-Err : goal.invariant_of-self-in-Err
 invariant_of-self-in-Err c =
     let o = replay c.self.inside.program c.self.inside.journal in
     let old = c.ready.new.older.table in
     let n : Numbered = record c.self.inside.solution { atoms = c.ready.new.atoms } in
-    let h : Holds o old n = holds_on o c.self.inside.older.table old c.ready.new.atoms c.self.inside.solution c.self.invariant.0 c.in_ok-ready.ensures.keeps in
+    let h : Holds o old n = holds_on o c.self.inside.older.table old
+    c.ready.new.atoms c.self.inside.solution c.self.invariant.0 c.in_ok-ready.ensures.keeps in
     let journal = c.self.inside.journal in
-    let back : c.truncate-in-Err.new.self ≡ journal = c.truncate-in-Err.ensures ∙ ap (λ (k : ℕ). take k c.push.new.self) c.len-place.ensures.count ∙ ap (take (length journal)) c.in_ok-push.ensures.ok ∙ take-append_seam journal (c.in_ok-copy.copy ∷ []) in
+    let back : c.truncate-in-Err.new.self ≡ journal =
+    c.truncate-in-Err.ensures ∙ ap (λ (k : ℕ). take k c.push.new.self) c.len-place.ensures.count
+    ∙ ap (take (length journal)) c.in_ok-push.ensures.ok
+    ∙ take-append_seam journal (c.in_ok-copy.copy ∷ []) in
     let same : n ≡ c.make_event.new.solution = sym c.in-Err.ensures.err in (
-      subst (λ (l : List Event). Holds (replay c.self.inside.program l) old c.make_event.new.solution) (sym back) (subst (λ (x : Numbered). Holds o old x) same h),
-      subst (λ (x : Numbered). AreFiled c.file.new.waiting.heads.items c.file.new.waiting.links.items x.rules) same c.file.ensures,
+      subst
+          (λ (l : List Event). Holds (replay c.self.inside.program l) old c.make_event.new.solution)
+          (sym back) (subst (λ (x : Numbered). Holds o old x) same h),
+      subst (λ (x : Numbered).
+          AreFiled c.file.new.waiting.heads.items c.file.new.waiting.links.items x.rules) same
+          c.file.ensures,
       c.in_ok-ready.ensures.queued,
     )

@@ -5,4 +5,5 @@ use Rattle.trace_history.proofs.DifferLaws.{different}
 use Rattle.trace_history.proofs.table.AtomTable.are_different.Goals as goal
 
 pub returns : goal.returns
-returns c = subst (λ (l : List NumberedAtom). AtomsDiffer l) c.self.view_is (different c.self.inside.map.entries c.len-count.ensures.ordered c.self.invariant)
+returns c = subst (λ (l : List NumberedAtom). AtomsDiffer l) c.self.view_is
+    (different c.self.inside.map.entries c.len-count.ensures.ordered c.self.invariant)

@@ -4,4 +4,5 @@ use Rattle.trace_history.proofs.TableLaws.{lookup_atom}
 use Rattle.trace_history.proofs.table.AtomTable.get.Goals as goal
 
 pub returns : goal.returns
-returns c = c.get.ensures.value ∙ lookup_atom c.args.id c.self.inside.map.entries c.self.invariant ∙ ap (λ l. atom_at l c.args.id) c.self.view_is
+returns c = c.get.ensures.value ∙ lookup_atom c.args.id c.self.inside.map.entries c.self.invariant
+    ∙ ap (λ l. atom_at l c.args.id) c.self.view_is
