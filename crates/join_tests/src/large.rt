@@ -1,4 +1,4 @@
-// A program with as many sites as there may be, by each command.
+// Programs with as many sites or levels as there may be, by each command.
 ghost use denote.Param.Send.{IsSync};
 
 use crate::outcome::{call, expect_bytes};
@@ -9,7 +9,40 @@ use std::sync::Wait;
 use std::test::Fail;
 use std::thread::Threads;
 
-// A text of version 2 with so many sites, fewer than 1,000.
+/// That a text ends so with these words.
+fn expect_with<R: AllocGlobal + Abort + Threads + Wait + Sync>(
+    rt: &R,
+    words: &[&str],
+    text: &[u8],
+    status: u8,
+    out: &[u8],
+    err: &[u8],
+) -> Result<(), Fail>
+    requires { IsSync R.row }
+{
+    let run = call(rt, words, text)?;
+    run.expect_status(rt, status);
+    expect_bytes(rt, run.out.as_slice(), out);
+    expect_bytes(rt, run.err.as_slice(), err);
+    Ok(())
+}
+
+/// That a text ends so by each command.
+fn expect_so<R: AllocGlobal + Abort + Threads + Wait + Sync>(
+    rt: &R,
+    text: &[u8],
+    status: u8,
+    out: &[u8],
+    err: &[u8],
+) -> Result<(), Fail>
+    requires { IsSync R.row }
+{
+    expect_with(rt, &["alone"], text, status, out, err)?;
+    expect_with(rt, &["rounds"], text, status, out, err)?;
+    expect_with(rt, &["run"], text, status, out, err)
+}
+
+/// A text of version 2 with so many sites, fewer than 1,000.
 fn sites(alloc: Global, count: u32) -> Result<Vec<u8>, AllocError> {
     let mut text = Vec::new(alloc);
     text.extend_from_slice(b"version 2; ")?;
@@ -23,33 +56,67 @@ fn sites(alloc: Global, count: u32) -> Result<Vec<u8>, AllocError> {
     Ok(text)
 }
 
-// That a text of so many sites ends so.
-fn expect_so<R: AllocGlobal + Abort + Threads + Wait + Sync>(
-    rt: &R,
-    words: &[&str],
-    count: u32,
-    status: u8,
-    out: &[u8],
-    err: &[u8],
-) -> Result<(), Fail>
-    requires { IsSync R.row }
-{
-    let text = sites(rt.alloc(), count)?;
-    let run = call(rt, words, text.as_slice())?;
-    run.expect_status(rt, status);
-    expect_bytes(rt, run.out.as_slice(), out);
-    expect_bytes(rt, run.err.as_slice(), err);
-    Ok(())
-}
-
 #[test]
 fn as_many_sites_as_there_may_be(rt: HostRuntime) -> Result<(), Fail> {
-    expect_so(&rt, &["alone"], 256, 0, b"quiescent\n", b"")?;
-    expect_so(&rt, &["rounds"], 256, 0, b"quiescent\n", b"")?;
-    expect_so(&rt, &["run"], 256, 0, b"quiescent\n", b"")
+    let text = sites(rt.alloc(), 256)?;
+    expect_so(&rt, text.as_slice(), 0, b"quiescent\n", b"")
 }
 
 #[test]
 fn one_site_too_many(rt: HostRuntime) -> Result<(), Fail> {
-    expect_so(&rt, &["alone"], 257, 1, b"", b"scope 6 at 4875\n")
+    let text = sites(rt.alloc(), 257)?;
+    expect_so(&rt, text.as_slice(), 1, b"", b"scope 6 at 4875\n")
+}
+
+fn push_times(text: &mut Vec<u8>, count: u32, piece: &[u8]) -> Result<(), AllocError> {
+    for _time in 0..count {
+        text.extend_from_slice(piece)?;
+    }
+    Ok(())
+}
+
+/// A text of version 2 with a rule within the body of a rule, and so on, so many and one deep. Each
+/// reaction makes the next rule, and a message for it that hands on the name received; the last
+/// shows the name.
+fn rules(alloc: Global, count: u32) -> Result<Vec<u8>, AllocError> {
+    let mut text = Vec::new(alloc);
+    text.extend_from_slice(b"version 2; observe out/1; site s [ none : def a(u) => ")?;
+    push_times(&mut text, count, b"def a(u) => ")?;
+    text.extend_from_slice(b"out(u)")?;
+    push_times(&mut text, count, b" in a(u)")?;
+    text.extend_from_slice(b" in a(s) ]")?;
+    Ok(text)
+}
+
+/// That as many levels of rules as there may be are run to the last one by these words. The site
+/// opens the first of 400 levels, and each rule one more.
+fn expect_all_levels<R: AllocGlobal + Abort + Threads + Wait + Sync>(
+    rt: &R,
+    words: &[&str],
+) -> Result<(), Fail>
+    requires { IsSync R.row }
+{
+    let text = rules(rt.alloc(), 398)?;
+    expect_with(rt, words, text.as_slice(), 0, b"out(s)\nquiescent\n", b"")
+}
+
+#[test]
+fn all_levels_of_rules_alone(rt: HostRuntime) -> Result<(), Fail> {
+    expect_all_levels(&rt, &["alone"])
+}
+
+#[test]
+fn all_levels_of_rules_in_rounds(rt: HostRuntime) -> Result<(), Fail> {
+    expect_all_levels(&rt, &["rounds"])
+}
+
+#[test]
+fn all_levels_of_rules_on_free_threads(rt: HostRuntime) -> Result<(), Fail> {
+    expect_all_levels(&rt, &["run"])
+}
+
+#[test]
+fn one_level_of_rules_too_many(rt: HostRuntime) -> Result<(), Fail> {
+    let text = rules(rt.alloc(), 399)?;
+    expect_so(&rt, text.as_slice(), 1, b"", b"grammar 2 at 4830\n")
 }

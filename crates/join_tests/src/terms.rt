@@ -2,8 +2,8 @@
 
 use crate::outcome::{ended_alone, expect_bytes, kept_of};
 use chem_model::{
-    AtomId, Defn, DefnNode, Defs, Event, Items, Journal, Loc, Memory, Name, Names, Out, Outs, Proc,
-    ProcNode, Program, Ref, RuleId,
+    AtomId, Defn, DefnNode, Defs, Event, Items, Journal, Loc, Memory, Name, Names, Out, Outs, Pat,
+    Pats, Proc, ProcNode, Program, Ref, RuleId,
 };
 use chem_plain::replay;
 use join_top::Kept;
@@ -28,8 +28,42 @@ fn nested(alloc: Global, levels: u32) -> Result<Proc, Memory> {
 }
 
 #[test]
-fn two_hundred_levels_are_copied_and_dropped(rt: HostRuntime) -> Result<(), Fail> {
-    let process = nested(rt.alloc(), 200)?;
+fn four_hundred_levels_are_copied_and_dropped(rt: HostRuntime) -> Result<(), Fail> {
+    let process = nested(rt.alloc(), 400)?;
+    let _copy = process.copy(rt.alloc())?;
+    Ok(())
+}
+
+/// `b()`, as the pattern of a rule.
+fn a_pattern(alloc: Global) -> Result<Pats, Memory> {
+    let mut pats: Pats = Items::new(alloc);
+    pats.push(Pat {
+        on: Ref::Binder(4),
+        params: Items::new(alloc),
+    })?;
+    Ok(pats)
+}
+
+/// `def b() => process in 0`.
+fn one_rule(alloc: Global, process: Proc) -> Result<Proc, Memory> {
+    let rule = Defn::rule(alloc, a_pattern(alloc)?, process)?;
+    let mut defs: Defs = Items::new(alloc);
+    defs.push(rule)?;
+    Proc::def(alloc, defs, Proc::par(Items::new(alloc)))
+}
+
+/// A rule in the body of a rule, and so on, so many levels deep.
+fn nested_rules(alloc: Global, levels: u32) -> Result<Proc, Memory> {
+    let mut process = Proc::halt();
+    for _level in 0..levels {
+        process = one_rule(alloc, process)?;
+    }
+    Ok(process)
+}
+
+#[test]
+fn four_hundred_levels_of_rules_are_copied_and_dropped(rt: HostRuntime) -> Result<(), Fail> {
+    let process = nested_rules(rt.alloc(), 400)?;
     let _copy = process.copy(rt.alloc())?;
     Ok(())
 }
