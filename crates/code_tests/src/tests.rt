@@ -7,20 +7,20 @@ use std::alloc::{AllocError, Global};
 
 const ROOT: Loc = Loc { site: 0, k: 0 };
 
-/// The channel `x` of the first example.
+// The channel `x` of the first example.
 const CHANNEL: Name = Name::Chan {
     site: 0,
     k: 1,
     home: ROOT,
 };
 
-/// The root as an argument.
+// The root as an argument.
 const AT_ROOT: Slot = Slot::Known(Name::Place(ROOT));
 
-/// The observed name of the first declaration.
+// The observed name of the first declaration.
 const OBSERVED: Slot = Slot::Known(Name::Seen(0));
 
-/// The level of the first example and its guard, and the bodies of its rule and of its site.
+// The level of the first example and its guard, and the bodies of its rule and of its site.
 fn first_example() -> &'static [Fact] {
     &[
         Fact::Sizes([1, 1, 1, 2, 1]),
@@ -42,7 +42,7 @@ fn the_first_example(rt: HostRuntime) {
     assert!(rt; has_top_names(rt.alloc(), text, &[Name::Place(ROOT), CHANNEL]));
 }
 
-/// The rule receives `u`, and the block within names the inner `x`.
+// The rule receives `u`, and the block within names the inner `x`.
 fn inner_name() -> &'static [Fact] {
     &[
         Fact::Sizes([2, 2, 2, 3, 1]),
@@ -60,8 +60,8 @@ fn the_inner_name_hides_the_outer_one(rt: HostRuntime) {
     expect_code(&rt, rt.alloc(), text, inner_name());
 }
 
-/// A `def` within a rule within a `def`, two places, and 65 channels in the site's level: `a`, and
-/// `q1` to `q64` in one pattern.
+// A `def` within a rule within a `def`, two places, and 65 channels in the site's level: `a`, and
+// `q1` to `q64` in one pattern.
 fn nested() -> &'static [u8] {
     b"observe out/1; site s [ a() => def b(u) => def c() => out(u) in c() \
       and m[ k() => b(m) : k() ] and n[ none : b(n) ] in b(s) and \
@@ -75,9 +75,9 @@ fn nested() -> &'static [u8] {
       => 0 : a() ]"
 }
 
-/// The levels are the site's, the outer `def`'s, the inner one's, and those of `m` and `n`. The
-/// names of the outer block are `b`, `m`, `k` and `n`, and the inner rule stands
-/// under these, `u` and `c`.
+// The levels are the site's, the outer `def`'s, the inner one's, and those of `m` and `n`. The
+// names of the outer block are `b`, `m`, `k` and `n`, and the inner rule stands
+// under these, `u` and `c`.
 fn nested_levels() -> &'static [Fact] {
     &[
         Fact::Sizes([5, 5, 3, 8, 1]),
@@ -104,7 +104,7 @@ fn levels_and_guards(rt: HostRuntime) {
     expect_code(&rt, rt.alloc(), nested(), nested_levels());
 }
 
-/// The bodies of the rules of `a`, `b`, `c` and `k`, and of the places.
+// The bodies of the rules of `a`, `b`, `c` and `k`, and of the places.
 fn nested_bodies() -> &'static [Fact] {
     &[
         Fact::Enter(Body::Rule(0), 0, 4),
@@ -132,15 +132,15 @@ fn write_deep(text: &mut Vec<u8>, definitions: usize) -> Result<(), AllocError> 
     text.extend_from_slice(b"a() ]")
 }
 
-/// `def a() => 0 in def a() => 0 in .. a()`, so many of them, as the process of a site.
+// `def a() => 0 in def a() => 0 in .. a()`, so many of them, as the process of a site.
 fn deep(alloc: Global, definitions: usize) -> Result<Vec<u8>, AllocError> {
     let mut text = Vec::new(alloc);
     write_deep(&mut text, definitions)?;
     Ok(text)
 }
 
-/// The site opens the first of the 400 levels that a text of version 2 may have. Each has a block;
-/// each but the site's has a rule, and the bodies are those of the rules and of the site.
+// The site opens the first of the 400 levels that a text of version 2 may have. Each has a block;
+// each but the site's has a rule, and the bodies are those of the rules and of the site.
 #[test]
 fn four_hundred_levels_fit_the_stack(rt: HostRuntime) {
     match deep(rt.alloc(), 399) {

@@ -9,7 +9,7 @@ use std::sync::Wait;
 use std::test::Fail;
 use std::thread::Threads;
 
-/// That a text ends so with these words.
+// That a text ends so with these words.
 fn expect_with<R: AllocGlobal + Abort + Threads + Wait + Sync>(
     rt: &R,
     words: &[&str],
@@ -27,7 +27,7 @@ fn expect_with<R: AllocGlobal + Abort + Threads + Wait + Sync>(
     Ok(())
 }
 
-/// That a text ends so by each command.
+// That a text ends so by each command.
 fn expect_so<R: AllocGlobal + Abort + Threads + Wait + Sync>(
     rt: &R,
     text: &[u8],
@@ -42,7 +42,7 @@ fn expect_so<R: AllocGlobal + Abort + Threads + Wait + Sync>(
     expect_with(rt, &["run"], text, status, out, err)
 }
 
-/// A text of version 2 with so many sites, fewer than 1,000.
+// A text of version 2 with so many sites, fewer than 1,000.
 fn sites(alloc: Global, count: u32) -> Result<Vec<u8>, AllocError> {
     let mut text = Vec::new(alloc);
     text.extend_from_slice(b"version 2; ")?;
@@ -75,9 +75,9 @@ fn push_times(text: &mut Vec<u8>, count: u32, piece: &[u8]) -> Result<(), AllocE
     Ok(())
 }
 
-/// A text of version 2 with a rule within the body of a rule, and so on, so many and one deep. Each
-/// reaction makes the next rule, and a message for it that hands on the name received; the last
-/// shows the name.
+// A text of version 2 with a rule within the body of a rule, and so on, so many and one deep. Each
+// reaction makes the next rule, and a message for it that hands on the name received; the last
+// shows the name.
 fn rules(alloc: Global, count: u32) -> Result<Vec<u8>, AllocError> {
     let mut text = Vec::new(alloc);
     text.extend_from_slice(b"version 2; observe out/1; site s [ none : def a(u) => ")?;
@@ -88,8 +88,8 @@ fn rules(alloc: Global, count: u32) -> Result<Vec<u8>, AllocError> {
     Ok(text)
 }
 
-/// That as many levels of rules as there may be are run to the last one by these words. The site
-/// opens the first of 400 levels, and each rule one more.
+// That as many levels of rules as there may be are run to the last one by these words. The site
+// opens the first of 400 levels, and each rule one more.
 fn expect_all_levels<R: AllocGlobal + Abort + Threads + Wait + Sync>(
     rt: &R,
     words: &[&str],

@@ -34,7 +34,7 @@ fn four_hundred_levels_are_copied_and_dropped(rt: HostRuntime) -> Result<(), Fai
     Ok(())
 }
 
-/// `b()`, as the pattern of a rule.
+// `b()`, as the pattern of a rule.
 fn a_pattern(alloc: Global) -> Result<Pats, Memory> {
     let mut pats: Pats = Items::new(alloc);
     pats.push(Pat {
@@ -44,7 +44,7 @@ fn a_pattern(alloc: Global) -> Result<Pats, Memory> {
     Ok(pats)
 }
 
-/// `def b() => process in 0`.
+// `def b() => process in 0`.
 fn one_rule(alloc: Global, process: Proc) -> Result<Proc, Memory> {
     let rule = Defn::rule(alloc, a_pattern(alloc)?, process)?;
     let mut defs: Defs = Items::new(alloc);
@@ -52,7 +52,7 @@ fn one_rule(alloc: Global, process: Proc) -> Result<Proc, Memory> {
     Proc::def(alloc, defs, Proc::par(Items::new(alloc)))
 }
 
-/// A rule in the body of a rule, and so on, so many levels deep.
+// A rule in the body of a rule, and so on, so many levels deep.
 fn nested_rules(alloc: Global, levels: u32) -> Result<Proc, Memory> {
     let mut process = Proc::halt();
     for _level in 0..levels {
