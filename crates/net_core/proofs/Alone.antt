@@ -295,7 +295,7 @@ module _ (t : Tree) (s new : Site) (f : Flight) where
       (sym to) from
 
   one_arrives : (target : Option ℕ) (more : List Flight) → is_channel m.on ≡ true
-      → IsBroughtTo t s m target new → GoesOn f target more
+      → IsBroughtTo t s m target new → GoesOn f.bytes target more
       → WorksOff (bare t) s (carried f ∷ []) (all_carried more) new
   one_arrives None more is b g =
       subst (λ (fs : List Flight). WorksOff (bare t) s (carried f ∷ []) (all_carried fs) new)
@@ -304,8 +304,8 @@ module _ (t : Tree) (s new : Site) (f : Flight) where
       subst (λ (fs : List Flight). WorksOff (bare t) s (carried f ∷ []) (all_carried fs) new)
       (sym g) (one_on target m.on refl is b)
 
-  more_spelled : (target : Option ℕ) (more : List Flight) → IsMessageFlight f → GoesOn f target more
-      → Each IsMessageFlight more
+  more_spelled : (target : Option ℕ) (more : List Flight) → IsMessageFlight f
+      → GoesOn f.bytes target more → Each IsMessageFlight more
   more_spelled None more spelled g = subst (Each IsMessageFlight) (sym g) tt
   more_spelled (Some target) more spelled g = subst (Each IsMessageFlight) (sym g) (spelled, tt)
 

@@ -15,8 +15,8 @@ use Rattle.wire_packet.proofs.Laws.{spelled}
 use Rattle.wire_packet.proofs.Whole.{spells}
 use Rattle.net_laws.specs.Net.{Addressed, without_packet}
 use Rattle.site_solution.specs.Answers.{IsFlightOf, AreFlights}
-use Rattle.net_core.specs.Parts.{message_in, message_read, carried, all_carried, IsMessageFlight}
-use Rattle.net_core.specs.inside.Pieces.{without}
+use Rattle.net_core.specs.Parts.{without, message_in, message_read, carried, all_carried}
+use Rattle.net_core.specs.Parts.{IsMessageFlight}
 
 -- the message that bytes spell is the one whose spelling they are
 pub message_spelled : (m : MessageParts) (bytes : List ℕ) → IsSpelledBy (packet.Message m) bytes

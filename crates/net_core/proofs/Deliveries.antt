@@ -2,7 +2,7 @@
 use Rattle.std.proofs.Common.{◌≡◌, ℕ, zero, suc, ◌+◌, ◌<◌, Bool, true, false, cond, List, [], ◌∷◌}
 use Rattle.std.proofs.Common.{◌++◌, Option, Some, None, Result, Ok, Err, length, slice_get, refl}
 use Rattle.std.proofs.Common.{sym, ap, ◌∙◌, subst, arith, length-append}
-use Rattle.std.specs.Prelude.{slice_set, slice_index_or, ◌-◌, IfOk}
+use Rattle.std.specs.Prelude.{slice_set, slice_index_or, ◌-◌, ◌^◌, IfOk}
 use Rattle.std.proofs.lemmas.Option.{get_or_from_slice_get}
 use Rattle.chem_model.specs.declared.name.Loc.{Loc}
 use Rattle.chem_model.specs.Each.{Each}
@@ -16,18 +16,20 @@ use Rattle.loc_tree.specs.Tree.{Tree, bare}
 use Rattle.net_laws.specs.Site.{Site}
 use Rattle.net_laws.specs.Net.{Addressed, Net, among, home_or, address, without_packet, IsOnItsWay}
 use Rattle.net_laws.specs.Holding.{put}
+use Rattle.net_core.specs.UnderWay.{with_packets}
 use Rattle.net_laws.proofs.Holds.{each_get}
 use Rattle.router.specs.Delivering.{home_at, can_deliver}
 use Rattle.net_core.specs.declared.parts.Parts.{Parts}
-use Rattle.net_core.specs.Parts.{joined, message_in, carried, all_carried, IsMessageFlight, net_of}
-use Rattle.net_core.specs.inside.Pieces.{without, IsPlace}
+use Rattle.net_core.specs.Parts.{joined, without, message_in, carried, all_carried, IsMessageFlight}
+use Rattle.net_core.specs.Parts.{net_of}
+use Rattle.net_core.specs.inside.Pieces.{IsPlace}
 use Rattle.net_core.specs.Whole.{AllFit, AreFlying, IsWhole, IsRunning}
 use Rattle.net_core.specs.Acting.{Delivers, delivered}
 use Rattle.net_core.specs.inside.Handing.{AreAsBefore}
 use Rattle.net_core.specs.Playing.{deliver}
 use Rattle.net_core.specs.inside.Alone.{IsReadyForCalls}
-use Rattle.net_core.specs.inside.Delivering.{IsBroughtTo, IsBrought, GoesOn, IsFlightBrought}
-use Rattle.net_core.specs.inside.Delivering.{IsFlightBroughtAt}
+use Rattle.net_core.specs.inside.Delivering.{IsBroughtTo, IsBrought, GoesOn, IsTextBrought}
+use Rattle.net_core.specs.inside.Delivering.{IsTextBroughtAt}
 use Rattle.net_core.proofs.Carrying.{carried_append, carried_without, carried_at, each_without}
 use Rattle.net_core.proofs.Deliverable.{may_be_delivered}
 use Rattle.net_core.proofs.Fitting.{fit_bare, fits_at, all_fit_set, set_same}
@@ -83,47 +85,45 @@ as_before_whole c old new events h whole = record {
 -- ---- a message that is brought
 
 -- at one of the sites, as at that site
-module _ (t : Tree) (sites : List Site) (f : Flight) (d new : Site) where
+module _ (t : Tree) (sites : List Site) (i : ℕ) (bytes : List ℕ) (d new : Site) where
   abbrev here : Site
-  here = slice_index_or sites f.target d
+  here = slice_index_or sites i d
 
-  brought_at : (s : Site) → slice_get sites f.target ≡ Some s → (o : Option ℕ)
-      → IsBroughtTo t s (message_in f.bytes) o new
-      → IsBrought t f.target s (message_in f.bytes) o sites (slice_set sites f.target new)
-  brought_at s at None b = (b.0, ap (slice_set sites f.target) b.1)
-  brought_at s at (Some target) b =
-      (b.0, b.1, ap (slice_set sites f.target) b.2 ∙ set_same sites f.target s at)
+  brought_at : (s : Site) → slice_get sites i ≡ Some s → (o : Option ℕ)
+      → IsBroughtTo t s (message_in bytes) o new
+      → IsBrought t i s (message_in bytes) o sites (slice_set sites i new)
+  brought_at s at None b = (b.0, ap (slice_set sites i) b.1)
+  brought_at s at (Some target) b = (b.0, b.1, ap (slice_set sites i) b.2 ∙ set_same sites i s at)
 
-  flight_at : (more : List Flight) → IsFlightBrought t here f more new → (s : Site)
-      → slice_get sites f.target ≡ Some s
-      → IsFlightBroughtAt t s f more sites (slice_set sites f.target new)
-  flight_at more b s at =
-      let same : here ≡ s = get_or_from_slice_get sites f.target s d at in
+  text_at : (more : List Flight) → IsTextBrought t here bytes more new → (s : Site)
+      → slice_get sites i ≡ Some s → IsTextBroughtAt t i s bytes more sites (slice_set sites i new)
+  text_at more b s at =
+      let same : here ≡ s = get_or_from_slice_get sites i s d at in
       record {
         on = b.on;
-        brought = brought_at s at b.on
-            (subst (λ (u : Site). IsBroughtTo t u (message_in f.bytes) b.on new) same b.brought);
+        brought = brought_at s at
+            b.on (subst (λ (u : Site). IsBroughtTo t u (message_in bytes) b.on new) same b.brought);
         goes = b.goes;
       }
 
-  pub flight_brought : {E : Type 0} (r : Result (List Flight) E)
-      → IfOk r (λ more. IsFlightBrought t here f more new)
-      → IfOk r (λ more. (s : Site) → slice_get sites f.target ≡ Some s
-      → IsFlightBroughtAt t s f more sites (slice_set sites f.target new))
-  flight_brought (Ok more) b = flight_at more b
-  flight_brought (Err e) b = tt
+  pub text_brought : {E : Type 0} (r : Result (List Flight) E)
+      → IfOk r (λ more. IsTextBrought t here bytes more new)
+      → IfOk r (λ more. (s : Site) → slice_get sites i ≡ Some s
+      → IsTextBroughtAt t i s bytes more sites (slice_set sites i new))
+  text_brought (Ok more) b = text_at more b
+  text_brought (Err e) b = tt
 
-  pub brought_fit : f.target < length sites
+  pub brought_fit : i < length sites
       → ((c : CodeParts) → IsReadyForCalls c t here → IsReadyForCalls c t new) → (c : CodeParts)
-      → AllFit c t sites → AllFit c t (slice_set sites f.target new)
+      → AllFit c t sites → AllFit c t (slice_set sites i new)
   brought_fit below ready c fit =
-      let at = get_some sites f.target below in
-      let fits = fits_at c t sites f.target at.0 fit at.1 in
+      let at = get_some sites i below in
+      let fits = fits_at c t sites i at.0 fit at.1 in
       let old : IsReadyForCalls c t at.0 =
       record { in_tree = fits.in_tree; in_code = fits.in_code; draws = fits.draws } in
-      let now = ready c
-      (subst (IsReadyForCalls c t) (sym (get_or_from_slice_get sites f.target at.0 d at.1)) old) in
-      all_fit_set c t sites f.target new fit
+      let now =
+      ready c (subst (IsReadyForCalls c t) (sym (get_or_from_slice_get sites i at.0 d at.1)) old) in
+      all_fit_set c t sites i new fit
       (record { in_tree = now.in_tree; in_code = now.in_code; draws = now.draws })
 
 -- ---- that it may be delivered
@@ -155,65 +155,67 @@ flight_may c p events f flight s h at here =
 
 -- ---- what it leaves
 
-pub goes_few : (f : Flight) (more : List Flight) (on : Option ℕ) → GoesOn f on more
+pub goes_few : (bytes : List ℕ) (more : List Flight) (on : Option ℕ) → GoesOn bytes on more
     → length more < 2
-goes_few f more None g = omega (arith, ap length g)
-goes_few f more (Some target) g = omega (arith, ap length g)
+goes_few bytes more None g = omega (arith, ap length g)
+goes_few bytes more (Some target) g = omega (arith, ap length g)
 
-module _ (c : CodeParts) (old new : Parts) (events f : ℕ) (flight : Flight) (on : Option ℕ)
-    (more : List Flight) (s : Site) (h : IsWhole c old events)
-    (at : slice_get (joined old.flights.items) f ≡ Some flight)
-    (here : slice_get old.sites.items flight.target ≡ Some s)
+-- of these packets one was delivered, where the parts have all the rest of the network before it
+module _ (c : CodeParts) (old new : Parts) (fs : List Flight) (f : ℕ) (flight : Flight)
+    (on : Option ℕ) (more : List Flight) (s : Site) (at : slice_get fs f ≡ Some flight)
+    (here : slice_get old.sites.items flight.target ≡ Some s) (number : s.number ≡ flight.target)
     (brought : IsBrought old.tree flight.target s (message_in flight.bytes) on
-    old.sites.items new.sites.items) (goes : GoesOn flight on more)
+    old.sites.items new.sites.items) (goes : GoesOn flight.bytes on more)
     (version : new.version ≡ old.version) (tree : new.tree ≡ old.tree)
     (trace : new.trace.items ≡ old.trace.items)
-    (flights : joined new.flights.items ≡ without f (joined old.flights.items) ++ more) where
+    (flights : joined new.flights.items ≡ without f fs ++ more) where
+  abbrev was : List ℕ → Net
+  was seen = with_packets (all_carried fs) (net_of seen old)
+
   abbrev msg : MessageParts
   msg = message_in flight.bytes
 
   abbrev home : Loc
   home = home_or (root_of flight.target) msg.on
 
-  number : s.number ≡ flight.target
-  number = (h.running.some.stands.hosts flight.target s here).number
-
   at_home : home_at s msg ≡ home
   at_home = ap (λ (i : ℕ). home_or (root_of i) msg.on) number
 
   packets :
-      all_carried (joined new.flights.items)
-      ≡ without_packet f (all_carried (joined old.flights.items)) ++ all_carried more
-  packets =
-      ap all_carried flights ∙ carried_append (without f (joined old.flights.items)) more
-      ∙ ap (λ ps. ps ++ all_carried more) (carried_without (joined old.flights.items) f)
+      all_carried (joined new.flights.items) ≡ without_packet f (all_carried fs) ++ all_carried more
+  packets = ap all_carried flights ∙ carried_append (without f fs) more
+      ∙ ap (λ ps. ps ++ all_carried more) (carried_without fs f)
 
   left : (seen : List ℕ) (o : Option ℕ)
       → IsBrought old.tree flight.target s msg o old.sites.items new.sites.items
-      → GoesOn flight o more
-      → net_of seen new ≡ delivered (net_of seen old) f (carried flight) s home
+      → GoesOn flight.bytes o more
+      → net_of seen new ≡ delivered (was seen) f (carried flight) s home
   left seen None b g =
-      let others = without_packet f (all_carried (joined old.flights.items)) in
+      let others = without_packet f (all_carried fs) in
       let there : among s.locs home ≡ true = ap (among s.locs) (sym at_home) ∙ b.0 in
       let sites : new.sites.items ≡ slice_set old.sites.items flight.target (put home msg s) =
       b.1 ∙ ap (λ (l : Loc). slice_set old.sites.items flight.target (put l msg s)) at_home in
-      let put_net : Net = record (net_of seen
-      old) { sites = slice_set old.sites.items flight.target (put home msg s); packets = others } in
-      let on_net : Net = record (net_of seen old) {
+      let put_net : Net = record (was seen) {
+        sites = slice_set old.sites.items flight.target (put home msg s);
+        packets = others;
+      } in
+      let on_net : Net = record (was seen) {
         packets =
             others ++ record { target = address old.tree home; msg = msg } ∷ [];
       } in
       let same =
       same_net (net_of seen new) put_net version refl sites (ap bare tree) (ap joined trace)
-      (packets ∙ ap (λ (fs : List Flight). others ++ all_carried fs) g ∙ append_nil others) in
+      (packets ∙ ap (λ (gs : List Flight). others ++ all_carried gs) g ∙ append_nil others) in
       subst (λ (u : Bool). net_of seen new ≡ cond u put_net on_net) (sym there) same
   left seen (Some target) b g =
-      let others = without_packet f (all_carried (joined old.flights.items)) in
+      let others = without_packet f (all_carried fs) in
       let away : among s.locs home ≡ false = ap (among s.locs) (sym at_home) ∙ b.0 in
       let to : target ≡ address old.tree home = b.1 ∙ ap (address old.tree) at_home in
-      let put_net : Net = record (net_of seen
-      old) { sites = slice_set old.sites.items flight.target (put home msg s); packets = others } in
-      let on_net : Net = record (net_of seen old) {
+      let put_net : Net = record (was seen) {
+        sites = slice_set old.sites.items flight.target (put home msg s);
+        packets = others;
+      } in
+      let on_net : Net = record (was seen) {
         packets =
             others ++ record { target = address old.tree home; msg = msg } ∷ [];
       } in
@@ -223,11 +225,11 @@ module _ (c : CodeParts) (old new : Parts) (events f : ℕ) (flight : Flight) (o
       (packets ∙ ap (λ (ps : List Addressed). others ++ ps) last) in
       subst (λ (u : Bool). net_of seen new ≡ cond u put_net on_net) (sym away) same
 
-  pub delivers : (seen : List ℕ) → Delivers (net_of seen old) f (net_of seen new)
+  pub delivers : (seen : List ℕ) → Delivers (was seen) f (net_of seen new)
   delivers seen = record {
     packet = carried flight;
     site = s;
-    packet_is = carried_at (joined old.flights.items) f flight at;
+    packet_is = carried_at fs f flight at;
     site_is = here;
     new_is = left seen on brought goes;
   }
@@ -239,41 +241,33 @@ module _ (c : CodeParts) (old new : Parts) (events f : ℕ) (flight : Flight) (o
       ap length b.1 ∙ set_length old.sites.items flight.target (put (home_at s msg) msg s)
   many_sites (Some target) b = ap length b.2
 
-  more_spelled : (o : Option ℕ) → GoesOn flight o more → Each IsMessageFlight more
-  more_spelled None g = subst (Each IsMessageFlight) (sym g) tt
-  more_spelled (Some target) g =
-      subst (Each IsMessageFlight) (sym g) (flight_spelled old f flight h.flying at, tt)
+  more_spelled : Each IsMessageFlight fs → (o : Option ℕ) → GoesOn flight.bytes o more
+      → Each IsMessageFlight more
+  more_spelled spelled None g = subst (Each IsMessageFlight) (sym g) tt
+  more_spelled spelled (Some target) g =
+      subst (Each IsMessageFlight) (sym g) (each_get IsMessageFlight fs f flight at spelled, tt)
 
-  pub delivered_whole : AllFit c new.tree new.sites.items
-      → new.under_way ≡ old.under_way - 1 + length more → IsWhole c new events
-  delivered_whole fit count = record {
+  pub delivered_whole : (events : ℕ) → IsRunning c (was c.seen) events → Each IsMessageFlight fs
+      → AllFit c new.tree new.sites.items → new.under_way ≡ length fs - 1 + length more
+      → new.under_way < 2 ^ 32 → IsWhole c new events
+  delivered_whole events running spelled fit count few = record {
     running =
         let e : events + 0 ≡ events = omega arith in
-        subst (IsRunning c (net_of c.seen new)) e (running_on c (net_of c.seen old)
-        (net_of c.seen new) None events h.running (deliver f _ (delivers c.seen))
+        subst (IsRunning c (net_of c.seen new)) e (running_on c (was c.seen) (net_of c.seen new)
+        None events running (deliver f _ (delivers c.seen))
         (fit_bare c new.tree new.sites.items fit) (many_sites on brought));
     flying = record {
-      spelled = subst (Each IsMessageFlight) (sym flights)
-          (Each-append IsMessageFlight (without f (joined old.flights.items)) more
-          (each_without IsMessageFlight (joined old.flights.items) f h.flying.spelled)
-          (more_spelled on goes));
+      spelled =
+          subst (Each IsMessageFlight) (sym flights) (Each-append IsMessageFlight (without f fs)
+          more (each_without IsMessageFlight fs f spelled) (more_spelled spelled on goes));
       counted = omega (
         arith,
         count,
-        h.flying.counted,
         ap length flights,
-        length-append (without f (joined old.flights.items)) more,
-        without_length (joined old.flights.items) f
-            (below_some (joined old.flights.items) f flight at),
+        length-append (without f fs) more,
+        without_length fs f (below_some fs f flight at),
       );
-      few = omega (
-        arith,
-        count,
-        h.flying.few,
-        goes_few flight more on goes,
-        h.flying.counted,
-        below_some (joined old.flights.items) f flight at,
-      );
+      few = few;
     };
   }
 
@@ -298,11 +292,11 @@ flights_left ps qs rs news f i j more kept first at is =
     is f here ∙ ap (λ (us : List (List Flight)). without f (joined us) ++ more) kept
 
 pub brought_in :
-    (t : Tree) (f : Flight) (s : Site) (more : List Flight) (olds sites news : List Site)
-    → olds ≡ sites
-    → ((u : Site) → slice_get olds f.target ≡ Some u → IsFlightBroughtAt t u f more olds news)
-    → slice_get sites f.target ≡ Some s → IsFlightBroughtAt t s f more sites news
-brought_in t f s more olds sites news kept brought at =
-    let here : slice_get olds f.target ≡ Some s =
-    ap (λ (us : List Site). slice_get us f.target) kept ∙ at in
-    subst (λ (us : List Site). IsFlightBroughtAt t s f more us news) kept (brought s here)
+    (t : Tree) (i : ℕ) (bytes text : List ℕ) (s : Site) (more : List Flight)
+    (olds sites news : List Site) → text ≡ bytes → olds ≡ sites
+    → ((u : Site) → slice_get olds i ≡ Some u → IsTextBroughtAt t i u text more olds news)
+    → slice_get sites i ≡ Some s → IsTextBroughtAt t i s bytes more sites news
+brought_in t i bytes text s more olds sites news same kept brought at =
+    let here : slice_get olds i ≡ Some s = ap (λ (us : List Site). slice_get us i) kept ∙ at in
+    subst (λ (bs : List ℕ). IsTextBroughtAt t i s bs more sites news) same
+    (subst (λ (us : List Site). IsTextBroughtAt t i s text more us news) kept (brought s here))

@@ -25,6 +25,9 @@ use Rattle.migration.specs.Moves.{is_ready}
 use Rattle.migration.specs.Within.{leads_into, leads_to_one_of, goes_to_one_of}
 use Rattle.migration.specs.Across.{joins}
 use Rattle.net_core.specs.declared.choice.Choice.{Choice}
+use Rattle.net_core.specs.declared.choice.Choice.TheVariants as choice
+use Rattle.net_core.specs.Senders.{IsSentBy}
+use Rattle.net_core.specs.Senders as senders
 use Rattle.net_core.specs.inside.Searched.{meets, IsMet, NoneMeets}
 use Rattle.net_core.specs.inside.AtSites.{MayGoAt, HasGoal, MayMoveAt, MayCrossAt}
 use Rattle.net_core.specs.Whole.{RunsSome}
@@ -74,6 +77,22 @@ module _ (c : CodeParts) (kept : IsCode c) (net : Net) (some : RunsSome c net) (
 
   can : may_go net.version net.tree goal.request.loc target ≡ true
   can = can_is net.version net.tree a may.site goal.request target goal.cont may.can here goal.asks
+
+  -- the site of the target sends what the move sends
+  pub goal_sends : IsSentBy net (choice.Move a) target.site
+  goal_sends = senders.move a (record {
+    asks = record {
+      number = i;
+      site = may.site;
+      request = goal.request;
+      site_is = may.site_is;
+      request_is = here;
+    };
+    target = target;
+    cont = goal.cont;
+    is = goal.asks;
+    can = can;
+  })
 
   hosted : (j : ℕ) (u : Site) → slice_get net.sites j ≡ Some u → target.site ≡ j
       → leads_into a may.site u ≡ true

@@ -1,6 +1,6 @@
 -- What a choice that was made has done.
-use Rattle.std.proofs.Common.{◌≡◌, ℕ, ◌+◌, ◌<◌, true, arith, Option, Some, None, Result, Ok, Err}
-use Rattle.std.proofs.Common.{sym, ap, ◌∙◌, subst}
+use Rattle.std.proofs.Common.{◌≡◌, ℕ, ◌+◌, ◌-◌, ◌<◌, ◌++◌, length, replicate, true, arith, Option}
+use Rattle.std.proofs.Common.{Some, None, Result, Ok, Err, sym, ap, ◌∙◌, subst}
 use Rattle.std.specs.Prelude.{IfOk, OnOk}
 use Rattle.chem_model.specs.declared.event.AtomId.{AtomId}
 use Rattle.chem_model.specs.declared.event.Event.{Event}
@@ -23,6 +23,8 @@ use Rattle.net_core.specs.Acting.{Reacts, Delivers, Halts, Detects, Moves}
 use Rattle.net_core.specs.Acts.{Acts}
 use Rattle.net_core.specs.Acts as acts
 use Rattle.net_core.specs.Making.{counted, Falls, HasActed}
+use Rattle.net_core.specs.Senders.{IsSentBy, kept}
+use Rattle.net_core.specs.Senders as senders
 use Rattle.net_core.specs.Playing.{Does}
 use Rattle.net_core.specs.Playing as does
 use Rattle.net_core.specs.Whole.{NetParts, RunsSome, IsRunning, AreFlying}
@@ -52,32 +54,42 @@ acts_falls c net new x o some (acts.detect a _ h) = tt
 
 pub has_acted : (old new : NetParts) (x : Choice) (o : Option Event) (events : ℕ)
     → IsRunning old.code old.net events → Acts old.code old.net x o new.net → new.code ≡ old.code
-    → new.events ≡ old.events + counted o → HasActed old x o new
-has_acted old new x o events running made code count = record {
+    → new.events ≡ old.events + counted o
+    → (sender : ℕ) → IsSentBy old.net x sender → new.froms ≡ kept x old.froms
+    ++ replicate (length new.net.packets - length (kept x old.net.packets)) sender
+    → HasActed old x o new
+has_acted old new x o events running made code count sender by froms = record {
   acts = made;
   code = code;
   events = count;
   leads = one_leads old.code old.net new.net o
       running.code (acts_does old.code old.net new.net x o made);
   falls = acts_falls old.code old.net new.net x o running.some made;
+  sender = sender;
+  sent_by = by;
+  froms = froms;
 }
 
 -- ---- a request that was met, as the choice that meets it
 
 module _ {E : Type 0} (c : CodeParts) (net new : Net) (x : Choice) (a : AtomId) where
-  pub moved_acts : (r : Result Event E) → x ≡ choice.Move a → IfOk r (λ e. e ≡ event.Move a)
-      → OnOk r (Moves net a new) → IfOk r (λ e. Acts c net x (Some e) new)
-  moved_acts (Ok e) is same done = subst (λ (y : Choice). Acts c net y (Some e) new) (sym is)
+  pub moved_acts : (r : Result (ℕ × Event) E) → x ≡ choice.Move a → IfOk r (λ d. d.1 ≡ event.Move a)
+      → OnOk r (Moves net a new) → IfOk r (λ d. Acts c net x (Some d.1) new)
+  moved_acts (Ok d) is same done = subst (λ (y : Choice). Acts c net y (Some d.1) new) (sym is)
       (subst (λ (v : Event). Acts c net (choice.Move a) (Some v) new) (sym same)
       (acts.move a new done))
   moved_acts (Err f) is same done = tt
 
-  pub detected_acts : (r : Result Event E) → x ≡ choice.Detect a → IfOk r (λ e. e ≡ event.Detect a)
-      → OnOk r (Detects net a new) → IfOk r (λ e. Acts c net x (Some e) new)
-  detected_acts (Ok e) is same done = subst (λ (y : Choice). Acts c net y (Some e) new) (sym is)
-      (subst (λ (v : Event). Acts c net (choice.Detect a) (Some v) new) (sym same)
-      (acts.detect a new done))
-  detected_acts (Err f) is same done = tt
+  pub moved_sends : (r : Result (ℕ × Event) E) → x ≡ choice.Move a
+      → IfOk r (λ d. IsSentBy net (choice.Move a) d.0) → IfOk r (λ d. IsSentBy net x d.0)
+  moved_sends (Ok d) is by = subst (λ (y : Choice). IsSentBy net y d.0) (sym is) by
+  moved_sends (Err f) is by = tt
+
+pub detected_acts : (c : CodeParts) (net new : Net) (x : Choice) (a : AtomId) (e : Event)
+    → x ≡ choice.Detect a → e ≡ event.Detect a → Detects net a new → Acts c net x (Some e) new
+detected_acts c net new x a e is same done = subst (λ (y : Choice). Acts c net y (Some e) new)
+    (sym is) (subst (λ (v : Event). Acts c net (choice.Detect a) (Some v) new) (sym same)
+    (acts.detect a new done))
 
 pub halted_acts : (c : CodeParts) (net new : Net) (x : Choice) (a : AtomId) (e : Event)
     → x ≡ choice.Halt a → e ≡ event.Halt a → Halts net a new → Acts c net x (Some e) new
@@ -89,6 +101,14 @@ pub reacted_acts : (c : CodeParts) (net new : Net) (x : Choice) (i : ℕ) (p : P
     → x ≡ choice.React i p → Reacts c net i p.group p.guard e new → Acts c net x (Some e) new
 reacted_acts c net new x i p e is done =
     subst (λ (y : Choice). Acts c net y (Some e) new) (sym is) (acts.react i p e new done)
+
+pub reacted_sends : (net : Net) (x : Choice) (i : ℕ) (p : Pick) → x ≡ choice.React i p
+    → IsSentBy net x i
+reacted_sends net x i p is = subst (λ (y : Choice). IsSentBy net y i) (sym is) (senders.react i p)
+
+pub delivered_sends : (net : Net) (x : Choice) (f sender : ℕ) → x ≡ choice.Deliver f
+    → IsSentBy net (choice.Deliver f) sender → IsSentBy net x sender
+delivered_sends net x f sender is by = subst (λ (y : Choice). IsSentBy net y sender) (sym is) by
 
 pub delivered_acts : (c : CodeParts) (net new : Net) (x : Choice) (f : ℕ) → x ≡ choice.Deliver f
     → Delivers net f new → Acts c net x None new

@@ -81,6 +81,11 @@ pub on_err : {A E : Type 0} (P : Type 0) (r : Result A E) → P → OnErr r P
 on_err P (Ok x) p = tt
 on_err P (Err e) p = p
 
+pub both_err : {A E : Type 0} {P Q R : Type 0} (r : Result A E) → (P → Q → R) → OnErr r P
+    → OnErr r Q → OnErr r R
+both_err (Ok x) f p q = tt
+both_err (Err e) f p q = f p q
+
 -- a member of a list is set to itself
 pub set_same : {X : Type 0} (xs : List X) (i : ℕ) (x : X) → slice_get xs i ≡ Some x
     → slice_set xs i x ≡ xs

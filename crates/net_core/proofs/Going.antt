@@ -1,7 +1,7 @@
 -- Moves, from their parts.
-use Rattle.std.proofs.Common.{◌≡◌, ℕ, ◌<◌, Bool, true, false, List, [], ◌++◌, Option, Some, None}
+use Rattle.std.proofs.Common.{◌≡◌, ℕ, ◌<◌, Bool, true, List, [], ◌++◌, Option, Some, None}
 use Rattle.std.proofs.Common.{slice_get, inl, inr, refl, sym, ap, ◌∙◌, subst, ◌==◌, eqb-true}
-use Rattle.std.specs.Prelude.{slice_set, ◌&&◌, ◌||◌, not, nat_lt}
+use Rattle.std.specs.Prelude.{slice_set, ◌&&◌, not, nat_lt}
 use Rattle.std.proofs.lemmas.Bool.{and_parts, or_cases, or_left, or_right, ltb-true}
 use Rattle.chem_model.specs.Opening.{root_of}
 use Rattle.chem_model.specs.declared.name.Loc.{Loc}

@@ -1,3 +1,4 @@
+pub mod Fewer
 pub mod Poured
 pub mod Leading
 pub mod Falling
@@ -5,6 +6,8 @@ pub mod Playing
 pub mod Enabling
 pub mod Rising
 pub mod Members
+pub mod Spreads
+pub mod Turning
 pub mod Carrying
 pub mod Deliverable
 pub mod PatternChannels
@@ -30,6 +33,11 @@ pub mod FirstRequests
 pub mod NextChoices
 pub mod Doing
 pub mod Done
+pub mod Noted
+pub mod Taken
+pub mod Framing
+pub mod OneSender
+pub mod FromOutside
 pub mod Crossing
 pub mod ListsMade
 pub mod Lending

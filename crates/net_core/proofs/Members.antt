@@ -5,8 +5,8 @@ use Rattle.std.proofs.Common.{length-append, append_assoc}
 use Rattle.std.proofs.lemmas.Option.{get_or_from_slice_get}
 use Rattle.std.specs.Prelude.{◌-◌, slice_get, slice_set, slice_index_or, is_ok, IsOk, if◌then◌else◌}
 use Rattle.chem_laws.proofs.Lists.{append_nil}
-use Rattle.net_core.specs.Parts.{joined}
-use Rattle.net_core.specs.inside.Pieces.{without, IsPlace}
+use Rattle.net_core.specs.Parts.{joined, without}
+use Rattle.net_core.specs.inside.Pieces.{IsPlace}
 
 pub joined_append : {X : Type 0} (ps qs : List (List X))
     → joined (ps ++ qs) ≡ joined ps ++ joined qs
@@ -155,13 +155,13 @@ kept_out ps place i j at n e =
     ∙ without_joined ps i at.members j at.is at.below
     ∙ ap (λ k. without k (joined ps)) (sym at.place_is)
 
-get_set : {X : Type 0} (xs : List X) (i : ℕ) (x : X) → i < length xs
+pub get_set : {X : Type 0} (xs : List X) (i : ℕ) (x : X) → i < length xs
     → slice_get (slice_set xs i x) i ≡ Some x
 get_set [] i x h = absurd (omega arith)
 get_set (y ∷ xs) zero x h = refl
 get_set (y ∷ xs) (suc i) x h = get_set xs i x (omega arith)
 
-low_some : {X : Type 0} (xs : List X) (i : ℕ) (x : X) → slice_get xs i ≡ Some x → i < length xs
+pub low_some : {X : Type 0} (xs : List X) (i : ℕ) (x : X) → slice_get xs i ≡ Some x → i < length xs
 low_some [] i x e = cc
 low_some (y ∷ xs) zero x e = omega arith
 low_some (y ∷ xs) (suc i) x e = omega (arith, low_some xs i x e)

@@ -237,12 +237,12 @@ module _ (p : ProgramTerms) (c : CodeParts) (net : Net) (n : Numbered)
 
   -- ---- moves
 
-  record SameGo (a : AtomId) (x y : MayGo net a) : Type 0 where
-    request : SameRequest a x.asks y.asks
-    target : x.target ≡ y.target
-    cont : x.cont ≡ y.cont
+  pub record SameGo (a : AtomId) (x y : MayGo net a) : Type 0 where
+    pub request : SameRequest a x.asks y.asks
+    pub target : x.target ≡ y.target
+    pub cont : x.cont ≡ y.cont
 
-  same_go : (a : AtomId) (x y : MayGo net a) → SameGo a x y
+  pub same_go : (a : AtomId) (x y : MayGo net a) → SameGo a x y
   same_go a x y =
       let same = same_request a x.asks y.asks in
       let asks : request.Go (name.Place x.target) x.cont ≡ request.Go (name.Place y.target) y.cont =

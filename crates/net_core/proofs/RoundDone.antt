@@ -1,7 +1,7 @@
 -- A round, from what is taken back of lent sites.
 use Rattle.std.proofs.Common.{◌≡◌, ℕ, zero, suc, ◌+◌, ◌*◌, ◌-◌, ◌<◌, ◌≤◌, ◌^◌, map, List, [], ◌∷◌}
-use Rattle.std.proofs.Common.{◌++◌, length, Option, Some, All, refl, sym, ap, ◌∙◌, subst, arith}
-use Rattle.std.proofs.Common.{slice_get, length-append}
+use Rattle.std.proofs.Common.{◌++◌, length, replicate, Option, Some, All, refl, sym, ap, ◌∙◌, subst}
+use Rattle.std.proofs.Common.{arith, slice_get, length-append}
 use Rattle.std.specs.Prelude.{IsTrue}
 use Rattle.chem_model.specs.declared.event.Event.{Event}
 use Rattle.chem_model.specs.declared.event.Out.{Out}
@@ -18,19 +18,22 @@ use Rattle.site_solution.specs.InCode.{is_in_code}
 use Rattle.site_solution.specs.Draws.{CanDraw}
 use Rattle.net_laws.proofs.Holds.{each_get}
 use Rattle.net_core.specs.declared.parts.Parts.{Parts}
+use Rattle.net_core.specs.declared.senders.Run.{Run}
 use Rattle.net_core.specs.declared.slots.Slot.{Slot}
 use Rattle.net_core.specs.declared.turn.Work.{Work}
 use Rattle.net_core.specs.inside.Alone.{IsAlone, IsReadyForCalls, IsWorked}
-use Rattle.net_core.specs.Lending.{mail_to, WorksAlone, AllAreLent, no_site, a_site}
+use Rattle.net_core.specs.Lending.{mail_to, WorksAlone, AllAreLent, no_site, a_site, AreSentInTurn}
+use Rattle.net_core.specs.Lending.{no_sender, a_sender}
 use Rattle.net_core.specs.Parts.{joined, all_carried, IsMessageFlight, net_of}
 use Rattle.net_core.specs.Scheduling.{AreTurns, numbers}
 use Rattle.net_core.specs.inside.Slots.{CanWork, IsServedAs, IsServed, Pairwise, slot_of, HasWork}
 use Rattle.net_core.specs.inside.Slots.{events_in, outs_in, flights_in, sites_of, events_of}
-use Rattle.net_core.specs.inside.Slots.{outs_of, flights_of, HasRound}
+use Rattle.net_core.specs.inside.Slots.{outs_of, flights_of, froms_of, HasRound, HasSent}
+use Rattle.net_core.specs.inside.Runs.{spread}
 use Rattle.net_core.specs.Whole.{NetParts, AllFit, IsRunning, IsWhole, RunsSome}
 use Rattle.net_core.specs.Working.{HasWorked}
-use Rattle.net_core.proofs.Alone.{alone_fits}
-use Rattle.net_core.proofs.Carrying.{carried_append}
+use Rattle.net_core.proofs.Alone.{alone_fits, alone_number}
+use Rattle.net_core.proofs.Carrying.{carried_append, carried_length}
 use Rattle.net_core.proofs.Deliveries.{same_net}
 use Rattle.net_core.proofs.Ending.{turns_do}
 use Rattle.net_core.proofs.Fitting.{fit_bare}
@@ -38,6 +41,7 @@ use Rattle.net_core.proofs.Lending.{lent_sites_have_turns}
 use Rattle.net_core.proofs.Picking.{IsFine}
 use Rattle.net_core.proofs.Playing.{lists_replay}
 use Rattle.net_core.proofs.Scheduled.{turns_fine}
+use Rattle.net_core.proofs.SlotLists.{froms_many}
 use Rattle.net_core.proofs.SomeSchedule.{turns_within, length_range}
 
 -- how far a site is after its turn
@@ -209,6 +213,61 @@ module _ (c : CodeParts) (t : Tree) (fs : List Flight) (quota : ℕ) where
           all_done few (i + 1) ss ds (λ j u e. next_at j u (at (suc j) u e)) served.1 worked.1 n
               (omega (arith, most, parts)),
         )
+      where
+        next_at : (j : ℕ) (u : Site) → slice_get net.sites (i + suc j) ≡ Some u
+            → slice_get net.sites (i + 1 + j) ≡ Some u
+        next_at j u e =
+            let same : i + 1 + j ≡ i + suc j = omega arith in
+            ap (slice_get net.sites) same ∙ e
+
+    -- the site of a slot has its number still
+    number_after : events + quota < 2 ^ 32 → (i : ℕ) (s : Site) (d : Slot) (w : Work)
+        → slice_get net.sites i ≡ Some s → IsWorked c t quota fs s w d.site → d.site.number ≡ i
+    number_after few i s d w at one =
+        let start = alone_at i s at in
+        let after = one.reacts.stays events few (one.stays events start) in
+        alone_number c t s.number (events + length w.made.events) d.site [] after
+        ∙ (running.some.stands.hosts i s at).number
+
+    -- so what each leaves is from it
+    pub all_sent : events + quota < 2 ^ 32 → (i : ℕ) (sites : List Site) (done : List Slot)
+        → ((j : ℕ) (s : Site) → slice_get sites j ≡ Some s → slice_get net.sites (i + j) ≡ Some s)
+        → Pairwise (IsServed c t fs quota) (map slot_of sites) done → Each HasWork done
+        → AreSentInTurn c quota (bare t) (all_carried fs) i sites (froms_of done)
+    all_sent few i [] [] at served worked = no_sender i
+    all_sent few i [] (d ∷ ds) at served worked = absurd served
+    all_sent few i (s ∷ ss) [] at served worked = absurd served
+    all_sent few i (s ∷ ss) (d ∷ ds) at served worked =
+        let w = worked.0.0 in
+        let is : d.work ≡ Some w = worked.0.1 in
+        let one = had_turn s d w is served.0 in
+        let first : i + 0 ≡ i = omega arith in
+        let here : slice_get net.sites i ≡ Some s =
+        subst (λ (k : ℕ). slice_get net.sites k ≡ Some s) first (at 0 s refl) in
+        let number : s.number ≡ i = (running.some.stands.hosts i s here).number in
+        let mail : WorksOff (bare t) s (mail_to i (all_carried fs)) (all_carried w.on) one.mid =
+        subst
+        (λ (k : ℕ). WorksOff (bare t) s (mail_to k (all_carried fs)) (all_carried w.on) one.mid)
+        number one.arrives.works in
+        let reactions : WorksAlone c (bare t) i quota
+        one.mid w.made.events w.made.outs (all_carried w.made.sends) d.site =
+        subst (λ (k : ℕ). WorksAlone c (bare t) k quota
+        one.mid w.made.events w.made.outs (all_carried w.made.sends) d.site) number
+        one.reacts.works in
+        let later =
+        all_sent few (i + 1) ss ds (λ j u e. next_at j u (at (suc j) u e)) served.1 worked.1 in
+        let all = a_sender i s one.mid d.site (all_carried w.on) (all_carried w.made.sends)
+        w.made.events w.made.outs ss (froms_of ds) mail reactions later in
+        let many : length (all_carried w.on ++ all_carried w.made.sends)
+        ≡ length (flights_in d.work) =
+        ap length (sym (carried_append w.on w.made.sends)) ∙ carried_length (w.on ++ w.made.sends)
+        ∙ ap (λ (o : Option Work). length (flights_in o)) (sym is) in
+        subst (λ (k : ℕ). AreSentInTurn c quota (bare t) (all_carried fs) i (s ∷ ss)
+        (replicate (length (flights_in d.work)) k ++ froms_of ds))
+        (sym (number_after few i s d w here one))
+        (subst (λ (k : ℕ).
+        AreSentInTurn c quota (bare t) (all_carried fs) i (s ∷ ss) (replicate k i ++ froms_of ds))
+        many all)
       where
         next_at : (j : ℕ) (u : Site) → slice_get net.sites (i + suc j) ≡ Some u
             → slice_get net.sites (i + 1 + j) ≡ Some u
@@ -391,6 +450,32 @@ module _ (c : CodeParts) (old new : Parts) (quota : ℕ) (es : List Event) (done
     whole = whole_after;
   }
 
+  pub has_sent : (events : ℕ) → events + quota * length old.sites.items < 2 ^ 32 - 1
+      → IsWhole c old events → (senders : List Run) → spread senders ≡ froms_of done
+      → HasSent c quota old new senders
+  has_sent events few whole senders sent = record {
+    turns = subst (AreSentInTurn c quota net.tree net.packets 0 net.sites) (sym sent)
+        (go old.sites.items done refl served worked);
+    many = ap length sent ∙ froms_many done ∙ sym count;
+  }
+    where
+      go : (olds : List Site) (ds : List Slot) → old.sites.items ≡ olds
+          → Pairwise (IsServed c old.tree fs quota) (map slot_of olds) ds → Each HasWork ds
+          → AreSentInTurn c quota (bare old.tree) (all_carried fs) 0 olds (froms_of ds)
+      go [] [] e s w = no_sender 0
+      go [] (d ∷ ds) e s w = absurd s
+      go (u ∷ us) ds e s w =
+          let some : 0 < length old.sites.items = omega (arith, ap length e) in
+          let less = one_of_all quota (length old.sites.items) some in
+          all_sent c old.tree fs quota net events whole.running refl refl (omega arith) 0 (u ∷ us)
+          ds (λ j v at. ap (λ vs. slice_get vs (0 + j)) e ∙ from_first j v at) s w
+        where
+          from_first : (j : ℕ) (v : Site) → slice_get (u ∷ us) j ≡ Some v
+              → slice_get (u ∷ us) (0 + j) ≡ Some v
+          from_first j v at =
+              let same : 0 + j ≡ j = omega arith in
+              ap (slice_get (u ∷ us)) same ∙ at
+
 -- ---- of a network
 
 pub has_worked : (old new : NetParts) (quota events : ℕ) (es : List Event)
@@ -398,8 +483,10 @@ pub has_worked : (old new : NetParts) (quota events : ℕ) (es : List Event)
     → AreTurns old.code quota (numbers old.net) (length old.net.packets) old.net es new.net
     → new.code ≡ old.code → new.events ≡ old.events + length es
     → length es ≤ quota * length old.net.sites → new.net.tree ≡ old.net.tree
-    → length new.net.sites ≡ length old.net.sites → HasWorked quota old es new
-has_worked old new quota events es running turns code count within tree sites = record {
+    → length new.net.sites ≡ length old.net.sites
+    → AreSentInTurn old.code quota old.net.tree old.net.packets 0 old.net.sites new.froms
+    → HasWorked quota old es new
+has_worked old new quota events es running turns code count within tree sites froms = record {
   turns = turns;
   code = code;
   events = count;
@@ -410,4 +497,5 @@ has_worked old new quota events es running turns code count within tree sites = 
       lists_replay old.code old.net new.net es running.code
       (turns_do old.code quota (numbers old.net) (length old.net.packets) old.net new.net es turns)
       p n ok is stands runs;
+  froms = froms;
 }

@@ -1,19 +1,22 @@
 -- Lists of slots.
-use Rattle.std.proofs.Common.{◌≡◌, ℕ, suc, ◌+◌, ◌<◌, append_assoc, subst, List, [], ◌∷◌, ◌++◌, map}
-use Rattle.std.proofs.Common.{length, slice_index_or, Some, refl, ap, sym, ◌∙◌, arith}
-use Rattle.std.proofs.Common.{length-append}
+use Rattle.std.proofs.Common.{◌≡◌, ℕ, suc, ◌+◌, ◌-◌, ◌<◌, append_assoc, replicate, subst, List, []}
+use Rattle.std.proofs.Common.{◌∷◌, ◌++◌, map, length, slice_index_or, Some, refl, ap, sym, ◌∙◌}
+use Rattle.std.proofs.Common.{arith, length-append}
 use Rattle.std.specs.Prelude.{◌^◌}
+use Rattle.std.proofs.lemmas.List.{length-replicate}
 use Rattle.chem_model.specs.declared.event.Event.{Event}
 use Rattle.chem_laws.proofs.Lists.{Each-append, append_nil}
 use Rattle.wire_packet.specs.declared.packet.Flight.{Flight}
 use Rattle.net_laws.specs.Site.{Site}
 use Rattle.net_core.specs.declared.parts.Parts.{Parts}
+use Rattle.net_core.specs.declared.senders.Run.{Run}
 use Rattle.net_core.specs.declared.slots.Slot.{Slot}
 use Rattle.net_core.specs.declared.turn.Work.{Work}
 use Rattle.net_core.specs.Parts.{joined}
 use Rattle.net_core.specs.inside.Slots.{Pairwise, slot_of, HasWork, events_in, outs_in, flights_in}
 use Rattle.net_core.specs.inside.Slots.{sites_of}
-use Rattle.net_core.specs.inside.Slots.{events_of, outs_of, flights_of, IsTaken, AreBack}
+use Rattle.net_core.specs.inside.Slots.{events_of, outs_of, flights_of, froms_of, IsTaken, AreBack}
+use Rattle.net_core.specs.inside.Runs.{spread}
 
 module _ {X : Type 0} (R : X → X → Type 0) where
   pub pairwise : (xs ys : List X) → length ys ≡ length xs
@@ -56,6 +59,42 @@ flights_join : (ss rs : List Slot) → flights_of (ss ++ rs) ≡ flights_of ss +
 flights_join [] rs = refl
 flights_join (s ∷ ss) rs = ap (λ xs. flights_in s.work ++ xs) (flights_join ss rs)
     ∙ sym (append_assoc (flights_in s.work) (flights_of ss) (flights_of rs))
+
+pub froms_join : (ss rs : List Slot) → froms_of (ss ++ rs) ≡ froms_of ss ++ froms_of rs
+froms_join [] rs = refl
+froms_join (s ∷ ss) rs =
+    let mine = replicate (length (flights_in s.work)) s.site.number in
+    ap (λ xs. mine ++ xs) (froms_join ss rs) ∙ sym (append_assoc mine (froms_of ss) (froms_of rs))
+
+pub froms_many : (ss : List Slot) → length (froms_of ss) ≡ length (flights_of ss)
+froms_many [] = refl
+froms_many (s ∷ ss) =
+    let n = length (flights_in s.work) in
+    omega (
+      arith,
+      froms_many ss,
+      length-append (replicate n s.site.number) (froms_of ss),
+      length-replicate n s.site.number,
+      length-append (flights_in s.work) (flights_of ss),
+    )
+
+-- one slot more is taken back, and what it leaves is from its site
+pub more_sent : (ss : List Slot) (s : Slot) (old mid new : List Run)
+    → spread mid ≡ spread old ++ froms_of ss → spread new ≡ spread mid ++ froms_of (s ∷ [])
+    → spread new ≡ spread old ++ froms_of (ss ++ s ∷ [])
+more_sent ss s old mid new a b =
+    b ∙ ap (λ xs. xs ++ froms_of (s ∷ [])) a
+    ∙ append_assoc (spread old) (froms_of ss) (froms_of (s ∷ []))
+    ∙ ap (λ xs. spread old ++ xs) (sym (froms_join ss (s ∷ [])))
+
+pub one_sent : (s : Slot) (was old new count : ℕ) (before after : List ℕ) → was ≡ old
+    → new ≡ old + length (flights_of (s ∷ [])) → count ≡ new - was
+    → after ≡ before ++ replicate count s.site.number → after ≡ before ++ froms_of (s ∷ [])
+one_sent s was old new count before after at more is sent =
+    let n = length (flights_in s.work) in
+    let long : count ≡ n = omega (arith, length-append (flights_in s.work) []) in
+    sent ∙ ap (λ (k : ℕ). before ++ replicate k s.site.number) long
+    ∙ ap (λ xs. before ++ xs) (sym (append_nil (replicate n s.site.number)))
 
 -- ---- taken back one after another
 

@@ -1,11 +1,13 @@
 -- One site is opened after another.
 use Rattle.std.proofs.Common.{◌≡◌, ℕ, zero, suc, ◌+◌, ◌<◌, ◌^◌, List, [], ◌∷◌, ◌++◌, length, drop}
 use Rattle.std.proofs.Common.{Option, Some, None, Bool, true, false, cond, refl, sym, ap, ◌∙◌}
-use Rattle.std.proofs.Common.{subst, arith, slice_get, ◌⊎◌, inl, inr, length-append, eqb-true}
+use Rattle.std.proofs.Common.{subst, arith, slice_get, ◌⊎◌, inl, inr, length-append, append_assoc}
+use Rattle.std.proofs.Common.{replicate, eqb-true}
 use Rattle.std.specs.Prelude.{is_some, nat_eq, ◌&&◌, ◌||◌, IsTrue}
 use Rattle.std.specs.List.{Contains}
 use Rattle.std.specs.Map.{lookup}
 use Rattle.std.proofs.lemmas.Bool.Decides.{nat_tests}
+use Rattle.std.proofs.lemmas.List.{length-replicate}
 use Rattle.std.proofs.lemmas.Option.{slice_get_within}
 use Rattle.chem_model.specs.declared.name.Loc.{Loc}
 use Rattle.chem_model.specs.declared.event.Out.{Out}
@@ -13,7 +15,7 @@ use Rattle.chem_model.specs.Each.{Each}
 use Rattle.chem_model.specs.ProgramFacts.{ProgramTerms, IsProgram}
 use Rattle.chem_model.specs.Opening.{root_of, opening}
 use Rattle.chem_model.specs.Solution.{same_loc}
-use Rattle.chem_laws.proofs.Lists.{Each-append, either_true}
+use Rattle.chem_laws.proofs.Lists.{Each-append, either_true, append_nil}
 use Rattle.chem_laws.proofs.Within.{same_loc_is}
 use Rattle.env_store.specs.declared.code.SiteCode.{SiteCode}
 use Rattle.env_store.specs.CodeParts.{CodeParts}
@@ -51,14 +53,17 @@ use Rattle.site_solution.proofs.Staying.{births_keep_others}
 use Rattle.reducer.specs.Opens.{HasTops, IsOpenedFit, Opens}
 use Rattle.reducer.proofs.OpeningFit.{root_top}
 use Rattle.net_core.specs.declared.parts.Parts.{Parts}
+use Rattle.net_core.specs.declared.senders.Run.{Run}
 use Rattle.net_core.specs.Parts.{joined, all_carried, IsMessageFlight, net_of}
 use Rattle.net_core.specs.Whole.{AllFit, IsWhole}
 use Rattle.net_core.specs.Rising.{AllMade}
-use Rattle.net_core.specs.inside.Starting.{IsUpTo}
+use Rattle.net_core.specs.Senders.{opened_from, opened_froms}
+use Rattle.net_core.specs.inside.Runs.{spread}
+use Rattle.net_core.specs.inside.Starting.{IsUpTo, AreSentUpTo}
 use Rattle.net_core.proofs.Carrying.{carried_append, all_carry}
 use Rattle.net_core.proofs.Deliveries.{same_net}
 use Rattle.net_core.proofs.Fitting.{fit_bare, fit_full}
-use Rattle.net_core.proofs.Handed.{run_bare, births_bare}
+use Rattle.net_core.proofs.Handed.{run_bare, births_bare, flights_long}
 
 -- ---- the first tree
 
@@ -308,6 +313,39 @@ module _ (version : ℕ) (c : CodeParts) (kept : IsCode c) (n : ℕ) (old : Part
                   ap (λ (v : Site). v.number) (sym last.1) ∙ number_is ∙ sym (last.0 ∙ upto.many)
             ]
 
+    -- and its packets are from it
+    pub sent_next : (senders news : List Run)
+        → spread news ≡ spread senders ++ replicate (length e.sends) n
+        → AreSentUpTo version c n old senders → AreSentUpTo version c (n + 1) new news
+    sent_next senders news more h =
+        let o : opened_by c before.tree n site ≡ opened_by c old.tree n site =
+        run_bare c old.tree a (empty_site n 1 (root_of n ∷ [])) in
+        let count : length e.sends ≡ length (opened_by c before.tree n site).sends =
+        flights_long (opened_by c old.tree n site).sends e.sends opens.sends
+        ∙ ap (λ (x : Outcome). length x.sends) (sym o) in
+        let later : Net → List ℕ = opened_from c (n + 1) (drop (n + 1) c.sites) in
+        record {
+          rest =
+              ap (λ (net : Net). spread news ++ later net) after
+              ∙ ap (λ (xs : List ℕ). xs ++ later (with_opened c n site before)) more
+              ∙ append_assoc (spread senders) (replicate (length e.sends) n)
+              (later (with_opened c n site before))
+              ∙ ap
+              (λ (k : ℕ). spread senders ++ (replicate k n ++ later (with_opened c n site before)))
+              count
+              ∙ ap (λ (ss : List SiteCode). spread senders ++ opened_from c n ss before)
+              (sym (drop_next c.sites n site at))
+              ∙ h.rest;
+          many = omega (
+            arith,
+            ap length more,
+            length-append (spread senders) (replicate (length e.sends) n),
+            length-replicate (length e.sends) n,
+            under,
+            h.many,
+          );
+        }
+
 pub has_tops : (version : ℕ) (c : CodeParts) (n : ℕ) (old : Parts) → IsUpTo version c n old
     → HasTops c old.tree n
 has_tops version c n old upto =
@@ -324,6 +362,15 @@ pub all_are_opened : (version : ℕ) (c : CodeParts) (p : Parts) → IsUpTo vers
 all_are_opened version c p h =
     ap (λ (ss : List SiteCode). all_opened c (length c.sites) ss (net_of c.seen p))
     (sym (drop_all c.sites)) ∙ h.rest
+
+pub all_are_sent : (version : ℕ) (c : CodeParts) (p : Parts) (senders : List Run)
+    → AreSentUpTo version c (length c.sites) p senders → spread senders ≡ opened_froms version c
+all_are_sent version c p senders h =
+    sym (append_nil (spread senders))
+    ∙ ap
+    (λ (ss : List SiteCode). spread senders ++ opened_from c (length c.sites) ss (net_of c.seen p))
+    (sym (drop_all c.sites))
+    ∙ h.rest
 
 -- so the network stands for the program's opening
 pub opened_whole : (q : ProgramTerms) (c : CodeParts) → IsProgram q → IsCode c → IsCodeOf q c
@@ -517,3 +564,15 @@ none_opened q c ok kept is p version tree sites trace flights under = record {
 
     at : (l : Loc) → spot p.tree l ≡ spot (first c) l
     at l = ap (λ (t : Tree). spot t l) tree
+
+pub none_sent : (c : CodeParts) (p : Parts) → bare p.tree ≡ first c → p.sites.items ≡ []
+    → joined p.trace.items ≡ [] → joined p.flights.items ≡ [] → p.under_way ≡ 0
+    → (senders : List Run) → senders ≡ [] → AreSentUpTo p.version c 0 p senders
+none_sent c p tree sites trace flights under senders none =
+    let own = same_net (net_of c.seen p) (unopened p.version c) refl refl sites tree trace
+    (ap all_carried flights) in
+    record {
+      rest = ap (λ (rs : List Run). spread rs ++ opened_from c 0 c.sites (net_of c.seen p)) none
+          ∙ ap (opened_from c 0 c.sites) own;
+      many = ap (λ (rs : List Run). length (spread rs)) none ∙ sym under;
+    }

@@ -1,6 +1,7 @@
 -- A site that is lent for a round: it works on its own, with the tree as it was when the round
 -- began. What all sites leave of a round is what their turns, one after another, leave.
 use Rattle.std.specs.Prelude.{◌≡◌, ℕ, ◌+◌, ◌-◌, ◌<◌, ◌==◌, cond, List, [], ◌∷◌, ◌++◌, length}
+use Rattle.std.specs.Prelude.{replicate}
 use Rattle.chem_model.specs.declared.event.Event.{Event}
 use Rattle.chem_model.specs.declared.event.Event.TheVariants as event
 use Rattle.chem_model.specs.declared.event.Out.{Out}
@@ -75,6 +76,17 @@ pub data AllAreLent (c : CodeParts) (quota : ℕ) (t : Tree) (packets : List Add
       → AllAreLent c quota t packets (i + 1) ss later_es later_outs later news
       → AllAreLent c quota t packets i (s ∷ ss) (es ++ later_es) (outs ++ later_outs)
       ((on ++ sends) ++ later) (new ∷ news)
+
+-- and who sends what they leave: each site its own
+pub data AreSentInTurn (c : CodeParts) (quota : ℕ) (t : Tree) (packets : List Addressed)
+    : ℕ → List Site → List ℕ → Type 0 where
+  no_sender : (i : ℕ) → AreSentInTurn c quota t packets i [] []
+  a_sender :
+      (i : ℕ) (s mid new : Site) (on sends : List Addressed) (es : List Event) (outs : List Out)
+      (ss : List Site) (later : List ℕ)
+      → WorksOff t s (mail_to i packets) on mid → WorksAlone c t i quota mid es outs sends new
+      → AreSentInTurn c quota t packets (i + 1) ss later
+      → AreSentInTurn c quota t packets i (s ∷ ss) (replicate (length (on ++ sends)) i ++ later)
 
 -- of a network that stands for a solution and runs the code of a program
 abbrev pub LentSitesHaveTurns : Type 0

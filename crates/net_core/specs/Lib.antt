@@ -1,3 +1,4 @@
+pub mod UnderWay
 pub mod Acting
 pub mod Laws
 pub mod Falling
@@ -9,6 +10,7 @@ pub mod Whole
 pub mod Choosing
 pub mod OneAnswer
 pub mod Acts
+pub mod Senders
 pub mod Making
 pub mod Asking
 pub mod Scheduling
@@ -17,4 +19,6 @@ pub mod Resting
 pub mod Played
 pub mod Lending
 pub mod Working
+pub mod Drained
+pub mod Received
 pub mod inside

@@ -1,5 +1,5 @@
 -- What a network is made of, and the network of the laws that these parts stand for.
-use Rattle.std.specs.Prelude.{ℕ, List, [], ◌∷◌, ◌++◌, Result, Ok, Err}
+use Rattle.std.specs.Prelude.{ℕ, zero, suc, List, [], ◌∷◌, ◌++◌, Result, Ok, Err}
 use Rattle.chem_model.specs.declared.name.Name.TheVariants as name
 use Rattle.wire_packet.specs.MessageFacts.{MessageParts}
 use Rattle.wire_packet.specs.declared.packet.Flight.{Flight}
@@ -16,6 +16,12 @@ use Rattle.net_core.specs.declared.parts.Parts.{Parts}
 abbrev pub joined : {X : Type 0} → List (List X) → List X
 joined [] = []
 joined (xs ∷ pieces) = xs ++ joined pieces
+
+-- the members but the one at this place
+abbrev pub without : {X : Type 0} → ℕ → List X → List X
+without n [] = []
+without zero (x ∷ xs) = xs
+without (suc n) (x ∷ xs) = x ∷ without n xs
 
 -- no message: what bytes stand for that spell none
 abbrev pub no_message : MessageParts
@@ -38,9 +44,13 @@ abbrev pub all_carried : List Flight → List Addressed
 all_carried [] = []
 all_carried (f ∷ fs) = carried f ∷ all_carried fs
 
+-- the bytes are the spelling of a message
+abbrev pub IsMessageText : List ℕ → Type 0
+IsMessageText bytes = IsSpelledBy (packet.Message (message_in bytes)) bytes
+
 -- it carries a message's spelling
 abbrev pub IsMessageFlight : Flight → Type 0
-IsMessageFlight f = IsSpelledBy (packet.Message (message_in f.bytes)) f.bytes
+IsMessageFlight f = IsMessageText f.bytes
 
 -- the network that these parts stand for, where so many names are observed of each declaration
 abbrev pub net_of : List ℕ → Parts → Net

@@ -15,13 +15,16 @@ use Rattle.site_solution.specs.InTree.{is_in_tree}
 use Rattle.site_solution.specs.InCode.{is_in_code}
 use Rattle.site_solution.specs.Draws.{CanDraw}
 use Rattle.net_core.specs.declared.parts.Parts.{Parts}
+use Rattle.net_core.specs.declared.senders.Run.{Run}
 use Rattle.net_core.specs.Parts.{joined, net_of, IsMessageFlight}
 use Rattle.net_core.specs.Rising.{AllMade}
+use Rattle.net_core.specs.inside.Runs.{spread}
 
--- the code, the network, and how many events there were
+-- the code, the network, which site sent each packet under way, and how many events there were
 pub record NetParts : Type 0 where
   pub code : CodeParts
   pub net : Net
+  pub froms : List ℕ
   pub events : ℕ
 
 -- the code is a program's, the network runs it, and it stands for some sound numbered solution
@@ -57,3 +60,8 @@ pub record AreFlying (p : Parts) : Type 0 where
 pub record IsWhole (c : CodeParts) (p : Parts) (events : ℕ) : Type 0 where
   pub running : IsRunning c (net_of c.seen p) events
   pub flying : AreFlying p
+
+-- and it is known which site sent each of them
+pub record IsNetWhole (c : CodeParts) (p : Parts) (senders : List Run) (events : ℕ) : Type 0 where
+  pub whole : IsWhole c p events
+  pub sent : length (spread senders) ≡ p.under_way

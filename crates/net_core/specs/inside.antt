@@ -1,5 +1,9 @@
 pub mod Fitting
 pub mod Pieces
+pub mod Runs
+pub mod Noted
+pub mod Pairing
+pub mod Outside
 pub mod PlayedSoFar
 pub mod Handing
 pub mod Starting

@@ -13,10 +13,14 @@ ghost use Rattle.net_core.specs.Acts.{Acts};
 ghost use Rattle.net_core.specs.inside.AtSites.{MayGoAt, HasGoal};
 ghost use Rattle.net_core.specs.Choosing.{Allows};
 ghost use Rattle.net_core.specs.inside.Handing.{AreAsBefore};
+ghost use Rattle.net_core.specs.declared.choice.Choice.TheVariants as choices;
 ghost use Rattle.net_core.specs.Making.{counted, HasActed};
 ghost use Rattle.net_core.specs.Parts.{net_of};
+ghost use Rattle.net_core.specs.Senders.{IsSentBy};
+ghost use Rattle.net_core.specs.inside.Noted.{IsMadeNoted};
+ghost use Rattle.net_core.specs.inside.Runs.{spread};
 ghost use Rattle.net_core.specs.inside.Searched.{IsMet};
-ghost use Rattle.net_core.specs.Whole.{IsWhole};
+ghost use Rattle.net_core.specs.Whole.{IsWhole, IsNetWhole};
 
 use crate::choice::Choice;
 use crate::delivering::deliver_flight;
@@ -24,6 +28,7 @@ use crate::events::{detect_request, halt_request, move_here, move_over, react_pi
 use crate::net::Net;
 use crate::parts::Parts;
 use crate::searching::meeting_site;
+use crate::senders::{Run, note};
 use chem_model::{AtomId, Event, Loc, Memory, Name};
 use env_store::Code;
 use loc_tree::LocTree;
@@ -56,16 +61,19 @@ fn goal_at(sites: &[Site], number: usize, atom: &AtomId) -> Loc
     goal_of(request.ask)
 }
 
-// Meets a request of the site with this number to go.
-fn move_request(
+// Meets a request of the site with this number to go to a location of the site `into`.
+fn move_into(
     alloc: Global,
     parts: &mut Parts,
     code: &Code,
     number: usize,
+    into: usize,
     atom: &AtomId,
 ) -> Result<Event, Memory>
     requires whole { (events : ℕ) × IsWhole code.now parts.old events }
     requires may { MayGoAt parts.old.version parts.old.tree parts.old.sites.items number atom.now }
+    requires goal { (target : place) × HasGoal parts.old.sites.items number atom.now target
+        × (target.site ≡ into) }
     ensures event { IfOk result (λ e. e ≡ event.Move atom.now) }
     ensures moves { OnOk result (Moves (net_of code.now.seen parts.old) atom.now
         (net_of code.now.seen parts.new)) }
@@ -73,13 +81,36 @@ fn move_request(
         → IsWhole code.now parts.old events → IsWhole code.now parts.new (events + 1)) }
     ensures err { OnErr result (AreAsBefore parts.old parts.new) }
 {
-    let goal = goal_at(parts.sites.as_slice(), number, atom);
-    let into = goal.site as usize;
     if into == number {
         move_here(alloc, parts, &code.seen, number, atom)
     } else {
         move_over(alloc, parts, code, number, into, atom)
     }
+}
+
+// Meets a request of the site with this number to go. The answer is the site to which the location
+// goes, and the event.
+fn move_request(
+    alloc: Global,
+    parts: &mut Parts,
+    code: &Code,
+    number: usize,
+    atom: &AtomId,
+) -> Result<(u32, Event), Memory>
+    requires whole { (events : ℕ) × IsWhole code.now parts.old events }
+    requires may { MayGoAt parts.old.version parts.old.tree parts.old.sites.items number atom.now }
+    ensures event { IfOk result (λ done. done.1 ≡ event.Move atom.now) }
+    ensures sent_by { IfOk result (λ done.
+        IsSentBy (net_of code.now.seen parts.old) (choices.Move atom.now) done.0) }
+    ensures moves { OnOk result (Moves (net_of code.now.seen parts.old) atom.now
+        (net_of code.now.seen parts.new)) }
+    ensures whole { OnOk result ((events : ℕ) → events < 2 ^ 32
+        → IsWhole code.now parts.old events → IsWhole code.now parts.new (events + 1)) }
+    ensures err { OnErr result (AreAsBefore parts.old parts.new) }
+{
+    let goal = goal_at(parts.sites.as_slice(), number, atom);
+    let event = move_into(alloc, parts, code, number, goal.site as usize, atom)?;
+    Ok((goal.site, event))
 }
 
 // The first site that has a request which the choice meets.
@@ -94,43 +125,55 @@ fn met_by(sites: &[Site], tree: &LocTree, version: u32, choice: &Choice) -> usiz
     }
 }
 
-// Meets the request of a choice that meets one of the site with this number.
+// Meets the request of a choice that meets one of the site with this number. The answer is the site
+// that sends what goes on, and the event.
 fn meet(
     alloc: Global,
     parts: &mut Parts,
     code: &Code,
     choice: &Choice,
     number: usize,
-) -> Result<Event, Memory>
+) -> Result<(u32, Event), Memory>
     requires whole { (events : ℕ) × IsWhole code.now parts.old events }
     requires met { IsMet parts.old.version parts.old.sites.items parts.old.tree choice.now number }
-    ensures acts { IfOk result (λ e. Acts code.now (net_of code.now.seen parts.old) choice.now
-        (Some e) (net_of code.now.seen parts.new)) }
+    ensures acts { IfOk result (λ done. Acts code.now (net_of code.now.seen parts.old) choice.now
+        (Some done.1) (net_of code.now.seen parts.new)) }
+    ensures sent_by { IfOk result (λ done.
+        IsSentBy (net_of code.now.seen parts.old) choice.now done.0) }
     ensures whole { OnOk result ((events : ℕ) → events < 2 ^ 32
         → IsWhole code.now parts.old events → IsWhole code.now parts.new (events + 1)) }
     ensures err { OnErr result (AreAsBefore parts.old parts.new) }
 {
     match choice {
         Choice::Move { atom } => move_request(alloc, parts, code, number, atom),
-        Choice::Halt { atom } => Ok(halt_request(parts, number, atom)),
-        Choice::Detect { atom } => detect_request(alloc, parts, &code.seen, number, atom),
+        Choice::Halt { atom } => {
+            let event = halt_request(parts, number, atom);
+            Ok((number as u32, event))
+        }
+        Choice::Detect { atom } => {
+            let event = detect_request(alloc, parts, &code.seen, number, atom)?;
+            Ok((number as u32, event))
+        }
         Choice::React { .. } | Choice::Deliver { .. } => unreachable!(),
     }
 }
 
-// Makes an enabled choice.
+// Makes an enabled choice. The answer is the site that sends what it sends, and the event.
 fn make(
     alloc: Global,
     parts: &mut Parts,
     code: &Code,
     choice: &Choice,
-) -> Result<Option<Event>, Memory>
+) -> Result<(u32, Option<Event>), Memory>
     requires whole { (events : ℕ) × IsWhole code.now parts.old events }
     requires allowed { Allows code.now (net_of code.now.seen parts.old) choice.now }
-    ensures acts { IfOk result (λ o. Acts code.now (net_of code.now.seen parts.old) choice.now o
-        (net_of code.now.seen parts.new)) }
-    ensures whole { IfOk result (λ o. (events : ℕ) → events < 2 ^ 32
-        → IsWhole code.now parts.old events → IsWhole code.now parts.new (events + counted o)) }
+    ensures acts { IfOk result (λ made. Acts code.now (net_of code.now.seen parts.old) choice.now
+        made.1 (net_of code.now.seen parts.new)) }
+    ensures sent_by { IfOk result (λ made.
+        IsSentBy (net_of code.now.seen parts.old) choice.now made.0) }
+    ensures whole { IfOk result (λ made. (events : ℕ) → events < 2 ^ 32
+        → IsWhole code.now parts.old events
+        → IsWhole code.now parts.new (events + counted made.1)) }
     ensures err { OnErr result ((events : ℕ) → IsWhole code.now parts.old events
         → IsWhole code.now parts.new events) }
     ensures same { OnErr result (net_of code.now.seen parts.new
@@ -139,23 +182,56 @@ fn make(
     match choice {
         Choice::React { site, pick } => {
             let event = react_pick(alloc, parts, code, *site, pick)?;
-            Ok(Some(event))
+            Ok((*site, Some(event)))
         }
         Choice::Deliver { flight } => {
-            deliver_flight(alloc, parts, *flight)?;
-            Ok(None)
+            let target = deliver_flight(alloc, parts, *flight)?;
+            Ok((target, None))
         }
         Choice::Move { .. } | Choice::Halt { .. } | Choice::Detect { .. } => {
             let number = met_by(parts.sites.as_slice(), &parts.tree, parts.version, choice);
-            let event = meet(alloc, parts, code, choice, number)?;
-            Ok(Some(event))
+            let (sender, event) = meet(alloc, parts, code, choice, number)?;
+            Ok((sender, Some(event)))
         }
     }
 }
 
+// Makes an enabled choice, and notes which site sent what it sends. Where there is no memory,
+// nothing changes.
+fn make_noted(
+    alloc: Global,
+    parts: &mut Parts,
+    senders: &mut Vec<Run>,
+    code: &Code,
+    choice: &Choice,
+) -> Result<Option<Event>, Memory>
+    requires whole { (events : ℕ) × (events < 2 ^ 32)
+        × IsNetWhole code.now parts.old senders.old.items events }
+    requires allowed { Allows code.now (net_of code.now.seen parts.old) choice.now }
+    ensures made { IfOk result (λ o. IsMadeNoted code.now parts.old (spread senders.old.items)
+        choice.now o parts.new (spread senders.new.items)) }
+    ensures whole { IfOk result (λ o. (events : ℕ) → events < 2 ^ 32
+        → IsNetWhole code.now parts.old senders.old.items events
+        → IsNetWhole code.now parts.new senders.new.items (events + counted o)) }
+    ensures err { OnErr result ((events : ℕ)
+        → IsNetWhole code.now parts.old senders.old.items events
+        → IsNetWhole code.now parts.new senders.new.items events) }
+    ensures same { OnErr result (net_of code.now.seen parts.new
+        ≡ net_of code.now.seen parts.old) }
+    ensures same_senders { OnErr result (spread senders.new.items ≡ spread senders.old.items) }
+{
+    senders.reserve(1)?;
+    let before = parts.under_way;
+    let (sender, event) = make(alloc, parts, code, choice)?;
+    note(senders, choice, sender, before, parts.under_way);
+    Ok(event)
+}
+
 impl Net {
     /// Makes an enabled choice, and answers its event; a delivery has none. A packet that has to be
-    /// forwarded goes behind all others, to the site that hosts its home now. Where there is no
+    /// forwarded goes behind all others, to the site that hosts its home now. What is sent is under
+    /// way from the site that the choice says: that of the reaction, the one that was the packet's
+    /// target, the one to which a location goes, or the one that has the request. Where there is no
     /// memory, nothing changes.
     ///
     /// The network stands for what the event leads to, from each solution for which it stood; after
@@ -166,7 +242,13 @@ impl Net {
         ensures ok { IfOk result (λ o. HasActed self.old choice.now o self.new) }
         ensures err { OnErr result (self.new ≡ self.old) }
     {
-        match make(alloc, &mut self.parts, &self.code, choice)? {
+        match make_noted(
+            alloc,
+            &mut self.parts,
+            &mut self.senders,
+            &self.code,
+            choice,
+        )? {
             Some(event) => {
                 self.events += 1;
                 Ok(Some(event))

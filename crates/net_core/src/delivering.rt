@@ -6,13 +6,15 @@ ghost use Rattle.wire_packet.specs.declared.parcel.Packet.TheVariants as sent;
 ghost use Rattle.env_store.specs.CodeParts.{CodeParts};
 ghost use Rattle.net_laws.specs.Site.{Site as site_seen};
 ghost use Rattle.router.specs.Delivering.{can_deliver};
+ghost use Rattle.net_core.specs.declared.choice.Choice.TheVariants as choices;
 ghost use Rattle.net_core.specs.Acting.{Delivers};
-ghost use Rattle.net_core.specs.Parts.{joined, message_in, IsMessageFlight, net_of};
-ghost use Rattle.net_core.specs.inside.Pieces.{without, IsPlace};
+ghost use Rattle.net_core.specs.Parts.{joined, without, message_in, IsMessageText, net_of};
+ghost use Rattle.net_core.specs.Senders.{IsSentBy};
+ghost use Rattle.net_core.specs.inside.Pieces.{IsPlace};
 ghost use Rattle.net_core.specs.Whole.{AllFit, IsWhole};
 ghost use Rattle.net_core.specs.inside.Alone.{IsReadyForCalls};
-ghost use Rattle.net_core.specs.inside.Delivering.{IsBroughtTo, GoesOn, IsFlightBrought};
-ghost use Rattle.net_core.specs.inside.Delivering.{IsFlightBroughtAt};
+ghost use Rattle.net_core.specs.inside.Delivering.{IsBroughtTo, GoesOn, IsTextBrought};
+ghost use Rattle.net_core.specs.inside.Delivering.{IsTextBroughtAt};
 
 use crate::parts::Parts;
 use crate::pieces::{add_piece, member_at, place_of, take_out};
@@ -34,12 +36,12 @@ fn message_of(packet: Packet) -> Msg
     }
 }
 
-// The message that a flight carries.
-fn read_flight(alloc: Global, flight: &Flight) -> Result<Msg, Memory>
-    requires { IsMessageFlight flight.now }
-    ensures { IfOk result (λ msg. msg ≡ message_in flight.now.bytes) }
+// The message that bytes spell.
+fn read_message(alloc: Global, bytes: &[u8]) -> Result<Msg, Memory>
+    requires { IsMessageText bytes.now }
+    ensures { IfOk result (λ msg. msg ≡ message_in bytes.now) }
 {
-    match decode(alloc, flight.bytes.as_slice()) {
+    match decode(alloc, bytes) {
         Ok(packet) => Ok(message_of(packet)),
         Err(DecodeEnd::Memory) => Err(Memory),
         Err(DecodeEnd::Bad { .. }) => unreachable!(),
@@ -62,58 +64,59 @@ fn bring(site: &mut Site, tree: &LocTree, msg: Msg) -> Result<Option<u32>, Memor
 }
 
 // The flight with these bytes to the site to which it goes on, if it does.
-fn onward(alloc: Global, flight: &Flight, on: Option<u32>) -> Result<Flights, Memory>
-    ensures ok { IfOk result (λ more. GoesOn flight.now on more) }
+fn onward(alloc: Global, bytes: &[u8], on: Option<u32>) -> Result<Flights, Memory>
+    ensures ok { IfOk result (λ more. GoesOn bytes.now on more) }
     ensures err { OnErr result (IsSome on) }
 {
     let mut more = Items::new(alloc);
     if let Some(target) = on {
-        let bytes = flight.bytes.copy(alloc)?;
+        let bytes = Items::from_slice(alloc, bytes)?;
         more.push(Flight { target, bytes })?;
     }
     Ok(more)
 }
 
-// Brings a flight to a site: its message is put there, or the answer is the flight that goes on.
-pub(crate) fn bring_flight(
+// Brings the message that bytes spell to a site: it is put there, or the answer is the flight that
+// goes on.
+pub(crate) fn bring_text(
     alloc: Global,
     site: &mut Site,
     tree: &LocTree,
-    flight: &Flight,
+    bytes: &[u8],
 ) -> Result<Flights, Memory>
-    requires flight { IsMessageFlight flight.now }
-    requires can { can_deliver tree.now site.old (message_in flight.now.bytes) ≡ true }
+    requires spelled { IsMessageText bytes.now }
+    requires can { can_deliver tree.now site.old (message_in bytes.now) ≡ true }
     ensures ok { IfOk result (λ more.
-        IsFlightBrought tree.now site.old flight.now more site.new) }
+        IsTextBrought tree.now site.old bytes.now more site.new) }
     ensures fit { OnOk result ((c : CodeParts) → IsReadyForCalls c tree.now site.old
         → IsReadyForCalls c tree.now site.new) }
     ensures err { OnErr result (site.new ≡ site.old) }
 {
-    let msg = read_flight(alloc, flight)?;
+    let msg = read_message(alloc, bytes)?;
     let on = bring(site, tree, msg)?;
-    onward(alloc, flight, on)
+    onward(alloc, bytes, on)
 }
 
-// Brings a flight to that of the sites which is its target.
-fn bring_to_target(
+// Brings the message that bytes spell to the site with this number.
+pub(crate) fn bring_to_target(
     alloc: Global,
     sites: &mut [Site],
     tree: &LocTree,
-    flight: &Flight,
+    target: u32,
+    bytes: &[u8],
 ) -> Result<Flights, Memory>
-    requires flight { IsMessageFlight flight.now }
-    requires target { flight.now.target < length sites.old }
-    requires can { (s : site_seen) → slice_get sites.old flight.now.target ≡ Some s
-        → can_deliver tree.now s (message_in flight.now.bytes) ≡ true }
-    ensures ok { IfOk result (λ more. (s : site_seen)
-        → slice_get sites.old flight.now.target ≡ Some s
-        → IsFlightBroughtAt tree.now s flight.now more sites.old sites.new) }
+    requires spelled { IsMessageText bytes.now }
+    requires target { target < length sites.old }
+    requires can { (s : site_seen) → slice_get sites.old target ≡ Some s
+        → can_deliver tree.now s (message_in bytes.now) ≡ true }
+    ensures ok { IfOk result (λ more. (s : site_seen) → slice_get sites.old target ≡ Some s
+        → IsTextBroughtAt tree.now target s bytes.now more sites.old sites.new) }
     ensures fit { OnOk result ((c : CodeParts) → AllFit c tree.now sites.old
         → AllFit c tree.now sites.new) }
     ensures err { OnErr result (sites.new ≡ sites.old) }
 {
-    let site = &mut sites[flight.target as usize];
-    bring_flight(alloc, site, tree, flight)
+    let site = &mut sites[target as usize];
+    bring_text(alloc, site, tree, bytes)
 }
 
 // Takes a flight out, and adds others behind all.
@@ -128,12 +131,15 @@ fn replace(flights: &mut Vec<Flights>, piece: usize, index: usize, more: Flights
 }
 
 // Delivers the packet with this index: it is put at its home, or goes on, behind all others, to the
-// site that hosts that. Where there is no memory, nothing changes.
-pub(crate) fn deliver_flight(alloc: Global, parts: &mut Parts, flight: u32) -> Result<(), Memory>
+// site that hosts that. The answer is the site that was its target. Where there is no memory,
+// nothing changes.
+pub(crate) fn deliver_flight(alloc: Global, parts: &mut Parts, flight: u32) -> Result<u32, Memory>
     requires whole { (c : CodeParts) × (events : ℕ) × IsWhole c parts.old events }
     requires flight { flight < parts.old.under_way }
     ensures ok { OnOk result ((seen : List ℕ)
         → Delivers (net_of seen parts.old) flight (net_of seen parts.new)) }
+    ensures sent_by { IfOk result (λ target. (seen : List ℕ)
+        → IsSentBy (net_of seen parts.old) (choices.Deliver flight) target) }
     ensures whole { (c : CodeParts) (events : ℕ) → IsWhole c parts.old events
         → IsWhole c parts.new events }
     ensures err { OnErr result ((seen : List ℕ)
@@ -142,9 +148,11 @@ pub(crate) fn deliver_flight(alloc: Global, parts: &mut Parts, flight: u32) -> R
     parts.flights.reserve(1)?;
     let (piece, index) = place_of(parts.flights.as_slice(), flight as usize);
     let found = member_at(parts.flights.as_slice(), piece, index);
-    let more = bring_to_target(alloc, &mut parts.sites, &parts.tree, found)?;
+    let target = found.target;
+    let bytes = found.bytes.as_slice();
+    let more = bring_to_target(alloc, &mut parts.sites, &parts.tree, target, bytes)?;
     let count = more.len() as u32;
     replace(&mut parts.flights, piece, index, more);
     parts.under_way = parts.under_way - 1 + count;
-    Ok(())
+    Ok(target)
 }

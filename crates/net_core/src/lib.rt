@@ -5,6 +5,7 @@ mod acting;
 mod asking;
 mod choice;
 mod delivering;
+mod drained;
 mod events;
 mod handing;
 mod laws;
@@ -16,14 +17,17 @@ mod parts;
 mod pieces;
 mod plays;
 mod reacting;
+mod receiving;
 mod round;
 mod scheduling;
 mod searching;
+mod senders;
 mod slots;
 mod tracing;
 mod turn;
 
 pub use choice::{Choice, Choices};
+pub use drained::{FlightFrom, FlightFroms};
 pub use laws::{
     acts_lead, counts_rise, deliveries_fall, lists_replay, none_enabled_is_quiet, opened_play,
     reactions_bear_new,

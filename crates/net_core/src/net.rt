@@ -6,12 +6,14 @@ ghost use Rattle.net_core.specs.Asking.{asks};
 ghost use Rattle.net_core.specs.Choosing.{Allows, IsNext};
 ghost use Rattle.net_core.specs.Resting.{IsNoneWhereQuiet};
 ghost use Rattle.net_core.specs.Scheduling.{ReadyOpensNone};
+ghost use Rattle.net_core.specs.Whole.{RunsSome};
 ghost use Rattle.net_core.specs.Working.{IsOpeningAt};
 
 use crate::asking::all_asks;
 use crate::choice::{Choice, Choices};
 use crate::parts::Parts;
 use crate::searching::{is_enabled, next_choice, opening_of};
+use crate::senders::Run;
 use crate::tracing::copy_all;
 use chem_model::{Memory, Outs};
 use env_store::Code;
@@ -20,32 +22,36 @@ use std::marker::Model;
 
 /// A network of sites that run the code of a program: what contracts see of it is the code, the
 /// network, with the version of the program and with the packets under way as the messages that
-/// they spell, and the number of events so far.
+/// they spell, which site emitted or forwarded each of these, and the number of events so far.
 ///
 /// Each network keeps the facts of `IsWhole`: its code is a program's, and it stands for some
 /// sound numbered solution; each site meets what its calls need; no site has made more than
 /// 1,048,576 numbers for each event and one time more; and each packet under way, of which there
-/// are fewer than 2^32, is the spelling of a message on a channel, to one of the sites.
+/// are fewer than 2^32, is the spelling of a message on a channel, to one of the sites, and has a
+/// site that emitted or forwarded it.
 #[derive(Drop)]
 pub struct Net {
     pub(crate) code: Code,
     pub(crate) parts: Parts,
+    pub(crate) senders: Vec<Run>,
     pub(crate) events: u32,
 }
 
 impl Model for Net {
-    ghost use Rattle.net_core.specs.Whole.{NetParts, IsWhole};
+    ghost use Rattle.net_core.specs.Whole.{NetParts, IsNetWhole};
     ghost use Rattle.net_core.specs.Parts.{net_of};
+    ghost use Rattle.net_core.specs.inside.Runs.{spread};
 
     ghost Value = { NetParts };
 
     ghost view = { λ n. record {
       code = n.code;
       net = net_of n.code.seen n.parts;
+      froms = spread n.senders.items;
       events = n.events;
     } };
 
-    ghost invariant = { λ n. IsWhole n.code n.parts n.events };
+    ghost invariant = { λ n. IsNetWhole n.code n.parts n.senders.items n.events };
 }
 
 impl Net {
@@ -80,6 +86,15 @@ impl Net {
     /// The facts of its code hold. It does nothing.
     pub fn code_is_kept(&self)
         ensures { IsCode self.now.code }
+    {
+        let _events = self.events;
+    }
+
+    /// The network runs the code of a program and stands for some sound numbered solution, and for
+    /// each packet under way there is a site that sent it. It does nothing.
+    pub fn stands_for_some(&self)
+        ensures runs { RunsSome self.now.code self.now.net }
+        ensures sent { length self.now.froms ≡ length self.now.net.packets }
     {
         let _events = self.events;
     }

@@ -2,8 +2,8 @@
 // in all of them.
 ghost use Rattle.std.specs.Prelude.{◌≡◌, ℕ, ◌<◌, ◌≤◌, ◌++◌, Some, length, slice_get};
 ghost use Rattle.std.specs.Prelude.{vec_len, vec_capacity};
-ghost use Rattle.net_core.specs.Parts.{joined};
-ghost use Rattle.net_core.specs.inside.Pieces.{without, IsPlace};
+ghost use Rattle.net_core.specs.Parts.{joined, without};
+ghost use Rattle.net_core.specs.inside.Pieces.{IsPlace};
 
 use chem_model::Items;
 

@@ -1,11 +1,12 @@
 // Rounds of all sites, lent to workers.
-ghost use Rattle.std.specs.Prelude.{◌≡◌, ℕ, ◌+◌, ◌-◌, ◌*◌, ◌<◌, ◌≤◌, ◌^◌, length, IfOk};
-ghost use Rattle.net_core.specs.inside.Slots.{HasRound};
+ghost use Rattle.std.specs.Prelude.{◌≡◌, ℕ, ◌+◌, ◌-◌, ◌*◌, ◌<◌, ◌≤◌, ◌^◌, length, IfOk, OnOk};
+ghost use Rattle.net_core.specs.inside.Slots.{HasRound, HasSent};
 ghost use Rattle.net_core.specs.Whole.{IsWhole};
 ghost use Rattle.net_core.specs.Working.{HasWorked};
 
 use crate::net::Net;
 use crate::parts::Parts;
+use crate::senders::Run;
 use crate::slots::{join_all, lend, slots_of, take_all_back};
 use chem_model::{Items, Journal, Memory};
 use env_store::Code;
@@ -19,6 +20,7 @@ fn round_of<R: Threads + Sync>(
     rt: &R,
     alloc: Global,
     parts: &mut Parts,
+    senders: &mut Vec<Run>,
     code: &Code,
     workers: u32,
     quota: u32,
@@ -26,7 +28,9 @@ fn round_of<R: Threads + Sync>(
     requires workers { 1 ≤ workers }
     requires few { (events : ℕ) × (events + quota * length parts.old.sites.items < 2 ^ 32 - 1)
         × IsWhole code.now parts.old events }
-    ensures { IfOk result (λ journal. HasRound code.now quota parts.old parts.new journal) }
+    ensures round { IfOk result (λ journal.
+        HasRound code.now quota parts.old parts.new journal) }
+    ensures sent { OnOk result (HasSent code.now quota parts.old parts.new senders.new.items) }
 {
     let flights = mem::replace(&mut parts.flights, Vec::new(alloc));
     let mail = join_all(alloc, flights)?;
@@ -44,8 +48,9 @@ fn round_of<R: Threads + Sync>(
     );
     drop(mail);
     parts.under_way = 0;
+    senders.clear();
     let mut journal = Items::new(alloc);
-    match take_all_back(parts, &mut journal, slots) {
+    match take_all_back(parts, senders, &mut journal, slots) {
         Ok(()) => Ok(journal),
         Err(memory) => {
             drop(journal);
@@ -61,8 +66,8 @@ impl Net {
     /// is ready or the one that is opens a location.
     ///
     /// The answer has the events of all sites, site after site. Under way are then, site after
-    /// site, the packets that go on before those that the site sends. No number of workers occurs
-    /// in it. Where there is no memory, the network is dropped.
+    /// site, the packets that go on before those that the site sends, both from that site. No
+    /// number of workers occurs in it. Where there is no memory, the network is dropped.
     pub fn round<R: Threads + Sync>(
         self,
         rt: &R,
@@ -77,20 +82,23 @@ impl Net {
         let Net {
             code,
             mut parts,
+            mut senders,
             events,
         } = self;
-        match round_of(rt, alloc, &mut parts, &code, workers, quota) {
+        match round_of(rt, alloc, &mut parts, &mut senders, &code, workers, quota) {
             Ok(journal) => {
                 let events = events + journal.len() as u32;
                 let net = Net {
                     code,
                     parts,
+                    senders,
                     events,
                 };
                 Ok((net, journal))
             }
             Err(memory) => {
                 drop(parts);
+                drop(senders);
                 drop(code);
                 Err(memory)
             }

@@ -3,11 +3,13 @@ ghost use Rattle.std.specs.Prelude.{◌≡◌, ◌+◌, ◌<◌, ◌≤◌, ◌^
 ghost use Rattle.std.specs.Prelude.{All, map, length, IfOk, OnOk};
 ghost use Rattle.net_core.specs.Parts.{joined};
 ghost use Rattle.net_core.specs.inside.Slots.{CanWork, IsServed, Pairwise, slot_of};
-ghost use Rattle.net_core.specs.inside.Slots.{IsTaken, AreBack};
+ghost use Rattle.net_core.specs.inside.Slots.{IsTaken, AreBack, froms_of};
+ghost use Rattle.net_core.specs.inside.Runs.{spread};
 
 use crate::handing::add_flights;
 use crate::parts::Parts;
 use crate::pieces::add_piece;
+use crate::senders::{Run, push_run};
 use crate::turn::{Made, Work, take_turn};
 use chem_model::{Items, Journal, Memory};
 use env_store::Code;
@@ -121,16 +123,36 @@ fn take_back(parts: &mut Parts, journal: &mut Journal, slot: Slot) -> Result<(),
     }
 }
 
+// Takes a site back, and notes that it sent what its turn leaves.
+fn take_noted(
+    parts: &mut Parts,
+    senders: &mut Vec<Run>,
+    journal: &mut Journal,
+    slot: Slot,
+) -> Result<(), Memory>
+    ensures back { OnOk result (AreBack (slot ∷ []) parts.old journal.old parts.new journal.new) }
+    ensures sent { OnOk result (spread senders.new.items
+        ≡ spread senders.old.items ++ froms_of (slot ∷ [])) }
+{
+    let number = slot.site.number();
+    let before = parts.under_way;
+    take_back(parts, journal, slot)?;
+    push_run(senders, number, parts.under_way - before)
+}
+
 // Takes all sites back, in order.
 pub(crate) fn take_all_back(
     parts: &mut Parts,
+    senders: &mut Vec<Run>,
     journal: &mut Journal,
     slots: Vec<Slot>,
 ) -> Result<(), Memory>
-    ensures { OnOk result (AreBack slots.items parts.old journal.old parts.new journal.new) }
+    ensures back { OnOk result (AreBack slots.items parts.old journal.old parts.new journal.new) }
+    ensures sent { OnOk result (spread senders.new.items
+        ≡ spread senders.old.items ++ froms_of slots.items) }
 {
     for slot in slots {
-        take_back(parts, journal, slot)?;
+        take_noted(parts, senders, journal, slot)?;
     }
     Ok(())
 }

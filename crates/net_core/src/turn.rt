@@ -16,7 +16,7 @@ ghost use Rattle.net_core.specs.inside.Alone.{IsWorked};
 ghost use Rattle.net_core.specs.Lending.{mail_to};
 ghost use Rattle.net_core.specs.Parts.{message_in, all_carried, IsMessageFlight};
 
-use crate::delivering::bring_flight;
+use crate::delivering::bring_text;
 use crate::reacting::react_by;
 use chem_model::{Event, Items, Journal, Memory, Outs};
 use env_store::Code;
@@ -57,7 +57,7 @@ fn arrive(
     ensures fit { OnOk result ((c : CodeParts) → IsReadyForCalls c tree.now site.old
         → IsReadyForCalls c tree.now site.new) }
 {
-    let mut more = bring_flight(alloc, site, tree, flight)?;
+    let mut more = bring_text(alloc, site, tree, flight.bytes.as_slice())?;
     on.append(&mut more)
 }
 

@@ -52,7 +52,7 @@ pub record Arrives (t : Tree) (s : Site) (f : Flight) (old : List Flight) (new :
   pub target : Option ℕ
   pub more : List Flight
   pub brought : IsBroughtTo t s (message_in f.bytes) target new
-  pub goes : GoesOn f target more
+  pub goes : GoesOn f.bytes target more
   pub on_is : on ≡ old ++ more
 
 -- the mail among these flights was worked off, and these go on

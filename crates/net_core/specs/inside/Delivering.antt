@@ -22,21 +22,21 @@ IsBrought t i s m None old new =
 IsBrought t i s m (Some target) old new =
     (among s.locs (home_at s m) ≡ false) × (target ≡ address t (home_at s m)) × (new ≡ old)
 
--- the flight to the site to which it goes on, if it does
-abbrev pub GoesOn : Flight → Option ℕ → List Flight → Type 0
-GoesOn f None more = more ≡ []
-GoesOn f (Some target) more = more ≡ record { target = target; bytes = f.bytes } ∷ []
+-- the flight with these bytes to the site to which it goes on, if it does
+abbrev pub GoesOn : List ℕ → Option ℕ → List Flight → Type 0
+GoesOn bytes None more = more ≡ []
+GoesOn bytes (Some target) more = more ≡ record { target = target; bytes = bytes } ∷ []
 
--- the message of a flight was put at the site, or it goes on from there
-pub record IsFlightBrought (t : Tree) (s : Site) (f : Flight) (more : List Flight) (new : Site)
+-- the message that bytes spell was put at the site, or it goes on from there
+pub record IsTextBrought (t : Tree) (s : Site) (bytes : List ℕ) (more : List Flight) (new : Site)
     : Type 0 where
   pub on : Option ℕ
-  pub brought : IsBroughtTo t s (message_in f.bytes) on new
-  pub goes : GoesOn f on more
+  pub brought : IsBroughtTo t s (message_in bytes) on new
+  pub goes : GoesOn bytes on more
 
--- the message of a flight was put at its target, or it goes on from there
-pub record IsFlightBroughtAt (t : Tree) (s : Site) (f : Flight) (more : List Flight)
+-- the same at the site with this number
+pub record IsTextBroughtAt (t : Tree) (i : ℕ) (s : Site) (bytes : List ℕ) (more : List Flight)
     (old new : List Site) : Type 0 where
   pub on : Option ℕ
-  pub brought : IsBrought t f.target s (message_in f.bytes) on old new
-  pub goes : GoesOn f on more
+  pub brought : IsBrought t i s (message_in bytes) on old new
+  pub goes : GoesOn bytes on more

@@ -1,13 +1,6 @@
 -- Members of lists of pieces.
-use Rattle.std.specs.Prelude.{◌≡◌, ℕ, zero, suc, ◌+◌, ◌<◌, List, [], ◌∷◌, length, take, Some}
-use Rattle.std.specs.Prelude.{slice_get}
+use Rattle.std.specs.Prelude.{◌≡◌, ℕ, ◌+◌, ◌<◌, List, length, take, Some, slice_get}
 use Rattle.net_core.specs.Parts.{joined}
-
--- the members but the one at this place
-abbrev pub without : {X : Type 0} → ℕ → List X → List X
-without n [] = []
-without zero (x ∷ xs) = xs
-without (suc n) (x ∷ xs) = x ∷ without n xs
 
 -- the member at this place of all pieces is the one at this index of this piece
 pub record IsPlace {X : Type 0} (pieces : List (List X)) (place piece index : ℕ) : Type 0 where

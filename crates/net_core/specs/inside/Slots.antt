@@ -1,6 +1,6 @@
 -- Sites that are lent to workers, and what is taken back of them. No number of workers occurs here.
 use Rattle.std.specs.Prelude.{◌≡◌, ℕ, ◌+◌, ◌*◌, ◌-◌, ◌<◌, ◌≤◌, ◌^◌, List, [], ◌∷◌, ◌++◌, length}
-use Rattle.std.specs.Prelude.{Option, Some, None}
+use Rattle.std.specs.Prelude.{Option, Some, None, replicate}
 use Rattle.chem_model.specs.declared.event.Event.{Event}
 use Rattle.chem_model.specs.declared.event.Out.{Out}
 use Rattle.chem_model.specs.Each.{Each}
@@ -9,10 +9,12 @@ use Rattle.env_store.specs.CodeParts.{CodeParts}
 use Rattle.loc_tree.specs.Tree.{Tree, bare}
 use Rattle.net_laws.specs.Site.{Site}
 use Rattle.net_core.specs.declared.parts.Parts.{Parts}
+use Rattle.net_core.specs.declared.senders.Run.{Run}
 use Rattle.net_core.specs.declared.slots.Slot.{Slot}
 use Rattle.net_core.specs.declared.turn.Work.{Work}
 use Rattle.net_core.specs.inside.Alone.{IsAlone, IsWorked}
-use Rattle.net_core.specs.Lending.{mail_to}
+use Rattle.net_core.specs.inside.Runs.{spread}
+use Rattle.net_core.specs.Lending.{mail_to, AreSentInTurn}
 use Rattle.net_core.specs.Parts.{joined, all_carried, IsMessageFlight, net_of}
 use Rattle.net_core.specs.Scheduling.{AreTurns, numbers}
 use Rattle.net_core.specs.Whole.{IsWhole}
@@ -81,6 +83,11 @@ abbrev pub flights_of : List Slot → List Flight
 flights_of [] = []
 flights_of (s ∷ ss) = flights_in s.work ++ flights_of ss
 
+-- each of them from the site that leaves it
+abbrev pub froms_of : List Slot → List ℕ
+froms_of [] = []
+froms_of (s ∷ ss) = replicate (length (flights_in s.work)) s.site.number ++ froms_of ss
+
 -- ---- taking back
 
 -- what the work of a turn left is behind what the parts and the journal had
@@ -121,3 +128,11 @@ pub record HasRound (c : CodeParts) (quota : ℕ) (old new : Parts) (es : List E
   pub whole :
       (events : ℕ) → events + quota * length old.sites.items < 2 ^ 32 - 1 → IsWhole c old events
       → IsWhole c new (events + length es)
+
+-- and each packet that is then under way is from the site that left it
+pub record HasSent (c : CodeParts) (quota : ℕ) (old new : Parts) (senders : List Run) : Type 0
+  where
+    pub turns :
+        let net = net_of c.seen old in
+        AreSentInTurn c quota net.tree net.packets 0 net.sites (spread senders)
+    pub many : length (spread senders) ≡ new.under_way

@@ -1,13 +1,16 @@
-use Rattle.std.proofs.Common.{◌≡◌, ◌<◌, ◌-◌, ◌+◌, ◌∙◌, ℕ, List, Some, length, slice_get, sym, ap}
-use Rattle.std.proofs.Common.{subst, refl, arith}
+use Rattle.std.proofs.Common.{◌≡◌, ◌<◌, ◌-◌, ◌+◌, ◌∙◌, ◌^◌, ℕ, true, List, Some, length, slice_get}
+use Rattle.std.proofs.Common.{sym, ap, subst, refl, arith}
 use Rattle.std.specs.Vec.{with_items}
 use Rattle.std.proofs.lemmas.List.{with_items_is}
 use Rattle.net_core.specs.inside.Delivering.{IsBrought}
 use Rattle.net_laws.specs.Site.{Site}
+use Rattle.router.specs.Delivering.{can_deliver}
 use Rattle.net_core.specs.declared.parts.Parts.{Parts}
-use Rattle.net_core.specs.Parts.{message_in, net_of}
+use Rattle.net_core.specs.Parts.{joined, carried, message_in, IsMessageText, net_of}
+use Rattle.net_core.specs.Senders.{deliver}
 use Rattle.net_core.specs.inside.Handing.{AreAsBefore}
 use Rattle.net_core.specs.Whole.{AllFit}
+use Rattle.net_core.proofs.Carrying.{carried_at}
 use Rattle.net_core.proofs.Deliveries.{flight_spelled, target_below, flight_may, delivers}
 use Rattle.net_core.proofs.Deliveries.{delivered_whole, as_before_net, as_before_whole}
 use Rattle.net_core.proofs.Deliveries.{flight_found, flights_left, brought_in, goes_few}
@@ -15,15 +18,15 @@ use Rattle.net_core.proofs.Fitting.{fit_full, on_err}
 use Rattle.net_core.proofs.Leading.{get_some}
 use Rattle.net_core.proofs.delivering.deliver_flight.Goals as goal
 
-pub bring_to_target-requires-clause-flight : goal.bring_to_target-requires-clause-flight
-bring_to_target-requires-clause-flight c =
+pub bring_to_target-requires-clause-spelled : goal.bring_to_target-requires-clause-spelled
+bring_to_target-requires-clause-spelled c =
     let found = flight_found c.args.parts.now.flights.items c.reserve.new.self.items
     c.as_slice.result.now c.as_slice-2.result.now c.args.flight c.place_of-piece.result.0
     c.place_of-piece.result.1 c.member_at-found.result.now
     c.in_ok-reserve.ensures.items c.as_slice.ensures.value c.as_slice-2.ensures.value
     c.place_of-piece.ensures c.member_at-found.ensures in
-    flight_spelled c.args.parts.now c.args.flight c.member_at-found.result.now
-    c.requires.whole.2.flying found
+    subst IsMessageText (sym c.as_slice-bytes.ensures.members) (flight_spelled c.args.parts.now
+    c.args.flight c.member_at-found.result.now c.requires.whole.2.flying found)
 
 pub bring_to_target-requires-clause-target : goal.bring_to_target-requires-clause-target
 bring_to_target-requires-clause-target c =
@@ -46,8 +49,9 @@ bring_to_target-requires-clause-can c = λ s at.
     let here : slice_get c.args.parts.now.sites.items c.member_at-found.result.now.target ≡ Some s =
     ap (λ (us : List Site). slice_get us c.member_at-found.result.now.target)
     (sym c.deref_mut.ensures.value) ∙ at in
-    flight_may c.requires.whole.0 c.args.parts.now c.requires.whole.1 c.args.flight
-    c.member_at-found.result.now s c.requires.whole.2 found here
+    subst (λ (bs : List ℕ). can_deliver c.args.parts.now.tree s (message_in bs) ≡ true)
+    (sym c.as_slice-bytes.ensures.members) (flight_may c.requires.whole.0 c.args.parts.now
+    c.requires.whole.1 c.args.flight c.member_at-found.result.now s c.requires.whole.2 found here)
 
 pub returns-in_err-more-clause-whole : goal.returns-in_err-more-clause-whole
 returns-in_err-more-clause-whole c = λ code events whole.
@@ -107,11 +111,12 @@ overflow_add-parts c =
     let here = get_some c.args.parts.now.sites.items flight.target
     (target_below c.requires.whole.0 c.args.parts.now c.requires.whole.1 c.args.flight flight
     c.requires.whole.2 found) in
-    let b = brought_in c.args.parts.now.tree flight
+    let b = brought_in c.args.parts.now.tree flight.target flight.bytes c.as_slice-bytes.result.now
     here.0 c.in_ok-more.more c.deref_mut.result.now c.args.parts.now.sites.items
-    c.bring_to_target.new.sites c.deref_mut.ensures.value c.in_ok-more.ensures.ok here.1 in
+    c.bring_to_target.new.sites c.as_slice-bytes.ensures.members c.deref_mut.ensures.value
+    c.in_ok-more.ensures.ok here.1 in
     let count : c.len-count.result ≡ length c.in_ok-more.more = c.len-count.ensures.count in
-    let few = goes_few flight c.in_ok-more.more b.on b.goes in
+    let few = goes_few flight.bytes c.in_ok-more.more b.on b.goes in
     let all = c.requires.whole.2.flying.few in
     let some = c.requires.flight in
     omega arith
@@ -127,9 +132,10 @@ returns-clause-ok c = λ seen.
     let here = get_some c.args.parts.now.sites.items flight.target
     (target_below c.requires.whole.0 c.args.parts.now c.requires.whole.1 c.args.flight flight
     c.requires.whole.2 found) in
-    let b = brought_in c.args.parts.now.tree flight
+    let b = brought_in c.args.parts.now.tree flight.target flight.bytes c.as_slice-bytes.result.now
     here.0 c.in_ok-more.more c.deref_mut.result.now c.args.parts.now.sites.items
-    c.bring_to_target.new.sites c.deref_mut.ensures.value c.in_ok-more.ensures.ok here.1 in
+    c.bring_to_target.new.sites c.as_slice-bytes.ensures.members c.deref_mut.ensures.value
+    c.in_ok-more.ensures.ok here.1 in
     let all : (with_items c.args.parts.now.sites c.bring_to_target.new.sites).items
     ≡ c.bring_to_target.new.sites = with_items_is c.args.parts.now.sites c.bring_to_target.new.sites
     (c.bring_to_target.auto.sites ∙ c.deref_mut.ensures.len) in
@@ -148,8 +154,11 @@ returns-clause-ok c = λ seen.
     c.place_of-piece.result.1 c.in_ok-more.more
     c.in_ok-reserve.ensures.items c.as_slice.ensures.value c.place_of-piece.ensures
     c.replace.ensures in
-    delivers c.requires.whole.0 c.args.parts.now new c.requires.whole.1 c.args.flight flight b.on
-    c.in_ok-more.more here.0 c.requires.whole.2 found here.1 put b.goes refl refl refl left seen
+    let number =
+    (c.requires.whole.2.running.some.stands.hosts flight.target here.0 here.1).number in
+    delivers c.requires.whole.0 c.args.parts.now new (joined c.args.parts.now.flights.items)
+    c.args.flight flight b.on c.in_ok-more.more here.0 found here.1 number put b.goes refl refl refl
+    left seen
 
 pub returns-clause-whole : goal.returns-clause-whole
 returns-clause-whole c = λ code events whole.
@@ -162,9 +171,10 @@ returns-clause-whole c = λ code events whole.
     let here = get_some c.args.parts.now.sites.items flight.target
     (target_below c.requires.whole.0 c.args.parts.now c.requires.whole.1 c.args.flight flight
     c.requires.whole.2 found) in
-    let b = brought_in c.args.parts.now.tree flight
+    let b = brought_in c.args.parts.now.tree flight.target flight.bytes c.as_slice-bytes.result.now
     here.0 c.in_ok-more.more c.deref_mut.result.now c.args.parts.now.sites.items
-    c.bring_to_target.new.sites c.deref_mut.ensures.value c.in_ok-more.ensures.ok here.1 in
+    c.bring_to_target.new.sites c.as_slice-bytes.ensures.members c.deref_mut.ensures.value
+    c.in_ok-more.ensures.ok here.1 in
     let all : (with_items c.args.parts.now.sites c.bring_to_target.new.sites).items
     ≡ c.bring_to_target.new.sites = with_items_is c.args.parts.now.sites c.bring_to_target.new.sites
     (c.bring_to_target.auto.sites ∙ c.deref_mut.ensures.len) in
@@ -186,8 +196,30 @@ returns-clause-whole c = λ code events whole.
     let fit : AllFit code c.args.parts.now.tree c.deref_mut.result.now =
     subst (λ (us : List Site). AllFit code c.args.parts.now.tree us) (sym c.deref_mut.ensures.value)
     (fit_full code c.args.parts.now.tree c.args.parts.now.sites.items whole.running.fit) in
-    delivered_whole code c.args.parts.now new events c.args.flight flight
-    b.on c.in_ok-more.more here.0 whole found here.1 put b.goes refl refl refl left
+    let number = (whole.running.some.stands.hosts flight.target here.0 here.1).number in
+    let count : new.under_way
+    ≡ length (joined c.args.parts.now.flights.items) - 1 + length c.in_ok-more.more =
+    omega (arith, c.len-count.ensures.count, whole.flying.counted) in
+    let few : new.under_way < 2 ^ 32 = omega (
+      arith,
+      c.len-count.ensures.count,
+      goes_few flight.bytes c.in_ok-more.more b.on b.goes,
+      whole.flying.few,
+      c.requires.flight,
+    ) in
+    delivered_whole code c.args.parts.now new (joined c.args.parts.now.flights.items)
+    c.args.flight flight b.on c.in_ok-more.more here.0 found here.1 number put b.goes refl refl refl
+    left events whole.running whole.flying.spelled
     (subst (λ (us : List Site). AllFit code c.args.parts.now.tree us) (sym all)
-    (c.in_ok-more.ensures.fit code fit))
-    (ap (λ (n : ℕ). c.args.parts.now.under_way - 1 + n) c.len-count.ensures.count)
+    (c.in_ok-more.ensures.fit code fit)) count few
+
+pub returns-clause-sent_by : goal.returns-clause-sent_by
+returns-clause-sent_by c = λ seen.
+    let found = flight_found c.args.parts.now.flights.items c.reserve.new.self.items
+    c.as_slice.result.now c.as_slice-2.result.now c.args.flight c.place_of-piece.result.0
+    c.place_of-piece.result.1 c.member_at-found.result.now
+    c.in_ok-reserve.ensures.items c.as_slice.ensures.value c.as_slice-2.ensures.value
+    c.place_of-piece.ensures c.member_at-found.ensures in
+    deliver c.args.flight (carried c.member_at-found.result.now)
+    (carried_at (joined c.args.parts.now.flights.items)
+    c.args.flight c.member_at-found.result.now found)

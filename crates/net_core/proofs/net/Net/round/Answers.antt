@@ -3,6 +3,7 @@ use Rattle.std.proofs.Common.{arith}
 use Rattle.net_core.specs.Parts.{net_of}
 use Rattle.net_core.specs.Whole.{NetParts, IsWhole}
 use Rattle.net_core.specs.Working.{HasWorked}
+use Rattle.net_core.specs.inside.Runs.{spread}
 use Rattle.net_core.proofs.RoundDone.{has_worked}
 use Rattle.net_core.proofs.net.Net.round.Goals as goal
 
@@ -13,7 +14,7 @@ overflow_add-events g c =
     subst (λ (v : NetParts). v.events + c.args.quota * length v.net.sites < 2 ^ 32 - 1)
     (sym c.self.view_is) c.requires.few in
     let within : length c.in-Ok.journal ≤ c.args.quota * length inside.parts.sites.items =
-    c.in-Ok.ensures.within in
+    c.in-Ok.ensures.round.within in
     let count : c.len.result ≡ length c.in-Ok.journal = c.len.ensures.count in
     omega arith
 
@@ -23,24 +24,30 @@ invariant_of-net g c =
     let few : inside.events + c.args.quota * length inside.parts.sites.items < 2 ^ 32 - 1 =
     subst (λ (v : NetParts). v.events + c.args.quota * length v.net.sites < 2 ^ 32 - 1)
     (sym c.self.view_is) c.requires.few in
-    subst (λ (k : ℕ). IsWhole inside.code c.round_of.new.parts (inside.events + k))
-    (sym c.len.ensures.count) (c.in-Ok.ensures.whole inside.events few c.self.invariant)
+    record {
+      whole = subst (λ (k : ℕ). IsWhole inside.code c.round_of.new.parts (inside.events + k))
+          (sym c.len.ensures.count)
+          (c.in-Ok.ensures.round.whole inside.events few c.self.invariant.whole);
+      sent = c.in-Ok.ensures.sent.many;
+    }
 
 pub returns-in-Ok : goal.returns-in-Ok
 returns-in-Ok g c =
     let inside = c.self.inside in
-    let done = c.in-Ok.ensures in
+    let done = c.in-Ok.ensures.round in
     let old : NetParts = record {
       code = inside.code;
       net = net_of inside.code.seen inside.parts;
+      froms = spread inside.senders.items;
       events = inside.events;
     } in
     let new : NetParts = record {
       code = inside.code;
       net = net_of inside.code.seen c.round_of.new.parts;
+      froms = spread c.round_of.new.senders.items;
       events = inside.events + c.len.result;
     } in
     subst (λ (v : NetParts). HasWorked c.args.quota v c.in-Ok.journal new) c.self.view_is
-    (has_worked old new
-    c.args.quota inside.events c.in-Ok.journal c.self.invariant.running done.turns refl
-    (ap (λ (k : ℕ). inside.events + k) c.len.ensures.count) done.within done.tree done.sites)
+    (has_worked old new c.args.quota inside.events c.in-Ok.journal c.self.invariant.whole.running
+    done.turns refl (ap (λ (k : ℕ). inside.events + k) c.len.ensures.count)
+    done.within done.tree done.sites c.in-Ok.ensures.sent.turns)
