@@ -4,10 +4,13 @@
 
 #[cfg(test)]
 mod both;
+pub mod bringing;
 #[cfg(test)]
 mod forwarding;
 #[cfg(test)]
 mod orders;
+#[cfg(test)]
+mod outside;
 #[cfg(test)]
 mod rounds;
 #[cfg(test)]
