@@ -1,1 +1,1 @@
-pub mod Outside
+pub mod Brought

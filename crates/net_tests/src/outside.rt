@@ -6,12 +6,12 @@ use chem_model::AtomId;
 use net_core::{Choice, Net};
 use std::alloc::Global;
 
-/// The location's request to go has the number 6, and a message to the location is under way from
-/// the start, sent by the second site.
+// The location's request to go has the number 6, and a message to the location is under way from
+// the start, sent by the second site.
 const FORWARDED: &str = "observe out/1; \
     site a [ m[ k() => 0 and x(u) => out(u) : go(b, k) ] : 0 ] site b [ none : x(b) ]";
 
-/// The site that sent the packet under way and the one to which it goes, where it is one alone.
+// The site that sent the packet under way and the one to which it goes, where it is one alone.
 fn way_of_one(alloc: Global, net: &mut Net) -> Option<(u32, u32)> {
     let first = drain_one(alloc, net)?;
     if net.flights() > 0 {
@@ -25,7 +25,7 @@ fn first_way(alloc: Global) -> Option<(u32, u32)> {
     way_of_one(alloc, &mut both.net)
 }
 
-/// Whether the location moves, and the packet that was sent to it is delivered where it was.
+// Whether the location moves, and the packet that was sent to it is delivered where it was.
 fn move_and_deliver(alloc: Global, both: &mut Both) -> bool {
     let go = Choice::Move {
         atom: AtomId { site: 0, k: 6 },
@@ -42,16 +42,16 @@ fn forwarded_way(alloc: Global) -> Option<(u32, u32)> {
     way_of_one(alloc, &mut both.net)
 }
 
-/// A packet is from the site whose opening sent it, and once it is forwarded from the one that was
-/// its target.
+// A packet is from the site whose opening sent it, and once it is forwarded from the one that was
+// its target.
 #[test]
 fn a_packet_is_handed_out_with_its_sender(rt: HostRuntime) {
     assert!(rt; first_way(rt.alloc()) == Some((1, 0)));
     assert!(rt; forwarded_way(rt.alloc()) == Some((0, 1)));
 }
 
-/// Whether the packet comes from outside once the location has moved, and is then under way from
-/// the site to which it came.
+// Whether the packet comes from outside once the location has moved, and is then under way from
+// the site to which it came.
 fn brought_way(alloc: Global) -> Option<(u32, u32)> {
     let mut both = both_of(alloc, FORWARDED.as_bytes())?;
     let go = Choice::Move {
@@ -63,8 +63,8 @@ fn brought_way(alloc: Global) -> Option<(u32, u32)> {
     way_of_one(alloc, &mut both.net)
 }
 
-/// Whether the packet comes from outside twice, to where the location was and to where it is, and
-/// all goes on as if it had been delivered.
+// Whether the packet comes from outside twice, to where the location was and to where it is, and
+// all goes on as if it had been delivered.
 fn is_brought(alloc: Global, both: &mut Both) -> bool {
     let go = Choice::Move {
         atom: AtomId { site: 0, k: 6 },
@@ -93,8 +93,8 @@ fn brought(alloc: Global) -> bool {
     }
 }
 
-/// A packet from outside does what a delivery does: it goes on from the site to which it came, and
-/// is put where its home is.
+// A packet from outside does what a delivery does: it goes on from the site to which it came, and
+// is put where its home is.
 #[test]
 fn a_packet_from_outside_is_delivered(rt: HostRuntime) {
     assert!(rt; brought_way(rt.alloc()) == Some((0, 1)));
