@@ -17,7 +17,7 @@ use join_lex::lex;
 use join_parse::{Tree, parse};
 use scope_check::check;
 use sort_check::{Judged, judge};
-use sort_lines::read_sorts;
+use sort_lines::{SortEnd, read_sorts};
 use std::alloc::Global;
 use std::time::Instant;
 
@@ -34,7 +34,8 @@ fn keeps_sorts(
     requires program { IsProgramOf tree.now program.now }
 {
     let sorts = read_sorts(alloc, text)?;
-    Ok(judge(alloc, tree, program, &sorts)? == Judged::Yes)
+    let judged = judge(alloc, tree, program, &sorts).map_err(|_memory| SortEnd::Memory)?;
+    Ok(judged == Judged::Yes)
 }
 
 fn main(rt: HostRuntime) -> Result<(), anyhow::Error> {
