@@ -16,7 +16,7 @@ use Rattle.net_core.specs.Senders.{opened_froms}
 use Rattle.net_core.specs.Whole.{NetParts}
 use Rattle.lossy_link.specs.declared.schedule.LinkCounts.{LinkCounts}
 use Rattle.lossy_link.specs.Links.{Links}
-use Rattle.lossy_link.specs.Schedule.{CarriesOver, RunsOver, started, capped}
+use Rattle.lossy_link.specs.Schedule.{Carries, RunsOver, started, capped}
 
 -- the network runs the code of the book's program and stands for the solution of its journal, after
 -- as many events as are in it
@@ -26,16 +26,7 @@ pub record StandForOne (book : BookKept) (net : NetParts) : Type 0 where
   pub runs : RunsCode book.program net.code net.net
   pub counted : net.events ≡ length book.journal
 
--- ---- the two runs from a network
-
--- the run without links from this network, after so many events: its events, and the network that
--- it leaves; it begins with the packets that are under way there
-pub record CarriesFrom (budget k : ℕ) (net : NetParts) (es : List Event) (end : NetParts) : Type 0
-  where
-    pub packets : List FlightFrom
-    pub bare : NetParts
-    pub handed_out : AreHandedOut net packets bare
-    pub carries : CarriesOver budget k bare packets es end
+-- ---- the run over links from a network
 
 -- the run over links from this network, after so many events, whose first turn is of the kind
 -- `loss`: its events, how many steps of each kind it makes, and the network that it leaves; the
@@ -61,7 +52,7 @@ pub record RunsOverLinks (net : NetParts) (old : BookKept) (budget loss : ℕ) (
   pub added : List Event
   pub end : NetParts
   pub journal : new.journal ≡ old.journal ++ added
-  pub carries : CarriesFrom budget (length old.journal) net added end
+  pub carries : Carries budget (length old.journal) net added end
   pub runs : RunsFrom budget loss (length old.journal) net added counts end
   pub stand : OnItsSolution new (λ n. Stands (rules_of_group new.program) end.net n)
   pub within : length new.journal ≤ budget
@@ -83,7 +74,7 @@ opened_parts version c = record {
 abbrev pub LossyOf : ProgramTerms → CodeParts → ℕ → ℕ → List Event → LinkCounts → Type 0
 LossyOf p c budget loss journal counts =
     IsCode c × IsCodeOf p c × (end : NetParts)
-    × CarriesFrom budget 0 (opened_parts p.version c) journal end
+    × Carries budget 0 (opened_parts p.version c) journal end
     × RunsFrom budget loss 0 (opened_parts p.version c) journal counts end
 
 -- ---- laws
@@ -93,8 +84,8 @@ abbrev pub JournalsOverLinksAreOne : Type 0
 JournalsOverLinksAreOne =
     (p : ProgramTerms) (c : CodeParts) → IsProgram p → IsCode c → IsCodeOf p c
     → (budget : ℕ) (es other : List Event) (end last : NetParts)
-    → CarriesFrom budget 0 (opened_parts p.version c) es end
-    → CarriesFrom budget 0 (opened_parts p.version c) other last → (es ≡ other) × (end ≡ last)
+    → Carries budget 0 (opened_parts p.version c) es end
+    → Carries budget 0 (opened_parts p.version c) other last → (es ≡ other) × (end ≡ last)
 
 -- it has at most one run over links for each budget and each loss
 abbrev pub CountsOverLinksAreOne : Type 0
@@ -110,7 +101,7 @@ CountsOverLinksAreOne =
 abbrev pub LossIsHidden : Type 0
 LossIsHidden =
     (budget loss k : ℕ) (net : NetParts) (es : List Event) (counts : LinkCounts) (end : NetParts)
-    → RunsFrom budget loss k net es counts end → CarriesFrom budget k net es end
+    → RunsFrom budget loss k net es counts end → Carries budget k net es end
 
 -- a program's code has one run over links for each budget and each loss
 abbrev pub HasOneRunOverLinks : Type 0
