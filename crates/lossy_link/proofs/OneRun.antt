@@ -67,7 +67,7 @@ module _ (Net : Type 0) (Acts : Net → Choice → Event → Net → List Flight
   StepsTo = Steps Net Acts Receives
 
   abbrev Turned : Links Net → ℕ → Links Net → LinkCounts → Type 0
-  Turned = Turns Net Acts Receives IsNext Rests budget
+  Turned = Turns Net Acts Receives
 
   abbrev Run : ℕ → ℕ → Links Net → List Event → LinkCounts → Links Net → Type 0
   Run = Runs Net Acts Receives IsNext Rests budget

@@ -8,7 +8,7 @@ use Rattle.lossy_link.specs.declared.line.Line.{Line}
 use Rattle.lossy_link.specs.Lines.{is_between, line_of, with_sent, all_sent, with_handed}
 use Rattle.lossy_link.specs.Lines.{with_acked, raised, undelivered, AreFine}
 use Rattle.net_core.specs.Parts.{without}
-use Rattle.lossy_link.specs.Schedule.{of_pair, AreSame}
+use Rattle.lossy_link.proofs.Bringing.{of_pair, AreSame}
 use Rattle.lossy_link.proofs.LineLaws.{between, same_pair, pair_of, line_with, each_line, sent_fine}
 
 -- ---- what is under way of a pair

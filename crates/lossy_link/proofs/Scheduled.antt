@@ -18,8 +18,9 @@ use Rattle.lossy_link.specs.Links.{takes, drops, learns}
 use Rattle.net_core.specs.Parts.{without}
 use Rattle.lossy_link.specs.Schedule as schedule
 use Rattle.lossy_link.specs.declared.schedule.LinkCounts.{LinkCounts}
-use Rattle.lossy_link.specs.Schedule.{Precedes, IsLeastOpen, NoneIsOpen, IsFirstOfLeast, of_pair}
-use Rattle.lossy_link.specs.Schedule.{AreSame, next_turn, Carries, Turns, Runs}
+use Rattle.lossy_link.specs.Schedule.{Precedes, IsLeastOpen, NoneIsOpen, next_turn, Turns, Runs}
+use Rattle.lossy_link.proofs.Bringing as bringing
+use Rattle.lossy_link.proofs.Bringing.{IsFirstIn, of_pair, AreSame, Brings}
 use Rattle.lossy_link.proofs.LineLaws.{pair_of, each_line, each_more, each_without, each_at}
 use Rattle.lossy_link.proofs.LineLaws.{drop_get, handed_length, handed_fine, all_sent_fine}
 use Rattle.lossy_link.proofs.Stepping.{step_keeps}
@@ -91,7 +92,7 @@ module _ (Net : Type 0) (Acts : Net → Choice → Event → Net → List Flight
   pub data After (l mid : Links Net) (f t n : ℕ) (packets : List FlightFrom) : Type 0 where
     stays : l.net ≡ mid.net → IsGood Net mid f t n packets → After l mid f t n packets
     receives :
-        (i : ℕ) (p : FlightFrom) (out : List FlightFrom) → IsFirstOfLeast packets i p
+        (i : ℕ) (p : FlightFrom) (out : List FlightFrom) → IsFirstIn packets i p
         → Receives l.net p.flight.target p.flight.bytes mid.net out
         → IsGood Net mid f t n (without i packets ++ out)
         → After l mid f t n packets
@@ -195,7 +196,7 @@ module _ (Net : Type 0) (Acts : Net → Choice → Event → Net → List Flight
           → (first : HasFirst g u packets bytes (drop
           (length (line_of g u l.lines).history.handed + 1)
           (line_of g u l.lines).history.sent))
-          → IsFirstOfLeast packets first.place first.packet
+          → IsFirstIn packets first.place first.packet
       is_first g u m k bytes copy next first = record {
         is = first.is;
         first =
@@ -249,7 +250,7 @@ module _ (Net : Type 0) (Acts : Net → Choice → Event → Net → List Flight
 
   module _ (IsNext : Net → Choice → Type 0) (Rests : Net → Type 0) (budget : ℕ) where
     abbrev Carried : ℕ → Net → List FlightFrom → List Event → Net → Type 0
-    Carried = Carries Net Acts Receives IsNext Rests budget
+    Carried = Brings Net Acts Receives IsNext Rests budget
 
     -- a step on the wire is a delivery or nothing
     carried_back : (l mid : Links Net) (f t n k : ℕ) (packets : List FlightFrom) (es : List Event)
@@ -258,7 +259,7 @@ module _ (Net : Type 0) (Acts : Net → Choice → Event → Net → List Flight
     carried_back l mid f t n k packets es end (stays same good) on =
         subst (λ (net : Net). Carried k net packets es end) (sym same) (on packets good)
     carried_back l mid f t n k packets es end (receives i p out first r good) on =
-        schedule.delivers k i l.net mid.net end packets out p es first r
+        bringing.delivers k i l.net mid.net end packets out p es first r
         (on (without i packets ++ out) good)
 
     -- nothing is left where all is acknowledged
@@ -338,7 +339,7 @@ module _ (Net : Type 0) (Acts : Net → Choice → Event → Net → List Flight
 
     -- a turn of the wire is a delivery or nothing
     abbrev Turned : Links Net → ℕ → Links Net → LinkCounts → Type 0
-    Turned = Turns Net Acts Receives IsNext Rests budget
+    Turned = Turns Net Acts Receives
 
     turned_back : (l mid : Links Net) (v f t n k : ℕ) (a : LinkCounts) (packets : List FlightFrom)
         (es : List Event) (end : Net) → IsGood Net l f t n packets → Turned l v mid a
@@ -361,27 +362,27 @@ module _ (Net : Type 0) (Acts : Net → Choice → Event → Net → List Flight
         carried_back l mid f t n k packets es end (after_step l mid (Arrive 0) None f t n packets tt
         good step) on
 
-    pub runs_carry : (v k f t m : ℕ) (l end : Links Net) (packets : List FlightFrom)
+    pub runs_bring : (v k f t m : ℕ) (l end : Links Net) (packets : List FlightFrom)
         (es : List Event) (n : LinkCounts) → IsGood Net l f t m packets
         → Runs Net Acts Receives IsNext Rests budget v k l es n end
         → Carried k l.net packets es end.net
-    runs_carry v k f t m l end packets es n good
+    runs_bring v k f t m l end packets es n good
         (schedule.turns c b w mid last x rest fs a p wire turn more) =
         turned_back l mid v f t m k a packets es end.net good turn
-        (λ ps g. runs_carry (next_turn v) k f t m mid end ps es p g more)
-    runs_carry v k f t m l end packets es n good
+        (λ ps g. runs_bring (next_turn v) k f t m mid end ps es p g more)
+    runs_bring v k f t m l end packets es n good
         (schedule.sends a b w mid last g u j bytes fs p wire least step more) =
         let at = sent_on l mid f t m g u j bytes packets good wire least step in
         subst (λ (net : Net). Carried k net packets es end.net) (sym at.0)
-        (runs_carry v k g u j mid end packets es p at.1 more)
-    runs_carry v k f t m l end packets es n good (schedule.ends a b w wire none spent) =
-        schedule.ends k l.net packets (none_left l f t m packets good none) spent
-    runs_carry v k f t m l end packets es n good (schedule.rests a b w wire none few rest) =
-        schedule.rests k l.net packets (none_left l f t m packets good none) few rest
-    runs_carry v k f t m l end packets es n good
+        (runs_bring v k g u j mid end packets es p at.1 more)
+    runs_bring v k f t m l end packets es n good (schedule.ends a b w wire none spent) =
+        bringing.ends k l.net packets (none_left l f t m packets good none) spent
+    runs_bring v k f t m l end packets es n good (schedule.rests a b w wire none few rest) =
+        bringing.rests k l.net packets (none_left l f t m packets good none) few rest
+    runs_bring v k f t m l end packets es n good
         (schedule.makes a b w mid last x e fs p wire none few next step more) =
         let left = none_left l f t m packets good none in
         let at = acted_on l mid f t m x e packets good wire left step in
-        schedule.makes k l.net mid.net end.net packets at.0 x e fs left few next at.1
-        (runs_carry v (k + 1) 0 0 (length (line_of 0 0 mid.lines).history.handed + 1) mid end
+        bringing.makes k l.net mid.net end.net packets at.0 x e fs left few next at.1
+        (runs_bring v (k + 1) 0 0 (length (line_of 0 0 mid.lines).history.handed + 1) mid end
         at.0 fs p at.2 more)
