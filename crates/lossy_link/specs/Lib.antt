@@ -1,1 +1,9 @@
 pub mod FrameFormat
+pub mod Lines
+pub mod Pending
+pub mod Links
+pub mod Over
+pub mod Standing
+pub mod Whole
+pub mod Played
+pub mod inside
