@@ -6,7 +6,7 @@ use Rattle.net_core.specs.declared.drained.FlightFrom.{FlightFrom}
 use Rattle.net_core.specs.Parts.{without}
 use Rattle.lossy_link.specs.declared.line.Line.{Line}
 use Rattle.lossy_link.specs.Lines.{is_between, line_of, undelivered}
-use Rattle.lossy_link.specs.Schedule.{Precedes}
+use Rattle.lossy_link.specs.Links.{Precedes}
 
 -- the first packet of the least pair that has one, and its place
 pub record IsFirstIn (packets : List FlightFrom) (i : ℕ) (p : FlightFrom) : Type 0 where

@@ -2,25 +2,26 @@
 use Rattle.std.proofs.Common.{◌≡◌, ℕ, zero, suc, ◌+◌, ◌-◌, ◌<◌, ◌≤◌, List, [], ◌∷◌, ◌++◌, Option}
 use Rattle.std.proofs.Common.{Bool, true, false, cond, length, Some, None, slice_get, refl, sym, ap}
 use Rattle.std.proofs.Common.{subst, ◌∙◌, arith}
-use Rattle.std.specs.Prelude.{◌%◌}
 use Rattle.std.proofs.lemmas.List.{length-append}
 use Rattle.std.proofs.lemmas.Option.{same_Some}
-use Rattle.lossy_link.specs.declared.step.Step.{Step}
 use Rattle.lossy_link.specs.declared.step.Step.TheVariants.{Send, Lose, Repeat, Arrive}
-use Rattle.net_core.specs.declared.choice.Choice.{Choice}
-use Rattle.chem_model.specs.declared.event.Event.{Event}
 use Rattle.net_core.specs.declared.drained.FlightFrom.{FlightFrom}
 use Rattle.lossy_link.specs.declared.frame.Frame.{Frame}
 use Rattle.lossy_link.specs.declared.frame.Frame.TheVariants.{Data, Ack}
 use Rattle.lossy_link.specs.declared.line.Line.{Line}
 use Rattle.lossy_link.specs.Lines.{is_between, line_of, with_line, with_sent, all_sent, with_handed}
 use Rattle.lossy_link.specs.Lines.{with_acked, raised, AreFine}
-use Rattle.lossy_link.specs.Links.{Links, IsTrueOf, AreSound, Steps, sends, loses, repeats, takes}
+use Rattle.lossy_link.specs.Links.{Links, IsTrueOf, AreSound, sends, loses, repeats, takes}
 use Rattle.lossy_link.specs.Links.{drops, learns}
-use Rattle.lossy_link.specs.Schedule.{IsLeastOpen}
+use Rattle.lossy_link.specs.Links.{IsLeastOpen}
+use Rattle.lossy_link.specs.Settling.{left_by}
+use Rattle.lossy_link.specs.Over.{StepsTo}
+use Rattle.lossy_link.specs.Standing.{deliveries_over, weighs, ReceiptFalls}
+use Rattle.net_core.specs.Whole.{NetParts}
 use Rattle.lossy_link.specs.Ending.{unacknowledged, turns_left, IsAtTurn, none, one_at_0, one_at_1}
 use Rattle.lossy_link.specs.Ending.{one_at_2, two_at_2, one_at_3, two_at_3, left_to_do}
 use Rattle.lossy_link.proofs.LineLaws.{pair_of, each_line}
+use Rattle.lossy_link.proofs.Weights.{acked_weight}
 
 abbrev pub lag : Line → ℕ
 lag l = length l.history.handed - l.acked
@@ -109,188 +110,163 @@ acked_by_handing g u x ls f t =
     (record l { history = record l.history { handed = l.history.handed ++ x ∷ [] } }) ls is.0
     is.1 refl (λ v w. refl) f t
 
--- the next turn
-pub next_turn : (x v : ℕ) → x % 4 ≡ v → v < 3 → (x + 1) % 4 ≡ v + 1
-next_turn x v e few = omega arith
+-- ---- what is left to do
 
-pub last_turn : (x : ℕ) → x % 4 ≡ 3 → (x + 1) % 4 ≡ 0
-last_turn x e = omega arith
+-- the least packet is sent
+pub send_lowers : (l mid : Links NetParts) (v f t n : ℕ) (bytes : List ℕ) → v < 4 → l.wire ≡ []
+    → IsLeastOpen l.lines f t n bytes → StepsTo l (Send f t n) None mid
+    → IsAtTurn mid.lines v mid.wire × (left_by v mid < left_by v l)
+send_lowers l mid v f t n bytes few bare least (sends a b c other h) =
+    let at : IsAtTurn l.lines v (l.wire ++ Data f t n other ∷ []) =
+    subst (λ (xs : List Frame). IsAtTurn l.lines v (xs ++ Data f t n other ∷ [])) (sym bare)
+    (shape v few) in
+    let lower : turns_left v (l.wire ++ Data f t n other ∷ []) + 1 ≡ turns_left v l.wire =
+    subst (λ (xs : List Frame). turns_left v (xs ++ Data f t n other ∷ []) + 1
+    ≡ turns_left v xs) (sym bare) (less v few) in
+    (at, omega arith)
+  where
+    shape : (v : ℕ) → v < 4 → IsAtTurn l.lines v (Data f t n other ∷ [])
+    shape zero few = one_at_0 (Data f t n other)
+    shape (suc zero) few = one_at_1 f t n other least.at
+    shape (suc (suc zero)) few = one_at_2 f t n other
+    shape (suc (suc (suc zero))) few = one_at_3 f t n other
+    shape (suc (suc (suc (suc v)))) few = absurd (omega arith)
 
-module _ (Net : Type 0) (Acts : Net → Choice → Event → Net → List FlightFrom → Type 0)
-    (Receives : Net → ℕ → List ℕ → Net → List FlightFrom → Type 0)
-    (deliveries : Net → List Line → ℕ)
-    (falls : (net new : Net) (f t : ℕ) (bytes : List ℕ) (out : List FlightFrom) (ls : List Line)
-    → AreFine ls → slice_get (line_of f t ls).history.sent
-    (length (line_of f t ls).history.handed) ≡ Some bytes → Receives net t bytes new out
-    → deliveries net ls ≡ deliveries new (all_sent out (with_handed f t bytes ls)) + 1)
-    (stays : (net : Net) (f t n : ℕ) (ls : List Line) → deliveries net (with_acked f t n ls)
-    ≡ deliveries net ls) where
-  abbrev pub left : ℕ → Links Net → ℕ
-  left v l = left_to_do (deliveries l.net l.lines) v l.wire l.lines
+    less : (v : ℕ) → v < 4 → turns_left v (Data f t n other ∷ []) + 1 ≡ turns_left v []
+    less zero few = refl
+    less (suc zero) few = refl
+    less (suc (suc zero)) few = refl
+    less (suc (suc (suc v))) few = refl
 
-  abbrev StepsTo : Links Net → Step → Option Event → Links Net → Type 0
-  StepsTo = Steps Net Acts Receives
+abbrev pub at_wire : NetParts → List Frame → List Line → Links NetParts
+at_wire net xs ls = record { net = net; wire = xs; lines = ls }
 
-  -- the least packet is sent
-  pub send_lowers : (l mid : Links Net) (v f t n : ℕ) (bytes : List ℕ) → v < 4 → l.wire ≡ []
-      → IsLeastOpen l.lines f t n bytes → StepsTo l (Send f t n) None mid
-      → IsAtTurn mid.lines v mid.wire × (left v mid < left v l)
-  send_lowers l mid v f t n bytes few bare least (sends a b c other h) =
-      let at : IsAtTurn l.lines v (l.wire ++ Data f t n other ∷ []) =
-      subst (λ (xs : List Frame). IsAtTurn l.lines v (xs ++ Data f t n other ∷ [])) (sym bare)
-      (shape v few) in
-      let lower : turns_left v (l.wire ++ Data f t n other ∷ []) + 1 ≡ turns_left v l.wire =
-      subst (λ (xs : List Frame). turns_left v (xs ++ Data f t n other ∷ []) + 1
-      ≡ turns_left v xs) (sym bare) (less v few) in
-      (at, omega arith)
-    where
-      shape : (v : ℕ) → v < 4 → IsAtTurn l.lines v (Data f t n other ∷ [])
-      shape zero few = one_at_0 (Data f t n other)
-      shape (suc zero) few = one_at_1 f t n other least.at
-      shape (suc (suc zero)) few = one_at_2 f t n other
-      shape (suc (suc (suc zero))) few = one_at_3 f t n other
-      shape (suc (suc (suc (suc v)))) few = absurd (omega arith)
+-- what is lowered, and what the next turn finds
+abbrev pub Lowers : ℕ → Links NetParts → ℕ → Links NetParts → Type 0
+Lowers v l w new = IsAtTurn new.lines w new.wire × (left_by w new < left_by v l)
 
-      less : (v : ℕ) → v < 4 → turns_left v (Data f t n other ∷ []) + 1 ≡ turns_left v []
-      less zero few = refl
-      less (suc zero) few = refl
-      less (suc (suc zero)) few = refl
-      less (suc (suc (suc v))) few = refl
+-- turn 0: a frame is lost
+pub turn_0 : (net : NetParts) (x : Frame) (rest : List Frame) (ls : List Line)
+    (mid : Links NetParts)
+    → IsAtTurn ls 0 (x ∷ rest) → StepsTo (at_wire net (x ∷ rest) ls) (Lose 0) None mid
+    → Lowers 0 (at_wire net (x ∷ rest) ls) 1 mid
+turn_0 net x rest ls mid (one_at_0 y) (loses i z h) = (none 1 (omega arith), omega arith)
 
-  abbrev at_wire : Net → List Frame → List Line → Links Net
-  at_wire net xs ls = record { net = net; wire = xs; lines = ls }
+two_packets : (ls : List Line) (f t n g u m : ℕ) (bytes : List ℕ) (y : Frame)
+    → y ≡ Data f t n bytes → (line_of g u ls).acked < m → IsAtTurn ls 2 (y ∷ Ack g u m ∷ [])
+two_packets ls f t n g u m bytes y is more =
+    subst (λ (z : Frame). IsAtTurn ls 2 (z ∷ Ack g u m ∷ [])) (sym is)
+    (two_at_2 f t n g u m bytes more)
 
-  -- what is lowered, and what the next turn finds
-  abbrev pub Lowers : ℕ → Links Net → ℕ → Links Net → Type 0
-  Lowers v l w new = IsAtTurn new.lines w new.wire × (left w new < left v l)
+-- turn 1: a frame is repeated, and arrives
+arrives_1 : (net : NetParts) (f t n : ℕ) (bytes : List ℕ) (y : Frame) (ls : List Line)
+    (new : Links NetParts) → n ≡ (line_of f t ls).acked → AreSound (Data f t n bytes ∷ y ∷ []) ls
+    → y
+    ≡ Data f t n bytes → StepsTo (at_wire net (Data f t n bytes ∷ y ∷ []) ls) (Arrive 0) None
+    new → ReceiptFalls (at_wire net (Data f t n bytes ∷ y ∷ []) ls) 0 new
+    → Lowers 1 (at_wire net (Data f t n bytes ∷ []) ls) 2 new
+arrives_1 net f t n bytes y ls new first sound is (takes i g u m bs mid out h next r) falls =
+    let same : Data f t n bytes ≡ Data g u m bs =
+    same_Some (Data f t n bytes) (Data g u m bs) h in
+    let one : f ≡ g = cc in
+    let two : t ≡ u = cc in
+    let three : n ≡ m = cc in
+    let less = falls g u m bs h next in
+    let lag = lag_all_sent out (with_handed g u bs ls) ∙ lag_handed g u bs ls sound.fine in
+    let kept =
+    acked_by_sending out (with_handed g u bs ls) g u ∙ acked_by_handing g u bs ls g u in
+    let within = (sound.fine g u).acked in
+    let more : (line_of g u (all_sent out (with_handed g u bs ls))).acked < m + 1 =
+    omega arith in (
+      two_packets (all_sent out (with_handed g u bs ls)) f t n g u (m + 1) bytes y is more,
+      omega
+          arith,
+    )
+arrives_1 net f t n bytes y ls new first sound is (drops i g u m bs h other) falls =
+    let same : Data f t n bytes ≡ Data g u m bs =
+    same_Some (Data f t n bytes) (Data g u m bs) h in
+    let one : f ≡ g = cc in
+    let two : t ≡ u = cc in
+    let three : n ≡ m = cc in
+    let at : (line_of f t ls).acked ≡ (line_of g u ls).acked =
+    ap (λ (j : ℕ). (line_of j t ls).acked) one ∙ ap (λ (j : ℕ). (line_of g j ls).acked) two in
+    let within = (sound.fine g u).acked in
+    let more : (line_of g u ls).acked < length (line_of g u ls).history.handed =
+    below m (line_of g u ls).acked (length (line_of g u ls).history.handed)
+    (sym three ∙ first ∙ at) within other in (
+      two_packets ls f t n g u (length (line_of g u ls).history.handed) bytes y is more,
+      omega
+          arith,
+    )
+  where
+    below : (m a b : ℕ) → m ≡ a → a ≤ b → (m ≡ b → ⊥) → a < b
+    below m a b e within other = omega arith
+arrives_1 net f t n bytes y ls new first sound is (learns i g u m h) falls =
+    let same : Data f t n bytes ≡ Ack g u m = same_Some (Data f t n bytes) (Ack g u m) h in cc
 
-  -- turn 0: a frame is lost
-  pub turn_0 : (net : Net) (x : Frame) (rest : List Frame) (ls : List Line) (mid : Links Net)
-      → IsAtTurn ls 0 (x ∷ rest) → StepsTo (at_wire net (x ∷ rest) ls) (Lose 0) None mid
-      → Lowers 0 (at_wire net (x ∷ rest) ls) 1 mid
-  turn_0 net x rest ls mid (one_at_0 y) (loses i z h) = (none 1 (omega arith), omega arith)
+pub turn_1 : (net : NetParts) (x : Frame) (rest : List Frame) (ls : List Line)
+    (mid new : Links NetParts)
+    → IsAtTurn ls 1 (x ∷ rest) → AreSound (x ∷ rest) ls
+    → StepsTo (at_wire net (x ∷ rest) ls) (Repeat 0) None mid
+    → StepsTo mid (Arrive 0) None new → ReceiptFalls mid 0 new
+    → Lowers 1 (at_wire net (x ∷ rest) ls) 2 new
+turn_1 net x rest ls mid new (one_at_1 f t n bytes first) sound (repeats i y h) two falls =
+    let is : y ≡ Data f t n bytes = sym (same_Some (Data f t n bytes) y h) in
+    arrives_1 net f t n bytes y ls new first (record {
+      fine = sound.fine;
+      wire =
+          (sound.wire.0, (subst (IsTrueOf ls) (sym is) sound.wire.0, tt));
+    }) is two falls
 
-  two_packets : (ls : List Line) (f t n g u m : ℕ) (bytes : List ℕ) (y : Frame)
-      → y ≡ Data f t n bytes → (line_of g u ls).acked < m → IsAtTurn ls 2 (y ∷ Ack g u m ∷ [])
-  two_packets ls f t n g u m bytes y is more =
-      subst (λ (z : Frame). IsAtTurn ls 2 (z ∷ Ack g u m ∷ [])) (sym is)
-      (two_at_2 f t n g u m bytes more)
+-- turn 2: a frame is repeated and lost
+pub turn_2 : (net : NetParts) (x : Frame) (rest : List Frame) (ls : List Line)
+    (mid new : Links NetParts)
+    → IsAtTurn ls 2 (x ∷ rest) → StepsTo (at_wire net (x ∷ rest) ls) (Repeat 0) None mid
+    → StepsTo mid (Lose 0) None new → Lowers 2 (at_wire net (x ∷ rest) ls) 3 new
+turn_2 net x rest ls mid new (one_at_2 f t n bytes) (repeats i y h) (loses j z k) =
+    let is : Data f t n bytes ≡ y = same_Some (Data f t n bytes) y h in
+    (subst (λ (w : Frame). IsAtTurn ls 3 (w ∷ [])) is (one_at_3 f t n bytes), omega arith)
+turn_2 net x rest ls mid new (two_at_2 f t n g u m bytes more) (repeats i y h) (loses j z k) =
+    let is : Data f t n bytes ≡ y = same_Some (Data f t n bytes) y h in (
+      subst (λ (w : Frame). IsAtTurn ls 3 (Ack g u m ∷ w ∷ [])) is
+          (two_at_3 f t n g u m bytes more),
+      omega arith,
+    )
 
-  -- turn 1: a frame is repeated, and arrives
-  arrives_1 : (net : Net) (f t n : ℕ) (bytes : List ℕ) (y : Frame) (ls : List Line)
-      (new : Links Net) → n ≡ (line_of f t ls).acked → AreSound (Data f t n bytes ∷ y ∷ []) ls → y
-      ≡ Data f t n bytes → StepsTo (at_wire net (Data f t n bytes ∷ y ∷ []) ls) (Arrive 0) None
-      new → Lowers 1 (at_wire net (Data f t n bytes ∷ []) ls) 2 new
-  arrives_1 net f t n bytes y ls new first sound is (takes i g u m bs mid out h next r) =
-      let same : Data f t n bytes ≡ Data g u m bs =
-      same_Some (Data f t n bytes) (Data g u m bs) h in
-      let one : f ≡ g = cc in
-      let two : t ≡ u = cc in
-      let three : n ≡ m = cc in
-      let four : bytes ≡ bs = cc in
-      let said : slice_get (line_of g u ls).history.sent m ≡ Some bs =
-      subst (λ (z : Frame). IsTrueOf ls z) same sound.wire.0 in
-      let at : slice_get (line_of g u ls).history.sent (length (line_of g u ls).history.handed)
-      ≡ Some bs =
-      subst (λ (j : ℕ). slice_get (line_of g u ls).history.sent j ≡ Some bs) next said in
-      let less = falls net mid g u bs out ls sound.fine at r in
-      let lag = lag_all_sent out (with_handed g u bs ls) ∙ lag_handed g u bs ls sound.fine in
-      let kept =
-      acked_by_sending out (with_handed g u bs ls) g u ∙ acked_by_handing g u bs ls g u in
-      let within = (sound.fine g u).acked in
-      let more : (line_of g u (all_sent out (with_handed g u bs ls))).acked < m + 1 =
-      omega arith in (
-        two_packets (all_sent out (with_handed g u bs ls)) f t n g u (m + 1) bytes y is more,
-        omega
-            arith,
-      )
-  arrives_1 net f t n bytes y ls new first sound is (drops i g u m bs h other) =
-      let same : Data f t n bytes ≡ Data g u m bs =
-      same_Some (Data f t n bytes) (Data g u m bs) h in
-      let one : f ≡ g = cc in
-      let two : t ≡ u = cc in
-      let three : n ≡ m = cc in
-      let at : (line_of f t ls).acked ≡ (line_of g u ls).acked =
-      ap (λ (j : ℕ). (line_of j t ls).acked) one ∙ ap (λ (j : ℕ). (line_of g j ls).acked) two in
-      let within = (sound.fine g u).acked in
-      let more : (line_of g u ls).acked < length (line_of g u ls).history.handed =
-      below m (line_of g u ls).acked (length (line_of g u ls).history.handed)
-      (sym three ∙ first ∙ at) within other in (
-        two_packets ls f t n g u (length (line_of g u ls).history.handed) bytes y is more,
-        omega
-            arith,
-      )
-    where
-      below : (m a b : ℕ) → m ≡ a → a ≤ b → (m ≡ b → ⊥) → a < b
-      below m a b e within other = omega arith
-  arrives_1 net f t n bytes y ls new first sound is (learns i g u m h) =
-      let same : Data f t n bytes ≡ Ack g u m = same_Some (Data f t n bytes) (Ack g u m) h in cc
-
-  pub turn_1 : (net : Net) (x : Frame) (rest : List Frame) (ls : List Line) (mid new : Links Net)
-      → IsAtTurn ls 1 (x ∷ rest) → AreSound (x ∷ rest) ls
-      → StepsTo (at_wire net (x ∷ rest) ls) (Repeat 0) None mid
-      → StepsTo mid (Arrive 0) None new → Lowers 1 (at_wire net (x ∷ rest) ls) 2 new
-  turn_1 net x rest ls mid new (one_at_1 f t n bytes first) sound (repeats i y h) two =
-      let is : y ≡ Data f t n bytes = sym (same_Some (Data f t n bytes) y h) in
-      arrives_1 net f t n bytes y ls new first (record {
-        fine = sound.fine;
-        wire =
-            (sound.wire.0, (subst (IsTrueOf ls) (sym is) sound.wire.0, tt));
-      }) is two
-
-  -- turn 2: a frame is repeated and lost
-  pub turn_2 : (net : Net) (x : Frame) (rest : List Frame) (ls : List Line) (mid new : Links Net)
-      → IsAtTurn ls 2 (x ∷ rest) → StepsTo (at_wire net (x ∷ rest) ls) (Repeat 0) None mid
-      → StepsTo mid (Lose 0) None new → Lowers 2 (at_wire net (x ∷ rest) ls) 3 new
-  turn_2 net x rest ls mid new (one_at_2 f t n bytes) (repeats i y h) (loses j z k) =
-      let is : Data f t n bytes ≡ y = same_Some (Data f t n bytes) y h in
-      (subst (λ (w : Frame). IsAtTurn ls 3 (w ∷ [])) is (one_at_3 f t n bytes), omega arith)
-  turn_2 net x rest ls mid new (two_at_2 f t n g u m bytes more) (repeats i y h) (loses j z k) =
-      let is : Data f t n bytes ≡ y = same_Some (Data f t n bytes) y h in (
-        subst (λ (w : Frame). IsAtTurn ls 3 (Ack g u m ∷ w ∷ [])) is
-            (two_at_3 f t n g u m bytes more),
-        omega arith,
-      )
-
-  -- turn 3: a frame arrives
-  pub turn_3 : (net : Net) (x : Frame) (rest : List Frame) (ls : List Line) (new : Links Net)
-      → IsAtTurn ls 3 (x ∷ rest) → AreSound (x ∷ rest) ls
-      → StepsTo (at_wire net (x ∷ rest) ls) (Arrive 0) None new
-      → Lowers 3 (at_wire net (x ∷ rest) ls) 0 new
-  turn_3 net x rest ls new (one_at_3 f t n bytes) sound (takes i g u m bs mid out h next r) =
-      let same : Data f t n bytes ≡ Data g u m bs =
-      same_Some (Data f t n bytes) (Data g u m bs) h in
-      let said : slice_get (line_of g u ls).history.sent m ≡ Some bs =
-      subst (λ (z : Frame). IsTrueOf ls z) same sound.wire.0 in
-      let at : slice_get (line_of g u ls).history.sent (length (line_of g u ls).history.handed)
-      ≡ Some bs =
-      subst (λ (j : ℕ). slice_get (line_of g u ls).history.sent j ≡ Some bs) next said in
-      let less = falls net mid g u bs out ls sound.fine at r in
-      let lag = lag_all_sent out (with_handed g u bs ls) ∙ lag_handed g u bs ls sound.fine in
-      (one_at_0 (Ack g u (m + 1)), omega arith)
-  turn_3 net x rest ls new (one_at_3 f t n bytes) sound (drops i g u m bs h other) =
-      (one_at_0 (Ack g u (length (line_of g u ls).history.handed)), omega arith)
-  turn_3 net x rest ls new (one_at_3 f t n bytes) sound (learns i g u m h) =
-      let same : Data f t n bytes ≡ Ack g u m = same_Some (Data f t n bytes) (Ack g u m) h in cc
-  turn_3 net x rest ls new (two_at_3 f t n g u m bytes more) sound
-      (takes i v w k bs mid out h next r) = let same : Ack g u m ≡ Data v w k bs =
-      same_Some (Ack g u m) (Data v w k bs) h in cc
-  turn_3 net x rest ls new (two_at_3 f t n g u m bytes more) sound (drops i v w k bs h other) =
-      let same : Ack g u m ≡ Data v w k bs = same_Some (Ack g u m) (Data v w k bs) h in cc
-  turn_3 net x rest ls new (two_at_3 f t n g u m bytes more) sound (learns i v w k h) =
-      let same : Ack g u m ≡ Ack v w k = same_Some (Ack g u m) (Ack v w k) h in
-      let one : g ≡ v = cc in
-      let two : u ≡ w = cc in
-      let three : m ≡ k = cc in
-      let told : m ≤ length (line_of g u ls).history.handed = sound.wire.0.0 in
-      let line : line_of g u ls ≡ line_of v w ls =
-      ap (λ (j : ℕ). line_of j u ls) one ∙ ap (λ (j : ℕ). line_of v j ls) two in
-      let above : (line_of v w ls).acked < k =
-      subst (λ (j : ℕ). (line_of v w ls).acked < j) three
-      (subst (λ (z : Line). z.acked < m) line more) in
-      let within : k ≤ length (line_of v w ls).history.handed =
-      subst (λ (j : ℕ). j ≤ length (line_of v w ls).history.handed) three
-      (subst (λ (z : Line). m ≤ length z.history.handed) line told) in
-      let less = lag_acked v w k ls above within in
-      let keep = stays net v w k ls in
-      (one_at_0 (Data f t n bytes), omega arith)
+-- turn 3: a frame arrives
+pub turn_3 : (net : NetParts) (x : Frame) (rest : List Frame) (ls : List Line)
+    (new : Links NetParts)
+    → IsAtTurn ls 3 (x ∷ rest) → AreSound (x ∷ rest) ls
+    → StepsTo (at_wire net (x ∷ rest) ls) (Arrive 0) None new
+    → ReceiptFalls (at_wire net (x ∷ rest) ls) 0 new
+    → Lowers 3 (at_wire net (x ∷ rest) ls) 0 new
+turn_3 net x rest ls new (one_at_3 f t n bytes) sound (takes i g u m bs mid out h next r) falls =
+    let less = falls g u m bs h next in
+    let lag = lag_all_sent out (with_handed g u bs ls) ∙ lag_handed g u bs ls sound.fine in
+    (one_at_0 (Ack g u (m + 1)), omega arith)
+turn_3 net x rest ls new (one_at_3 f t n bytes) sound (drops i g u m bs h other) falls =
+    (one_at_0 (Ack g u (length (line_of g u ls).history.handed)), omega arith)
+turn_3 net x rest ls new (one_at_3 f t n bytes) sound (learns i g u m h) falls =
+    let same : Data f t n bytes ≡ Ack g u m = same_Some (Data f t n bytes) (Ack g u m) h in cc
+turn_3 net x rest ls new (two_at_3 f t n g u m bytes more) sound
+    (takes i v w k bs mid out h next r) falls = let same : Ack g u m ≡ Data v w k bs =
+    same_Some (Ack g u m) (Data v w k bs) h in cc
+turn_3 net x rest ls new (two_at_3 f t n g u m bytes more) sound (drops i v w k bs h other) falls =
+    let same : Ack g u m ≡ Data v w k bs = same_Some (Ack g u m) (Data v w k bs) h in cc
+turn_3 net x rest ls new (two_at_3 f t n g u m bytes more) sound (learns i v w k h) falls =
+    let same : Ack g u m ≡ Ack v w k = same_Some (Ack g u m) (Ack v w k) h in
+    let one : g ≡ v = cc in
+    let two : u ≡ w = cc in
+    let three : m ≡ k = cc in
+    let told : m ≤ length (line_of g u ls).history.handed = sound.wire.0.0 in
+    let line : line_of g u ls ≡ line_of v w ls =
+    ap (λ (j : ℕ). line_of j u ls) one ∙ ap (λ (j : ℕ). line_of v j ls) two in
+    let above : (line_of v w ls).acked < k =
+    subst (λ (j : ℕ). (line_of v w ls).acked < j) three
+    (subst (λ (z : Line). z.acked < m) line more) in
+    let within : k ≤ length (line_of v w ls).history.handed =
+    subst (λ (j : ℕ). j ≤ length (line_of v w ls).history.handed) three
+    (subst (λ (z : Line). m ≤ length z.history.handed) line told) in
+    let less = lag_acked v w k ls above within in
+    let keep = acked_weight (weighs net.net.tree) v w k ls in
+    (one_at_0 (Data f t n bytes), omega arith)

@@ -1,3 +1,15 @@
 pub mod FrameLaws
 pub mod Heads
 pub mod Exact
+pub mod Bringing
+pub mod Ordering
+pub mod Scheduled
+pub mod Joining
+pub mod OneOrder
+pub mod OneRun
+pub mod Counting
+pub mod Apart
+pub mod Endings
+pub mod Settled
+pub mod Coming
+pub mod Ended

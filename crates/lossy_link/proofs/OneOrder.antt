@@ -1,17 +1,33 @@
--- There is one order of deliveries, and one journal.
-use Rattle.std.proofs.Common.{◌≡◌, ℕ, ◌+◌, ◌<◌, List, [], ◌∷◌, ◌++◌, Some, slice_get, refl, sym, ap}
-use Rattle.std.proofs.Common.{subst, ◌∙◌, arith, ◌⊎◌, inl, inr}
+-- There is one run without links: one journal, and one network in the end.
+use Rattle.std.proofs.Common.{◌≡◌, ℕ, ◌+◌, ◌<◌, List, [], ◌∷◌, Option, Some, None, slice_get, refl}
+use Rattle.std.proofs.Common.{sym}
+use Rattle.std.proofs.Common.{ap, subst, ◌∙◌, arith, ◌⊎◌, inl, inr}
 use Rattle.std.proofs.lemmas.Bool.{cases_order}
 use Rattle.std.proofs.lemmas.Option.{same_Some}
-use Rattle.net_core.specs.declared.choice.Choice.{Choice}
 use Rattle.chem_model.specs.declared.event.Event.{Event}
-use Rattle.net_core.specs.declared.drained.FlightFrom.{FlightFrom}
-use Rattle.net_core.specs.Parts.{without}
+use Rattle.chem_model.specs.ProgramFacts.{ProgramTerms, IsProgram}
+use Rattle.chem_model.specs.Opening.{opening}
+use Rattle.env_store.specs.CodeParts.{CodeParts}
+use Rattle.env_store.specs.CodeFacts.{IsCode}
+use Rattle.env_store.specs.Reading.{IsCodeOf}
+use Rattle.net_laws.specs.Net.{Addressed, Net}
+use Rattle.net_laws.proofs.Opened.{opened_stands}
+use Rattle.net_core.specs.declared.choice.Choice.{Choice}
+use Rattle.net_core.specs.declared.choice.Choice.TheVariants as choice
+use Rattle.net_core.specs.Acts.{Acts}
+use Rattle.net_core.specs.Making as making
+use Rattle.net_core.specs.Senders.{kept}
+use Rattle.net_core.specs.Whole.{NetParts}
+use Rattle.net_core.proofs.OneSender.{sender_is_one}
+use Rattle.net_core.proofs.Picking.{IsFine, acts_fine, acts_one, next_allowed, next_one}
+use Rattle.lossy_link.specs.Links.{Precedes}
+use Rattle.lossy_link.specs.OverBook.{opened_parts, JournalsOverLinksAreOne}
 use Rattle.lossy_link.specs.Schedule as schedule
-use Rattle.lossy_link.specs.Schedule.{Precedes, IsFirstOfLeast, Carries}
+use Rattle.lossy_link.specs.Schedule.{Carries, Makes, IsBetween, IsFirstOfLeast}
 
 -- two pairs are one, or one of them precedes the other
-pub pairs_order : (f t g u : ℕ) → ((f ≡ g) × (t ≡ u)) ⊎ (Precedes f t g u ⊎ Precedes g u f t)
+pub pairs_order : (f t g u : ℕ)
+    → ((f ≡ g) × (t ≡ u)) ⊎ (Precedes f t g u ⊎ Precedes g u f t)
 pairs_order f t g u = go (cases_order f g) (cases_order t u)
   where
     go : (f ≡ g) ⊎ ((f < g) ⊎ (g < f)) → (t ≡ u) ⊎ ((t < u) ⊎ (u < t))
@@ -22,106 +38,148 @@ pairs_order f t g u = go (cases_order f g) (cases_order t u)
     go (inl x) (inr (inl y)) = inr (inl (inr (x, y)))
     go (inl x) (inr (inr y)) = inr (inr (inr (sym x, y)))
 
-pub one_first : (ps : List FlightFrom) (i j : ℕ) (p q : FlightFrom) → IsFirstOfLeast ps i p
-    → IsFirstOfLeast ps j q → (i ≡ j) × (p ≡ q)
-one_first ps i j p q a b =
-    go (pairs_order p.from p.flight.target q.from q.flight.target) (cases_order i j)
+-- ---- one packet is the first
+
+first_one : (net : NetParts) (i j : ℕ) → IsFirstOfLeast net i → IsFirstOfLeast net j → i ≡ j
+first_one net i j a b = go (pairs_order a.from a.into b.from b.into) (cases_order i j)
   where
-    go : ((p.from ≡ q.from) × (p.flight.target ≡ q.flight.target))
-        ⊎ (Precedes p.from p.flight.target q.from q.flight.target
-        ⊎ Precedes q.from q.flight.target p.from p.flight.target) → (i ≡ j)
-        ⊎ ((i < j) ⊎ (j < i)) → (i ≡ j) × (p ≡ q)
-    go (inr (inl x)) y = absurd (b.least i p a.is x)
-    go (inr (inr x)) y = absurd (a.least j q b.is x)
-    go (inl x) (inl y) = (y, same_Some p q (sym a.is ∙ ap (slice_get ps) y ∙ b.is))
-    go (inl x) (inr (inl y)) = absurd (b.first i p y a.is x.0 x.1)
-    go (inl x) (inr (inr y)) = absurd (a.first j q y b.is (sym x.0) (sym x.1))
+    go : ((a.from ≡ b.from) × (a.into ≡ b.into))
+        ⊎ (Precedes a.from a.into b.from b.into ⊎ Precedes b.from b.into a.from a.into)
+        → (i ≡ j) ⊎ ((i < j) ⊎ (j < i)) → i ≡ j
+    go (inr (inl x)) y = absurd (b.least i a.from a.into a.is x)
+    go (inr (inr x)) y = absurd (a.least j b.from b.into b.is x)
+    go (inl x) (inl y) = y
+    go (inl x) (inr (inl y)) = absurd (b.first i y
+        (subst (λ (n : ℕ). IsBetween net i n b.into) x.0
+        (subst (λ (n : ℕ). IsBetween net i a.from n) x.1 a.is)))
+    go (inl x) (inr (inr y)) = absurd (a.first j y
+        (subst (λ (n : ℕ). IsBetween net j n a.into) (sym x.0)
+        (subst (λ (n : ℕ). IsBetween net j b.from n) (sym x.1) b.is)))
 
-module _ (Net : Type 0) (Acts : Net → Choice → Event → Net → List FlightFrom → Type 0)
-    (Receives : Net → ℕ → List ℕ → Net → List FlightFrom → Type 0)
-    (IsNext : Net → Choice → Type 0) (Rests : Net → Type 0) (budget : ℕ)
-    (Keeps : Net → List FlightFrom → Type 0)
-    (receives_keep : (net mid : Net) (packets out : List FlightFrom) (i : ℕ) (p : FlightFrom)
-    → Keeps net packets → slice_get packets i ≡ Some p
-    → Receives net p.flight.target p.flight.bytes mid out
-    → Keeps mid (without i packets ++ out))
-    (acts_keep : (net mid : Net) (x : Choice) (e : Event) (out : List FlightFrom) → Keeps net []
-    → Acts net x e mid out → Keeps mid out)
-    (receives_one : (net a b : Net) (packets oa ob : List FlightFrom) (i : ℕ) (p : FlightFrom)
-    → Keeps net packets → slice_get packets i ≡ Some p
-    → Receives net p.flight.target p.flight.bytes a oa
-    → Receives net p.flight.target p.flight.bytes b ob → (a ≡ b) × (oa ≡ ob))
-    (acts_one : (net a b : Net) (x : Choice) (e d : Event) (oa ob : List FlightFrom) → Keeps net []
-    → Acts net x e a oa → Acts net x d b ob → (e ≡ d) × (a ≡ b) × (oa ≡ ob))
-    (next_one : (net : Net) (x y : Choice) → Keeps net [] → IsNext net x → IsNext net y → x ≡ y)
-    (none_rests : (net : Net) (x : Choice) → Keeps net [] → Rests net → IsNext net x → ⊥) where
-  abbrev Carried : ℕ → Net → List FlightFrom → List Event → Net → Type 0
-  Carried = Carries Net Acts Receives IsNext Rests budget
+none_first : (net : NetParts) (i : ℕ) → IsFirstOfLeast net i → net.net.packets ≡ [] → ⊥
+none_first net i first none =
+    let bad : slice_get [] i ≡ Some first.is.packet =
+    subst (λ (ps : List Addressed). slice_get ps i ≡ Some first.is.packet) none
+    first.is.packet_is in
+    cc
 
-  none_first : (ps : List FlightFrom) (i : ℕ) (p : FlightFrom) → IsFirstOfLeast ps i p → ps ≡ [] → ⊥
-  none_first ps i p first none = let bad : slice_get [] i ≡ Some p =
-      subst (λ (qs : List FlightFrom). slice_get qs i ≡ Some p) none first.is in cc
+module _ (p : ProgramTerms) (ok : IsProgram p) where
+  -- the network runs the program's code and stands for a solution
+  pub record RunsWell (net : NetParts) : Type 0 where
+    pub is_code : IsCode net.code
+    pub of_program : IsCodeOf p net.code
+    pub fine : IsFine p net.code net.net
 
-  pub carries_one : (k : ℕ) (net a b : Net) (packets : List FlightFrom) (es ds : List Event)
-      → Keeps net packets → Carried k net packets es a → Carried k net packets ds b → (es ≡ ds)
-      × (a ≡ b)
-  carries_one k net a b packets es ds keeps (schedule.delivers k1 i n1 mid last ps out p es1 first r
-      more) (schedule.delivers k2 j n2 mid2 last2 ps2 out2 q es2 first2 r2 more2) =
-      let same = one_first packets i j p q first first2 in
-      let again : Receives net p.flight.target p.flight.bytes mid2 out2 =
-      subst (λ (x : FlightFrom). Receives net x.flight.target x.flight.bytes mid2 out2)
-      (sym same.1) r2 in
-      let left = receives_one net mid mid2 packets out out2 i p keeps first.is r again in
-      let on : Carried k mid (without i packets ++ out) ds b =
-      subst (λ (m : Net). Carried k m (without i packets ++ out) ds b) (sym left.0)
-      (subst (λ (o : List FlightFrom). Carried k mid2 (without i packets ++ o) ds b)
-      (sym left.1) (subst (λ (m : ℕ). Carried k mid2 (without m packets ++ out2) ds b)
-      (sym same.0) more2)) in
-      carries_one k mid a b (without i packets ++ out) es ds
-      (receives_keep net mid packets out i p keeps first.is r) more on
-  carries_one k net a b packets es ds keeps (schedule.delivers k1 i n1 mid last ps out p es1 first r
-      more) (schedule.ends k2 n2 ps2 none spent) = absurd (none_first packets i p first none)
-  carries_one k net a b packets es ds keeps (schedule.delivers k1 i n1 mid last ps out p es1 first r
-      more) (schedule.rests k2 n2 ps2 none few rest) = absurd (none_first packets i p first none)
-  carries_one k net a b packets es ds keeps (schedule.delivers k1 i n1 mid last ps out p es1 first r
-      more) (schedule.makes k2 n2 m2 l2 ps2 o2 x e es2 none few next act more2) = absurd
-      (none_first packets i p first none)
-  carries_one k net a b packets es ds keeps (schedule.ends k1 n1 ps none spent)
-      (schedule.delivers k2 j n2 mid2 last2 ps2 out2 q es2 first2 r2 more2) =
-      absurd (none_first packets j q first2 none)
-  carries_one k net a b packets es ds keeps (schedule.ends k1 n1 ps none spent)
-      (schedule.ends k2 n2 ps2 none2 spent2) = (refl, refl)
-  carries_one k net a b packets es ds keeps (schedule.ends k1 n1 ps none spent)
-      (schedule.rests k2 n2 ps2 none2 few2 rest2) = absurd (omega arith)
-  carries_one k net a b packets es ds keeps (schedule.ends k1 n1 ps none spent)
-      (schedule.makes k2 n2 m2 l2 ps2 o2 x e es2 none2 few2 next act more2) = absurd (omega arith)
-  carries_one k net a b packets es ds keeps (schedule.rests k1 n1 ps none few rest)
-      (schedule.delivers k2 j n2 mid2 last2 ps2 out2 q es2 first2 r2 more2) =
-      absurd (none_first packets j q first2 none)
-  carries_one k net a b packets es ds keeps (schedule.rests k1 n1 ps none few rest)
-      (schedule.ends k2 n2 ps2 none2 spent2) = absurd (omega arith)
-  carries_one k net a b packets es ds keeps (schedule.rests k1 n1 ps none few rest)
-      (schedule.rests k2 n2 ps2 none2 few2 rest2) = (refl, refl)
-  carries_one k net a b packets es ds keeps (schedule.rests k1 n1 ps none few rest)
-      (schedule.makes k2 n2 m2 l2 ps2 o2 x e es2 none2 few2 next act more2) =
-      absurd (none_rests net x (subst (Keeps net) none keeps) rest next)
-  carries_one k net a b packets es ds keeps (schedule.makes k1 n1 m1 l1 ps1 o1 x e es1 none few next
-      act more) (schedule.delivers k2 j n2 mid2 last2 ps2 out2 q es2 first2 r2 more2) = absurd
-      (none_first packets j q first2 none)
-  carries_one k net a b packets es ds keeps (schedule.makes k1 n1 m1 l1 ps1 o1 x e es1 none few next
-      act more) (schedule.ends k2 n2 ps2 none2 spent2) = absurd (omega arith)
-  carries_one k net a b packets es ds keeps (schedule.makes k1 n1 m1 l1 ps1 o1 x e es1 none few next
-      act more) (schedule.rests k2 n2 ps2 none2 few2 rest2) = absurd
-      (none_rests net x (subst (Keeps net) none keeps) rest2 next)
-  carries_one k net a b packets es ds keeps (schedule.makes k1 n1 m1 l1 ps1 o1 x e es1 none few next
-      act more) (schedule.makes k2 n2 m2 l2 ps2 o2 y d es2 none2 few2 next2 act2 more2) =
-      let bare : Keeps net [] = subst (Keeps net) none keeps in
-      let same = next_one net x y bare next next2 in
-      let again : Acts net x d m2 o2 = subst (λ (z : Choice). Acts net z d m2 o2) (sym same) act2 in
-      let left = acts_one net m1 m2 x e d o1 o2 bare act again in
-      let on : Carried (k + 1) m1 o1 es2 b =
-      subst (λ (m : Net). Carried (k + 1) m o1 es2 b) (sym left.1)
-      (subst (λ (o : List FlightFrom). Carried (k + 1) m2 o es2 b) (sym left.2) more2) in
-      let later =
-      carries_one (k + 1) m1 a b o1 es1 es2 (acts_keep net m1 x e o1 bare act) more on in
-      (λ i. left.0 i ∷ later.0 i, later.1)
+  -- ---- what is made is one thing
+
+  makes_well : (net new : NetParts) (x : Choice) (o : Option Event) → RunsWell net
+      → Makes net x o new → RunsWell new
+  makes_well net new x o well h = record {
+    is_code = subst IsCode (sym h.code) well.is_code;
+    of_program = subst (IsCodeOf p) (sym h.code) well.of_program;
+    fine = subst (λ (c : CodeParts). IsFine p c new.net) (sym h.code)
+        (acts_fine p net.code ok well.is_code well.of_program net.net new.net x o well.fine h.acts);
+  }
+
+  makes_one : (net a b : NetParts) (x : Choice) (o u : Option Event) → RunsWell net
+      → Makes net x o a → Makes net x u b → (o ≡ u) × (a ≡ b)
+  makes_one net a b x o u well h g =
+      let same = acts_one p net.code net.net well.fine x o u a.net b.net h.acts g.acts in
+      let code : a.code ≡ b.code = h.code ∙ sym g.code in
+      let events : a.events ≡ b.events =
+      h.events ∙ ap (λ (e : Option Event). net.events + making.counted e) same.0 ∙ sym g.events in
+      let sender : h.sender ≡ g.sender =
+      sender_is_one p net.code net.net well.fine.solution well.fine.stands well.fine.runs x
+      h.sender g.sender h.sent_by g.sent_by in
+      let froms : a.froms ≡ b.froms =
+      h.froms ∙ (λ i. froms_by (same.1 i) (sender i)) ∙ sym g.froms in
+      (same.0, λ i. record { code = code i; net = same.1 i; froms = froms i; events = events i })
+    where
+      froms_by : Net → ℕ → List ℕ
+      froms_by new sender =
+          kept x net.froms
+          ++ replicate (length new.packets - length (kept x net.net.packets)) sender
+
+  next_is_one : (net : NetParts) (x y : Choice) → RunsWell net → schedule.NextOver net x
+      → schedule.NextOver net y → x ≡ y
+  next_is_one net x y well a b = next_one p net.code net.net well.fine well.is_code x y a b
+
+  none_rests : (net : NetParts) (x : Choice) → RunsWell net → schedule.RestsOver net
+      → schedule.NextOver net x → ⊥
+  none_rests net x well rest next =
+      rest x (next_allowed p net.code net.net well.fine well.is_code x next)
+
+  -- ---- the run
+
+  abbrev Same : List Event → NetParts → List Event → NetParts → Type 0
+  Same es a ds b = (es ≡ ds) × (a ≡ b)
+
+  pub carries_one : (budget k : ℕ) (net a b : NetParts) (es ds : List Event) → RunsWell net
+      → Carries budget k net es a → Carries budget k net ds b → Same es a ds b
+  carries_one budget k net a b es ds well (schedule.delivers _ i _ mid _ _ first make more)
+      (schedule.delivers _ j _ mid2 _ _ first2 make2 more2) =
+      let place = first_one net i j first first2 in
+      let again : Makes net (choice.Deliver i) None mid2 =
+      subst (λ (n : ℕ). Makes net (choice.Deliver n) None mid2) (sym place) make2 in
+      let left = makes_one net mid mid2 (choice.Deliver i) None None well make again in
+      carries_one budget k mid a b es ds (makes_well net mid (choice.Deliver i) None well make) more
+      (subst (λ (n : NetParts). Carries budget k n ds b) (sym left.1) more2)
+  carries_one budget k net a b es ds well (schedule.delivers _ i _ mid _ _ first make more)
+      (schedule.ends _ _ none spent) = absurd (none_first net i first none)
+  carries_one budget k net a b es ds well (schedule.delivers _ i _ mid _ _ first make more)
+      (schedule.rests _ _ none few rest) = absurd (none_first net i first none)
+  carries_one budget k net a b es ds well (schedule.delivers _ i _ mid _ _ first make more)
+      (schedule.makes _ _ mid2 _ y d _ none few next make2 more2) =
+      absurd (none_first net i first none)
+  carries_one budget k net a b es ds well (schedule.ends _ _ none spent)
+      (schedule.delivers _ j _ mid2 _ _ first2 make2 more2) =
+      absurd (none_first net j first2 none)
+  carries_one budget k net a b es ds well (schedule.ends _ _ none spent)
+      (schedule.ends _ _ none2 spent2) = (refl, refl)
+  carries_one budget k net a b es ds well (schedule.ends _ _ none spent)
+      (schedule.rests _ _ none2 few2 rest2) = absurd (omega arith)
+  carries_one budget k net a b es ds well (schedule.ends _ _ none spent)
+      (schedule.makes _ _ mid2 _ y d _ none2 few2 next2 make2 more2) = absurd (omega arith)
+  carries_one budget k net a b es ds well (schedule.rests _ _ none few rest)
+      (schedule.delivers _ j _ mid2 _ _ first2 make2 more2) =
+      absurd (none_first net j first2 none)
+  carries_one budget k net a b es ds well (schedule.rests _ _ none few rest)
+      (schedule.ends _ _ none2 spent2) = absurd (omega arith)
+  carries_one budget k net a b es ds well (schedule.rests _ _ none few rest)
+      (schedule.rests _ _ none2 few2 rest2) = (refl, refl)
+  carries_one budget k net a b es ds well (schedule.rests _ _ none few rest)
+      (schedule.makes _ _ mid2 _ y d _ none2 few2 next2 make2 more2) =
+      absurd (none_rests net y well rest next2)
+  carries_one budget k net a b es ds well (schedule.makes _ _ mid _ x e es1 none few next make more)
+      (schedule.delivers _ j _ mid2 _ _ first2 make2 more2) =
+      absurd (none_first net j first2 none)
+  carries_one budget k net a b es ds well (schedule.makes _ _ mid _ x e es1 none few next make more)
+      (schedule.ends _ _ none2 spent2) = absurd (omega arith)
+  carries_one budget k net a b es ds well (schedule.makes _ _ mid _ x e es1 none few next make more)
+      (schedule.rests _ _ none2 few2 rest2) = absurd (none_rests net x well rest2 next)
+  carries_one budget k net a b es ds well (schedule.makes _ _ mid _ x e es1 none few next make more)
+      (schedule.makes _ _ mid2 _ y d es2 none2 few2 next2 make2 more2) =
+      let same = next_is_one net x y well next next2 in
+      let again : Makes net x (Some d) mid2 =
+      subst (λ (z : Choice). Makes net z (Some d) mid2) (sym same) make2 in
+      let left = makes_one net mid mid2 x (Some e) (Some d) well make again in
+      let event : e ≡ d = same_Some e d left.0 in
+      let later = carries_one budget (k + 1) mid a b es1 es2
+      (makes_well net mid x (Some e) well make) more
+      (subst (λ (n : NetParts). Carries budget (k + 1) n es2 b) (sym left.1) more2) in
+      (λ i. event i ∷ later.0 i, later.1)
+
+  pub opened_well : (c : CodeParts) → IsCode c → IsCodeOf p c → RunsWell (opened_parts p.version c)
+  opened_well c kept is =
+      let opened = opened_stands p c ok kept is in
+      record {
+        is_code = kept;
+        of_program = is;
+        fine = record { solution = opening p; stands = opened.0; runs = opened.1 };
+      }
+
+pub journals_over_links_are_one : JournalsOverLinksAreOne
+journals_over_links_are_one p c ok kept is budget es other end last one two =
+    carries_one p ok budget 0 (opened_parts p.version c) end last es other
+    (opened_well p ok c kept is)
+    one two

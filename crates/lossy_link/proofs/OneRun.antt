@@ -13,7 +13,8 @@ use Rattle.lossy_link.specs.Lines.{line_of}
 use Rattle.lossy_link.specs.Links.{Links, Steps}
 use Rattle.lossy_link.specs.Schedule as schedule
 use Rattle.lossy_link.specs.declared.schedule.LinkCounts.{LinkCounts}
-use Rattle.lossy_link.specs.Schedule.{Precedes, IsLeastOpen, NoneIsOpen, both, counted, next_turn}
+use Rattle.lossy_link.specs.Schedule.{both, counted, next_turn}
+use Rattle.lossy_link.specs.Links.{Precedes, IsLeastOpen, NoneIsOpen}
 use Rattle.lossy_link.specs.Schedule.{Turns, Runs}
 use Rattle.lossy_link.proofs.OneOrder.{pairs_order}
 

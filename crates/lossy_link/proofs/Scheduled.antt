@@ -12,13 +12,14 @@ use Rattle.lossy_link.specs.declared.frame.Frame.{Frame}
 use Rattle.lossy_link.specs.declared.frame.Frame.TheVariants.{Data, Ack}
 use Rattle.lossy_link.specs.declared.line.Line.{Line}
 use Rattle.lossy_link.specs.Lines.{line_of, with_sent, all_sent, with_handed, with_acked, raised}
-use Rattle.lossy_link.specs.Lines.{undelivered, IsFine}
+use Rattle.lossy_link.specs.Lines.{undelivered, IsFine, AreFine}
 use Rattle.lossy_link.specs.Links.{Links, IsTrueOf, AreSound, Steps, acts, sends, loses, repeats}
 use Rattle.lossy_link.specs.Links.{takes, drops, learns}
 use Rattle.net_core.specs.Parts.{without}
 use Rattle.lossy_link.specs.Schedule as schedule
 use Rattle.lossy_link.specs.declared.schedule.LinkCounts.{LinkCounts}
-use Rattle.lossy_link.specs.Schedule.{Precedes, IsLeastOpen, NoneIsOpen, next_turn, Turns, Runs}
+use Rattle.lossy_link.specs.Schedule.{next_turn, Turns, Runs}
+use Rattle.lossy_link.specs.Links.{Precedes, IsLeastOpen, NoneIsOpen}
 use Rattle.lossy_link.proofs.Bringing as bringing
 use Rattle.lossy_link.proofs.Bringing.{IsFirstIn, of_pair, AreSame, Brings}
 use Rattle.lossy_link.proofs.LineLaws.{pair_of, each_line, each_more, each_without, each_at}
@@ -290,6 +291,31 @@ module _ (Net : Type 0) (Acts : Net → Choice → Event → Net → List Flight
       };
       same = good.same;
     }
+
+    -- at the start
+    pub begun_good : (l : Links Net) (packets : List FlightFrom) → l.wire ≡ []
+        → l.lines ≡ all_sent packets []
+        → IsGood Net l 0 0 (length (line_of 0 0 l.lines).history.handed + 1) packets
+    begun_good l packets bare lines =
+        let m = length (line_of 0 0 l.lines).history.handed in
+        record {
+          sound = record {
+            fine = subst AreFine (sym lines) (all_sent_fine packets [] fine_nil);
+            wire = subst (λ (xs : List Frame). Each (IsTrueOf l.lines) xs) (sym bare) tt;
+          };
+          copies = record {
+            copies = subst (λ (xs : List Frame). Each (IsCopy 0 0 (m + 1)) xs) (sym bare) tt;
+            least = λ is. absurd (apart m is);
+          };
+          same = subst (λ (ls : List Line). AreSame ls packets) (sym lines)
+              (all_sent_same packets [] [] fine_nil (λ f t. refl));
+        }
+      where
+        apart : (a : ℕ) → a + 1 ≡ a → ⊥
+        apart a e = omega arith
+
+        fine_nil : AreFine []
+        fine_nil f t = record { front = refl; within = omega arith; acked = omega arith }
 
     -- after an event
     made_good : (l : Links Net) (f t n : ℕ) (net : Net) (out packets : List FlightFrom)

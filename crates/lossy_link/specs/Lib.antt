@@ -6,4 +6,8 @@ pub mod Over
 pub mod Standing
 pub mod Whole
 pub mod Played
+pub mod Schedule
+pub mod Ending
+pub mod Settling
+pub mod OverBook
 pub mod inside

@@ -10,13 +10,12 @@ use Rattle.env_store.specs.Reading.{IsCodeOf}
 use Rattle.env_store.specs.Laws.{rules_of_group}
 use Rattle.net_laws.specs.Net.{Stands}
 use Rattle.net_laws.specs.Opened.{RunsCode, opened_net}
-use Rattle.net_core.specs.declared.drained.FlightFrom.{FlightFrom}
-use Rattle.net_core.specs.Drained.{AreHandedOut}
 use Rattle.net_core.specs.Senders.{opened_froms}
 use Rattle.net_core.specs.Whole.{NetParts}
 use Rattle.lossy_link.specs.declared.schedule.LinkCounts.{LinkCounts}
 use Rattle.lossy_link.specs.Links.{Links}
-use Rattle.lossy_link.specs.Schedule.{Carries, RunsOver, started, capped}
+use Rattle.lossy_link.specs.Schedule.{Carries, RunsOver, capped}
+use Rattle.lossy_link.specs.Whole.{HasStarted}
 
 -- the network runs the code of the book's program and stands for the solution of its journal, after
 -- as many events as are in it
@@ -29,16 +28,14 @@ pub record StandForOne (book : BookKept) (net : NetParts) : Type 0 where
 -- ---- the run over links from a network
 
 -- the run over links from this network, after so many events, whose first turn is of the kind
--- `loss`: its events, how many steps of each kind it makes, and the network that it leaves; the
--- packets that are under way there are the first that are sent of their pairs
+-- `loss`: its events, how many steps of each kind it makes, and the network that it leaves
 pub record RunsFrom (budget loss k : ℕ) (net : NetParts) (es : List Event) (counts : LinkCounts)
     (end : NetParts) : Type 0 where
-  pub packets : List FlightFrom
-  pub bare : NetParts
-  pub handed_out : AreHandedOut net packets bare
+  pub start : Links NetParts
+  pub starts : HasStarted net start
   pub total : LinkCounts
   pub last : Links NetParts
-  pub runs : RunsOver budget loss k (started bare packets) es total last
+  pub runs : RunsOver budget loss k start es total last
   pub counted : counts ≡ capped total
   pub end_is : last.net ≡ end
 

@@ -1,6 +1,6 @@
 -- The run of a network without links, and the schedule of its run over links.
 use Rattle.std.specs.Prelude.{◌≡◌, ℕ, zero, suc, ◌+◌, ◌-◌, ◌<◌, ◌≤◌, ◌^◌, min, List, [], ◌∷◌, ◌++◌}
-use Rattle.std.specs.Prelude.{Option, Some, None, ◌⊎◌, length, replicate, slice_get}
+use Rattle.std.specs.Prelude.{Option, Some, None, length, replicate, slice_get}
 use Rattle.chem_model.specs.declared.event.Event.{Event}
 use Rattle.net_laws.specs.Net.{Addressed}
 use Rattle.net_core.specs.declared.choice.Choice.{Choice}
@@ -12,17 +12,11 @@ use Rattle.net_core.specs.Making as making
 use Rattle.net_core.specs.Senders.{IsSentBy, kept}
 use Rattle.net_core.specs.Whole.{NetParts}
 use Rattle.lossy_link.specs.declared.frame.Frame.{Frame}
-use Rattle.lossy_link.specs.declared.line.Line.{Line}
 use Rattle.lossy_link.specs.declared.schedule.LinkCounts.{LinkCounts}
 use Rattle.lossy_link.specs.declared.step.Step.{Step}
 use Rattle.lossy_link.specs.declared.step.Step.TheVariants.{Act, Send, Lose, Repeat, Arrive}
-use Rattle.lossy_link.specs.Lines.{line_of, all_sent}
-use Rattle.lossy_link.specs.Links.{Links, Steps}
+use Rattle.lossy_link.specs.Links.{Links, Steps, Precedes, IsLeastOpen, NoneIsOpen}
 use Rattle.lossy_link.specs.Over.{ActsOver, ReceivesOver}
-
--- pairs in order: by the first, and then by the second
-abbrev pub Precedes : ℕ → ℕ → ℕ → ℕ → Type 0
-Precedes f t g u = (f < g) ⊎ ((f ≡ g) × (t < u))
 
 -- ---- without links
 
@@ -78,24 +72,6 @@ pub data Carries (budget : ℕ) : ℕ → NetParts → List Event → NetParts �
       → net.net.packets ≡ [] → k < budget → NextOver net x → Makes net x (Some e) mid
       → Carries budget (k + 1) mid es end → Carries budget k net (e ∷ es) end
 
--- ---- over links: which packet is sent next
-
--- a packet that isn't acknowledged: the one of the least number of the least pair that has one
-pub record IsLeastOpen (ls : List Line) (f t n : ℕ) (bytes : List ℕ) : Type 0 where
-  pub at : n ≡ (line_of f t ls).acked
-  pub is : slice_get (line_of f t ls).history.sent n ≡ Some bytes
-  pub least :
-      (g u : ℕ) → Precedes g u f t → length (line_of g u ls).history.sent ≤ (line_of g u ls).acked
-
--- all are acknowledged
-abbrev pub NoneIsOpen : List Line → Type 0
-NoneIsOpen ls = (f t : ℕ) → length (line_of f t ls).history.sent ≤ (line_of f t ls).acked
-
--- the least packet that isn't acknowledged, or all are
-abbrev pub HasLeast : List Line → Option (ℕ × ℕ × ℕ) → Type 0
-HasLeast ls None = NoneIsOpen ls
-HasLeast ls (Some x) = (bytes : List ℕ) × IsLeastOpen ls x.0 x.1 x.2 bytes
-
 -- ---- how many steps of each kind
 
 abbrev pub counted : (sent lost repeated arrived : ℕ) → LinkCounts
@@ -126,19 +102,19 @@ next_turn (suc (suc (suc _))) = 0
 
 module _ (Net : Type 0) (Acts : Net → Choice → Event → Net → List FlightFrom → Type 0)
     (Receives : Net → ℕ → List ℕ → Net → List FlightFrom → Type 0) where
-  abbrev StepsTo : Links Net → Step → Option Event → Links Net → Type 0
-  StepsTo = Steps Net Acts Receives
+  abbrev Goes : Links Net → Step → Option Event → Links Net → Type 0
+  Goes = Steps Net Acts Receives
 
   -- what a turn of the wire does, by its kind, and what it counts
   pub data Turns (l : Links Net) : ℕ → Links Net → LinkCounts → Type 0 where
-    loses : (mid : Links Net) → StepsTo l (Lose 0) None mid → Turns l 0 mid (counted 0 1 0 0)
+    loses : (mid : Links Net) → Goes l (Lose 0) None mid → Turns l 0 mid (counted 0 1 0 0)
     repeats :
-        (mid new : Links Net) → StepsTo l (Repeat 0) None mid → StepsTo mid (Arrive 0) None new
+        (mid new : Links Net) → Goes l (Repeat 0) None mid → Goes mid (Arrive 0) None new
         → Turns l 1 new (counted 0 0 1 1)
     delays :
-        (mid new : Links Net) → StepsTo l (Repeat 0) None mid → StepsTo mid (Lose 0) None new
+        (mid new : Links Net) → Goes l (Repeat 0) None mid → Goes mid (Lose 0) None new
         → Turns l 2 new (counted 0 1 1 0)
-    arrives : (mid : Links Net) → StepsTo l (Arrive 0) None mid → Turns l 3 mid (counted 0 0 0 1)
+    arrives : (mid : Links Net) → Goes l (Arrive 0) None mid → Turns l 3 mid (counted 0 0 0 1)
 
   module _ (IsNext : Net → Choice → Type 0) (Rests : Net → Type 0) (budget : ℕ) where
     -- from a turn of this kind on and after so many events: a frame on the wire has its turn; else
@@ -153,7 +129,7 @@ module _ (Net : Type 0) (Acts : Net → Choice → Event → Net → List Flight
       sends :
           (v k : ℕ) (l mid end : Links Net) (f t m : ℕ) (bytes : List ℕ) (es : List Event)
           (n : LinkCounts)
-          → l.wire ≡ [] → IsLeastOpen l.lines f t m bytes → StepsTo l (Send f t m) None mid
+          → l.wire ≡ [] → IsLeastOpen l.lines f t m bytes → Goes l (Send f t m) None mid
           → Runs v k mid es n end → Runs v k l es (both (counted 1 0 0 0) n) end
       ends :
           (v k : ℕ) (l : Links Net)
@@ -166,7 +142,7 @@ module _ (Net : Type 0) (Acts : Net → Choice → Event → Net → List Flight
           (v k : ℕ) (l mid end : Links Net) (x : Choice) (e : Event) (es : List Event)
           (n : LinkCounts)
           → l.wire ≡ [] → NoneIsOpen l.lines → k < budget → IsNext l.net x
-          → StepsTo l (Act x) (Some e) mid
+          → Goes l (Act x) (Some e) mid
           → Runs v (k + 1) mid es n end → Runs v k l (e ∷ es) n end
 
 -- ---- of a network of sites
@@ -176,7 +152,3 @@ TurnsOver = Turns NetParts ActsOver ReceivesOver
 
 abbrev pub RunsOver : ℕ → ℕ → ℕ → Links NetParts → List Event → LinkCounts → Links NetParts → Type 0
 RunsOver budget = Runs NetParts ActsOver ReceivesOver NextOver RestsOver budget
-
--- nothing is on the wire, and these packets are the first that are sent of their pairs
-abbrev pub started : NetParts → List FlightFrom → Links NetParts
-started net packets = record { net = net; wire = []; lines = all_sent packets [] }
