@@ -18,8 +18,7 @@ use Rattle.env_store.specs.Laws.{rules_of_group}
 use Rattle.net_laws.specs.Net.{Addressed, Net, Stands}
 use Rattle.net_laws.specs.Opened.{RunsCode}
 use Rattle.net_core.specs.declared.choice.Choice.{Choice}
-use Rattle.net_core.specs.declared.choice.Choice.TheVariants as choice
-use Rattle.net_core.specs.Choosing.{Allows, IsNext}
+use Rattle.net_core.specs.Choosing.{IsNext}
 use Rattle.net_core.specs.Laws.{IsLed, IsLedFrom}
 use Rattle.net_core.specs.UnderWay.{with_packets}
 use Rattle.net_core.specs.Whole.{NetParts}
@@ -39,7 +38,9 @@ use Rattle.lossy_link.specs.Standing.{LinksLead, net_of_links, flights}
 use Rattle.lossy_link.specs.Whole.{IsWhole, HasStarted}
 use Rattle.lossy_link.proofs.Apart.{apart_step, apart_sent, settled_none}
 use Rattle.lossy_link.proofs.Counting.{both_assoc, counts_on, counted_none}
+use Rattle.lossy_link.proofs.Making.{over_allowed}
 use Rattle.lossy_link.proofs.Settled.{settles_none}
+use Rattle.lossy_link.proofs.StepsMade.{step_code, step_events}
 
 -- ---- book and links stand for one solution
 
@@ -100,33 +101,19 @@ one_at_rest b l o whole settled apart =
 -- ---- a choice
 
 -- the choice that is next is enabled, and no delivery
-over : (net : NetParts) (x : Choice) → net.net.packets ≡ [] → Allows net.code net.net x
-    → AllowsOver net x
-over net (choice.React i p) none h = h
-over net (choice.Deliver f) none h =
-    let at = h.packet_is in
-    absurd (cc)
-over net (choice.Move a) none h = h
-over net (choice.Halt a) none h = h
-over net (choice.Detect a) none h = h
-
 pub next_over : (b : BookKept) (l : Links NetParts) (x : Choice) → AreOneOver b l → IsWhole l
     → IsSettled l → AreApart l.lines → IsNext l.net.code l.net.net x → AllowsOver l.net x
 next_over b l x o whole settled apart next =
     let one = one_at_rest b l o whole settled apart in
     let fine : IsFine b.program l.net.code l.net.net =
     record { solution = one.last; stands = one.stands; runs = one.runs } in
-    over l.net x whole.drained
+    over_allowed l.net x whole.drained
     (next_allowed b.program l.net.code l.net.net fine one.is_code x next)
 
--- what an event leaves of code and wire
-act_keeps : (l new : Links NetParts) (x : Choice) (e : Event) → StepsTo l (Act x) (Some e) new
-    → (new.net.code ≡ l.net.code) × (new.net.events ≡ l.net.events + 1) × (new.wire ≡ l.wire)
-act_keeps l new x e (acts y d net out h) = (
-  ap (λ (m : NetParts). m.code) h.handed_out.left ∙ h.code,
-  ap (λ (m : NetParts). m.events) h.handed_out.left ∙ h.events,
-  refl,
-)
+-- an event leaves the wire
+act_wire : (l new : Links NetParts) (x : Choice) (e : Event) → StepsTo l (Act x) (Some e) new
+    → new.wire ≡ l.wire
+act_wire l new x e (acts y d net out h) = refl
 
 pub made_event : (l new : Links NetParts) (x : Choice) (e : Event) (k : Commit)
     (b after : BookKept) → AreOneOver b l → StepsTo l (Act x) (Some e) new
@@ -141,20 +128,21 @@ made_event l new x e k b after o step leads commits = go k commits
 
     one : AreOneOver longer new
     one =
-        let keeps = act_keeps l new x e step in
+        let code = step_code l new (Act x) (Some e) step in
         let long : length (b.journal ++ e ∷ []) ≡ length b.journal + 1 =
         length-append b.journal (e ∷ []) in
         record {
           is_program = o.is_program;
-          is_code = subst IsCode (sym keeps.0) o.is_code;
-          of_program = subst (IsCodeOf b.program) (sym keeps.0) o.of_program;
+          is_code = subst IsCode (sym code) o.is_code;
+          of_program = subst (IsCodeOf b.program) (sym code) o.of_program;
           last = led.leads.after;
           leads =
               replay_more b.program b.journal e o.last led.leads.after o.leads led.leads.applies;
           stands = led.leads.stands;
-          runs = subst (λ (c : CodeParts). RunsCode b.program c (net_of_links new)) (sym keeps.0)
+          runs = subst (λ (c : CodeParts). RunsCode b.program c (net_of_links new)) (sym code)
               led.runs;
-          counted = keeps.1 ∙ ap (λ (n : ℕ). n + 1) o.counted ∙ sym long;
+          counted =
+              step_events l new (Act x) (Some e) step ∙ ap (λ (n : ℕ). n + 1) o.counted ∙ sym long;
         }
 
     go : (k : Commit) → Commits b e k after → MakesEvent l x b new after
@@ -246,7 +234,7 @@ module _ (budget v : ℕ) (l : Links NetParts) (book : BookKept) (a : LinkCounts
               subst (λ (ds : List Event).
               RunsOver budget v (length book.journal) l ds (both h.total n) end)
               (sym (append_assoc h.made (m.event ∷ []) es)) (h.before (m.event ∷ es) n end run);
-          at = bare_turn new w h.kind ((act_keeps mid new x m.event m.steps).2 ∙ settled.bare);
+          at = bare_turn new w h.kind (act_wire mid new x m.event m.steps ∙ settled.bare);
           kind = h.kind;
           one = m.one;
           apart = m.apart h.apart;

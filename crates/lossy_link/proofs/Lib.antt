@@ -13,3 +13,4 @@ pub mod Endings
 pub mod Settled
 pub mod Coming
 pub mod Ended
+pub mod OneLinks

@@ -25,28 +25,22 @@ use Rattle.lossy_link.specs.Settling.{GoesOnce, left_by}
 use Rattle.lossy_link.specs.Standing.{LinksLead, ReceiptFalls, net_of_links}
 use Rattle.lossy_link.proofs.Apart.{apart_step}
 use Rattle.lossy_link.proofs.Counting.{both_assoc, both_none, counts_on, counted_none}
+use Rattle.lossy_link.proofs.StepsMade.{step_code, step_events}
 use Rattle.lossy_link.proofs.Endings.{at_wire, Lowers, send_lowers, turn_0, turn_1, turn_2, turn_3}
 
 -- ---- what the links stand for
 
--- a step without an event leaves the code and the number of events
-kept_by_step : (l new : Links NetParts) (x : Step) → StepsTo l x None new
-    → (new.net.code ≡ l.net.code) × (new.net.events ≡ l.net.events)
-kept_by_step l new x (sends f t n bytes h) = (refl, refl)
-kept_by_step l new x (loses i y h) = (refl, refl)
-kept_by_step l new x (repeats i y h) = (refl, refl)
-kept_by_step l new x (takes i f t n bytes net out h next r) = (
-  ap (λ (m : NetParts). m.code) r.handed_out.left ∙ r.code,
-  ap (λ (m : NetParts). m.events) r.handed_out.left ∙ r.events,
-)
-kept_by_step l new x (drops i f t n bytes h other) = (refl, refl)
-kept_by_step l new x (learns i f t n h) = (refl, refl)
+plus_none : (m n : ℕ) → m ≡ n + 0 → m ≡ n
+plus_none m n e = omega arith
 
 pub as_before : (l new : Links NetParts) (x : Step) → StepsTo l x None new → LinksLead l None new
     → StandAsBefore l new
-as_before l new x step leads =
-    let kept = kept_by_step l new x step in
-    record { leads = leads; code = kept.0; events = kept.1; apart = apart_step l new x None step }
+as_before l new x step leads = record {
+  leads = leads;
+  code = step_code l new x None step;
+  events = plus_none new.net.events l.net.events (step_events l new x None step);
+  apart = apart_step l new x None step;
+}
 
 pub stand_still : (l : Links NetParts) → StandAsBefore l l
 stand_still l = record {
