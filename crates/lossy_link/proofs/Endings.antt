@@ -1,6 +1,6 @@
 -- Each turn of the wire, and each send, lowers what is left to do.
-use Rattle.std.proofs.Common.{◌≡◌, ℕ, zero, suc, ◌+◌, ◌-◌, ◌<◌, ◌≤◌, List, [], ◌∷◌, ◌++◌, Option}
-use Rattle.std.proofs.Common.{Bool, true, false, cond, length, Some, None, slice_get, refl, sym, ap}
+use Rattle.std.proofs.Common.{◌≡◌, ℕ, zero, suc, ◌+◌, ◌-◌, ◌<◌, ◌≤◌, List, [], ◌∷◌, ◌++◌, Bool}
+use Rattle.std.proofs.Common.{true, false, cond, length, None, refl, sym, ap}
 use Rattle.std.proofs.Common.{subst, ◌∙◌, arith}
 use Rattle.std.proofs.lemmas.List.{length-append}
 use Rattle.std.proofs.lemmas.Option.{same_Some}
@@ -16,10 +16,10 @@ use Rattle.lossy_link.specs.Links.{drops, learns}
 use Rattle.lossy_link.specs.Links.{IsLeastOpen}
 use Rattle.lossy_link.specs.Settling.{left_by}
 use Rattle.lossy_link.specs.Over.{StepsTo}
-use Rattle.lossy_link.specs.Standing.{deliveries_over, weighs, ReceiptFalls}
+use Rattle.lossy_link.specs.Standing.{weighs, ReceiptFalls}
 use Rattle.net_core.specs.Whole.{NetParts}
 use Rattle.lossy_link.specs.Ending.{unacknowledged, turns_left, IsAtTurn, none, one_at_0, one_at_1}
-use Rattle.lossy_link.specs.Ending.{one_at_2, two_at_2, one_at_3, two_at_3, left_to_do}
+use Rattle.lossy_link.specs.Ending.{one_at_2, two_at_2, one_at_3, two_at_3}
 use Rattle.lossy_link.proofs.LineLaws.{pair_of, each_line}
 use Rattle.lossy_link.proofs.Weights.{acked_weight}
 
@@ -179,8 +179,7 @@ arrives_1 net f t n bytes y ls new first sound is (takes i g u m bs mid out h ne
     let more : (line_of g u (all_sent out (with_handed g u bs ls))).acked < m + 1 =
     omega arith in (
       two_packets (all_sent out (with_handed g u bs ls)) f t n g u (m + 1) bytes y is more,
-      omega
-          arith,
+      omega arith,
     )
 arrives_1 net f t n bytes y ls new first sound is (drops i g u m bs h other) falls =
     let same : Data f t n bytes ≡ Data g u m bs =
@@ -195,8 +194,7 @@ arrives_1 net f t n bytes y ls new first sound is (drops i g u m bs h other) fal
     below m (line_of g u ls).acked (length (line_of g u ls).history.handed)
     (sym three ∙ first ∙ at) within other in (
       two_packets ls f t n g u (length (line_of g u ls).history.handed) bytes y is more,
-      omega
-          arith,
+      omega arith,
     )
   where
     below : (m a b : ℕ) → m ≡ a → a ≤ b → (m ≡ b → ⊥) → a < b
@@ -249,8 +247,8 @@ turn_3 net x rest ls new (one_at_3 f t n bytes) sound (drops i g u m bs h other)
 turn_3 net x rest ls new (one_at_3 f t n bytes) sound (learns i g u m h) falls =
     let same : Data f t n bytes ≡ Ack g u m = same_Some (Data f t n bytes) (Ack g u m) h in cc
 turn_3 net x rest ls new (two_at_3 f t n g u m bytes more) sound
-    (takes i v w k bs mid out h next r) falls = let same : Ack g u m ≡ Data v w k bs =
-    same_Some (Ack g u m) (Data v w k bs) h in cc
+    (takes i v w k bs mid out h next r) falls =
+    let same : Ack g u m ≡ Data v w k bs = same_Some (Ack g u m) (Data v w k bs) h in cc
 turn_3 net x rest ls new (two_at_3 f t n g u m bytes more) sound (drops i v w k bs h other) falls =
     let same : Ack g u m ≡ Data v w k bs = same_Some (Ack g u m) (Data v w k bs) h in cc
 turn_3 net x rest ls new (two_at_3 f t n g u m bytes more) sound (learns i v w k h) falls =

@@ -14,3 +14,4 @@ pub mod Settled
 pub mod Coming
 pub mod Ended
 pub mod OneLinks
+pub mod SomeRun

@@ -72,7 +72,7 @@ module _ (p : ProgramTerms) (ok : IsProgram p) where
 
   -- ---- what is made is one thing
 
-  makes_well : (net new : NetParts) (x : Choice) (o : Option Event) → RunsWell net
+  pub makes_well : (net new : NetParts) (x : Choice) (o : Option Event) → RunsWell net
       → Makes net x o new → RunsWell new
   makes_well net new x o well h = record {
     is_code = subst IsCode (sym h.code) well.is_code;

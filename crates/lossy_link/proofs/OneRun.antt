@@ -26,8 +26,10 @@ pub record SameOpen (f t m g u n : ℕ) : Type 0 where
 
 is_open : (ls : List Line) (f t m : ℕ) (bytes : List ℕ) → IsLeastOpen ls f t m bytes
     → (line_of f t ls).acked < length (line_of f t ls).history.sent
-is_open ls f t m bytes h = let below =
-    slice_get_within (line_of f t ls).history.sent m bytes h.is in let at = h.at in omega arith
+is_open ls f t m bytes h =
+    let below = slice_get_within (line_of f t ls).history.sent m bytes h.is in
+    let at = h.at in
+    omega arith
 
 pub least_one : (ls : List Line) (f t m g u n : ℕ) (xs ys : List ℕ) → IsLeastOpen ls f t m xs
     → IsLeastOpen ls g u n ys → SameOpen f t m g u n
@@ -41,15 +43,21 @@ least_one ls f t m g u n xs ys a b = go (pairs_order f t g u)
           number = a.at ∙ ap (λ (i : ℕ). (line_of i t ls).acked) h.0
               ∙ ap (λ (i : ℕ). (line_of g i ls).acked) h.1 ∙ sym b.at;
         }
-    go (inr (inl h)) = let one = b.least f t h in let two =
-        is_open ls f t m xs a in absurd (omega arith)
-    go (inr (inr h)) = let one = a.least g u h in let two =
-        is_open ls g u n ys b in absurd (omega arith)
+    go (inr (inl h)) =
+        let one = b.least f t h in
+        let two = is_open ls f t m xs a in
+        absurd (omega arith)
+    go (inr (inr h)) =
+        let one = a.least g u h in
+        let two = is_open ls g u n ys b in
+        absurd (omega arith)
 
 not_both : (ls : List Line) (f t m : ℕ) (bytes : List ℕ) → IsLeastOpen ls f t m bytes
     → NoneIsOpen ls → ⊥
-not_both ls f t m bytes h none = let one = none f t in let two =
-    is_open ls f t m bytes h in omega arith
+not_both ls f t m bytes h none =
+    let one = none f t in
+    let two = is_open ls f t m bytes h in
+    omega arith
 
 not_bare : (l : List Frame) (x : Frame) (rest : List Frame) → l ≡ x ∷ rest → l ≡ [] → ⊥
 not_bare l x rest e d = let bad : x ∷ rest ≡ [] = sym e ∙ d in cc

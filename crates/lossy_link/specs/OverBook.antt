@@ -100,11 +100,12 @@ LossIsHidden =
     (budget loss k : ℕ) (net : NetParts) (es : List Event) (counts : LinkCounts) (end : NetParts)
     → RunsFrom budget loss k net es counts end → Carries budget k net es end
 
--- a program's code has one run over links for each budget and each loss
-abbrev pub HasOneRunOverLinks : Type 0
-HasOneRunOverLinks =
-    (p : ProgramTerms) (c : CodeParts) → IsProgram p → IsCode c → IsCodeOf p c
-    → (budget loss : ℕ) → loss < 4
-    → (journal : List Event) × (counts : LinkCounts) × LossyOf p c budget loss journal counts
-    × ((other : List Event) (others : LinkCounts) → LossyOf p c budget loss other others
-    → (other ≡ journal) × (others ≡ counts))
+-- a program's code has one run without links for each budget
+abbrev pub HasOneRunWithoutLinks : Type 0
+HasOneRunWithoutLinks =
+    (p : ProgramTerms) (c : CodeParts) → IsProgram p → IsCode c → IsCodeOf p c → (budget : ℕ)
+    → (journal : List Event) × (end : NetParts)
+    × Carries budget 0 (opened_parts p.version c) journal end
+    × ((other : List Event) (last : NetParts) → Carries budget 0 (opened_parts p.version c) other
+    last
+    → (other ≡ journal) × (last ≡ end))

@@ -1,6 +1,6 @@
 // The laws of runs over links.
 ghost use Rattle.lossy_link.specs.OverBook.{JournalsOverLinksAreOne, CountsOverLinksAreOne};
-ghost use Rattle.lossy_link.specs.OverBook.{LossIsHidden};
+ghost use Rattle.lossy_link.specs.OverBook.{HasOneRunWithoutLinks, LossIsHidden};
 
 /// A program's code has at most one run without links for each budget. It does nothing.
 pub fn journals_over_links_are_one()
@@ -16,4 +16,9 @@ pub fn counts_over_links_are_one()
 /// network. It does nothing.
 pub fn loss_is_hidden()
     ensures { LossIsHidden }
+{}
+
+/// A program's code has one run without links for each budget. It does nothing.
+pub fn one_run_without_links()
+    ensures { HasOneRunWithoutLinks }
 {}

@@ -15,7 +15,9 @@ mod steps;
 mod wire;
 
 pub use frame::Frame;
-pub use laws::{counts_over_links_are_one, journals_over_links_are_one, loss_is_hidden};
+pub use laws::{
+    counts_over_links_are_one, journals_over_links_are_one, loss_is_hidden, one_run_without_links,
+};
 pub use line::PairHistory;
 pub use links::LinkNet;
 pub use reading::{frame_bytes, frames_have_one_outcome, frames_have_one_spelling, read_frame};
