@@ -1,10 +1,10 @@
 -- The run over links so far: turns, sends and choices, and what the book and the links stand for.
-use Rattle.std.proofs.Common.{◌≡◌, ℕ, ◌+◌, ◌<◌, ◌≤◌, List, [], ◌∷◌, ◌++◌, Option, Some, None, Bool}
+use Rattle.std.proofs.Common.{◌≡◌, ℕ, ◌+◌, ◌<◌, ◌≤◌, List, [], ◌∷◌, ◌++◌, Option, Some, None}
 use Rattle.std.proofs.Common.{true, false, length, refl, sym, ap, subst, ◌∙◌, arith, ◌⊎◌, inl, inr}
 use Rattle.std.proofs.Common.{append_assoc, append-nil, length-append, is_some}
 use Rattle.chem_model.specs.declared.event.Event.{Event}
 use Rattle.chem_model.specs.declared.numbered.Numbered.{Numbered}
-use Rattle.chem_model.specs.ProgramFacts.{ProgramTerms, IsProgram}
+use Rattle.chem_model.specs.ProgramFacts.{IsProgram}
 use Rattle.chem_model.specs.Apply.{apply_if}
 use Rattle.trace_history.specs.declared.book.Commit.{Commit}
 use Rattle.trace_history.specs.declared.book.Commit.TheVariants.{Place, NotEnabled}
@@ -14,8 +14,7 @@ use Rattle.trace_history.proofs.Replays.{replay_more}
 use Rattle.env_store.specs.CodeParts.{CodeParts}
 use Rattle.env_store.specs.CodeFacts.{IsCode}
 use Rattle.env_store.specs.Reading.{IsCodeOf}
-use Rattle.env_store.specs.Laws.{rules_of_group}
-use Rattle.net_laws.specs.Net.{Addressed, Net, Stands}
+use Rattle.net_laws.specs.Net.{Addressed, Net}
 use Rattle.net_laws.specs.Opened.{RunsCode}
 use Rattle.net_core.specs.declared.choice.Choice.{Choice}
 use Rattle.net_core.specs.Choosing.{IsNext}
@@ -27,12 +26,11 @@ use Rattle.lossy_link.specs.declared.schedule.LinkCounts.{LinkCounts}
 use Rattle.lossy_link.specs.declared.step.Step.TheVariants.{Act}
 use Rattle.lossy_link.specs.Ending.{IsAtTurn, none}
 use Rattle.lossy_link.specs.Links.{Links, acts}
-use Rattle.lossy_link.specs.Lines.{all_sent}
 use Rattle.lossy_link.specs.OverBook.{StandForOne}
 use Rattle.lossy_link.specs.Over.{StepsTo, AllowsOver}
 use Rattle.lossy_link.specs.Schedule as schedule
 use Rattle.lossy_link.specs.Schedule.{counted, nothing_counted, both, RunsOver, RestsOver}
-use Rattle.lossy_link.specs.Settling.{StandAsBefore, Settles, IsSettled, AreOne, AreOneOver}
+use Rattle.lossy_link.specs.Settling.{Settles, IsSettled, AreOne, AreOneOver}
 use Rattle.lossy_link.specs.Settling.{MakesEvent, HasCome, HasRun, AreApart}
 use Rattle.lossy_link.specs.Standing.{LinksLead, net_of_links, flights}
 use Rattle.lossy_link.specs.Whole.{IsWhole, HasStarted}

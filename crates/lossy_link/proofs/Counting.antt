@@ -1,5 +1,5 @@
 -- Counts that stay at their largest value.
-use Rattle.std.proofs.Common.{◌≡◌, ℕ, ◌+◌, ◌<◌, ◌^◌, refl, sym, ◌∙◌, arith}
+use Rattle.std.proofs.Common.{◌≡◌, ℕ, ◌+◌, ◌<◌, ◌^◌, ◌∙◌, arith}
 use Rattle.lossy_link.specs.declared.schedule.LinkCounts.{LinkCounts}
 use Rattle.lossy_link.specs.Schedule.{most, capped, counted, nothing_counted, both}
 use Rattle.lossy_link.specs.Settling.{AreCounted}

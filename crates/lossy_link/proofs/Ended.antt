@@ -1,5 +1,5 @@
 -- The whole run over links, and what it does to the book.
-use Rattle.std.proofs.Common.{◌≡◌, ℕ, ◌+◌, ◌≤◌, List, [], ◌∷◌, ◌++◌, Option, Some, None, length}
+use Rattle.std.proofs.Common.{◌≡◌, ℕ, ◌+◌, List, [], ◌++◌, Option, length}
 use Rattle.std.proofs.Common.{refl, sym}
 use Rattle.std.proofs.Common.{ap, subst, ◌∙◌, ◌⊎◌, inl, inr, is_some}
 use Rattle.chem_model.specs.declared.event.Event.{Event}
@@ -10,13 +10,12 @@ use Rattle.trace_history.specs.Kept.{BookKept}
 use Rattle.trace_history.specs.Book.{IsStuck}
 use Rattle.trace_history.proofs.Replays.{same_some}
 use Rattle.env_store.specs.Laws.{rules_of_group}
-use Rattle.net_laws.specs.Net.{Net, Stands}
+use Rattle.net_laws.specs.Net.{Stands}
 use Rattle.net_core.specs.Whole.{NetParts}
 use Rattle.net_core.proofs.Enabling.{none_enabled_is_quiet}
 use Rattle.net_core.proofs.Ending.{not_enabled}
 use Rattle.lossy_link.specs.declared.schedule.LinkCounts.{LinkCounts}
 use Rattle.lossy_link.specs.Lines.{line_of}
-use Rattle.lossy_link.specs.Links.{Links}
 use Rattle.lossy_link.specs.Over.{ActsOver, ReceivesOver}
 use Rattle.lossy_link.specs.OverBook.{RunsFrom, RunsOverLinks, LossyOf, LossIsHidden, opened_parts}
 use Rattle.lossy_link.specs.Schedule.{Carries, NextOver, RestsOver}

@@ -1,6 +1,6 @@
 -- What is delivered of a list of packets beside a network is delivered of the network with these
 -- packets under way.
-use Rattle.std.proofs.Common.{◌≡◌, ℕ, zero, suc, ◌+◌, ◌-◌, ◌<◌, List, [], ◌∷◌, ◌++◌, Option, Some}
+use Rattle.std.proofs.Common.{◌≡◌, ℕ, zero, suc, ◌+◌, ◌-◌, List, [], ◌∷◌, ◌++◌, Some}
 use Rattle.std.proofs.Common.{None}
 use Rattle.std.proofs.Common.{Bool, true, false, cond, length, replicate, slice_get, refl, sym, ap}
 use Rattle.std.proofs.Common.{subst, ◌∙◌, arith, length-append, map}
@@ -10,7 +10,6 @@ use Rattle.std.proofs.lemmas.Option.{same_Some}
 use Rattle.chem_model.specs.declared.event.Event.{Event}
 use Rattle.chem_model.specs.declared.name.Loc.{Loc}
 use Rattle.chem_model.specs.Opening.{root_of}
-use Rattle.env_store.specs.CodeParts.{CodeParts}
 use Rattle.net_laws.specs.Site.{Site}
 use Rattle.net_laws.specs.Net.{Addressed, Net, among, home_or, address, without_packet}
 use Rattle.net_laws.specs.Holding.{put}
@@ -22,7 +21,7 @@ use Rattle.net_core.specs.Acts as acts
 use Rattle.net_core.specs.Acts.{Acts}
 use Rattle.net_core.specs.Drained.{AreHandedOut}
 use Rattle.net_core.specs.Parts.{carried, without}
-use Rattle.net_core.specs.Senders.{IsSentBy, kept}
+use Rattle.net_core.specs.Senders.{kept}
 use Rattle.net_core.specs.Senders as senders
 use Rattle.net_core.specs.UnderWay.{with_packets}
 use Rattle.net_core.specs.Whole.{NetParts}

@@ -1,5 +1,5 @@
 -- What a step does to links over a network of sites is one thing.
-use Rattle.std.proofs.Common.{◌≡◌, ℕ, ◌+◌, ◌-◌, List, [], ◌∷◌, ◌++◌, map, Option, Some, None}
+use Rattle.std.proofs.Common.{◌≡◌, ℕ, ◌+◌, ◌-◌, List, [], ◌∷◌, ◌++◌, map, Option, Some}
 use Rattle.std.proofs.Common.{length}
 use Rattle.std.proofs.Common.{replicate, slice_get, refl, sym, ap, subst, ◌∙◌, append-nil}
 use Rattle.std.proofs.lemmas.Option.{same_Some}
@@ -33,7 +33,7 @@ use Rattle.lossy_link.specs.Over.{ActsOver, ReceivesOver, StepsTo}
 use Rattle.lossy_link.specs.Pending.{pending}
 use Rattle.lossy_link.specs.OverBook.{opened_parts, CountsOverLinksAreOne}
 use Rattle.lossy_link.specs.Schedule.{NextOver, RestsOver, RunsOver, capped}
-use Rattle.lossy_link.specs.Standing.{flights, net_of_links}
+use Rattle.lossy_link.specs.Standing.{flights}
 use Rattle.lossy_link.specs.Whole.{IsWhole, HasStarted}
 use Rattle.lossy_link.proofs.Keeping.{whole_after}
 use Rattle.lossy_link.proofs.OneRun.{runs_one}

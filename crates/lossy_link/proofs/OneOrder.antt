@@ -1,7 +1,7 @@
 -- There is one run without links: one journal, and one network in the end.
 use Rattle.std.proofs.Common.{◌≡◌, ℕ, ◌+◌, ◌<◌, List, [], ◌∷◌, Option, Some, None, slice_get, refl}
 use Rattle.std.proofs.Common.{sym}
-use Rattle.std.proofs.Common.{ap, subst, ◌∙◌, arith, ◌⊎◌, inl, inr}
+use Rattle.std.proofs.Common.{length, replicate, ◌++◌, ◌-◌, ap, subst, ◌∙◌, arith, ◌⊎◌, inl, inr}
 use Rattle.std.proofs.lemmas.Bool.{cases_order}
 use Rattle.std.proofs.lemmas.Option.{same_Some}
 use Rattle.chem_model.specs.declared.event.Event.{Event}
@@ -14,7 +14,6 @@ use Rattle.net_laws.specs.Net.{Addressed, Net}
 use Rattle.net_laws.proofs.Opened.{opened_stands}
 use Rattle.net_core.specs.declared.choice.Choice.{Choice}
 use Rattle.net_core.specs.declared.choice.Choice.TheVariants as choice
-use Rattle.net_core.specs.Acts.{Acts}
 use Rattle.net_core.specs.Making as making
 use Rattle.net_core.specs.Senders.{kept}
 use Rattle.net_core.specs.Whole.{NetParts}

@@ -1,9 +1,8 @@
 -- Turns and sends of the schedule: what they leave to do, what the links then stand for, and that
 -- they come before the rest of a run.
-use Rattle.std.proofs.Common.{◌≡◌, ℕ, zero, suc, ◌+◌, ◌<◌, List, [], ◌∷◌, ◌++◌, Option, Some, None}
-use Rattle.std.proofs.Common.{length, refl, sym, ap, subst, ◌∙◌, arith}
+use Rattle.std.proofs.Common.{◌≡◌, ℕ, zero, suc, ◌+◌, ◌<◌, List, [], ◌∷◌, ◌++◌, Some, None}
+use Rattle.std.proofs.Common.{length, refl, sym, subst, ◌∙◌, arith}
 use Rattle.std.proofs.lemmas.List.{length-append}
-use Rattle.chem_model.specs.declared.event.Event.{Event}
 use Rattle.env_store.specs.CodeParts.{CodeParts}
 use Rattle.env_store.specs.Reading.{IsCodeOf}
 use Rattle.net_laws.specs.Opened.{RunsCode}
@@ -14,14 +13,12 @@ use Rattle.lossy_link.specs.declared.schedule.LinkCounts.{LinkCounts}
 use Rattle.lossy_link.specs.declared.step.Step.{Step}
 use Rattle.lossy_link.specs.declared.step.Step.TheVariants.{Send, Lose, Repeat, Arrive}
 use Rattle.lossy_link.specs.Ending.{IsAtTurn}
-use Rattle.lossy_link.specs.Links.{Links, AreSound, IsLeastOpen, sends, loses, repeats, takes}
-use Rattle.lossy_link.specs.Links.{drops}
-use Rattle.lossy_link.specs.Links.{learns}
+use Rattle.lossy_link.specs.Links.{Links, AreSound, IsLeastOpen, sends, loses, repeats}
 use Rattle.lossy_link.specs.Over.{StepsTo}
 use Rattle.lossy_link.specs.Schedule as schedule
 use Rattle.lossy_link.specs.Schedule.{counted, nothing_counted, both, next_turn, RunsOver}
 use Rattle.lossy_link.specs.Settling.{AreCounted, StandAsBefore, ComesBefore, IsTurned, Settles}
-use Rattle.lossy_link.specs.Settling.{GoesOnce, left_by}
+use Rattle.lossy_link.specs.Settling.{GoesOnce}
 use Rattle.lossy_link.specs.Standing.{LinksLead, ReceiptFalls, net_of_links}
 use Rattle.lossy_link.proofs.Apart.{apart_step}
 use Rattle.lossy_link.proofs.Counting.{both_assoc, both_none, counts_on, counted_none}

@@ -1,5 +1,5 @@
 -- From each network that runs a program's code there is a run without links.
-use Rattle.std.proofs.Common.{◌≡◌, ℕ, zero, suc, ◌+◌, ◌-◌, ◌<◌, ◌≤◌, List, [], ◌∷◌, ◌++◌, Option}
+use Rattle.std.proofs.Common.{◌≡◌, ℕ, zero, suc, ◌+◌, ◌-◌, ◌<◌, List, [], ◌∷◌, ◌++◌, Option}
 use Rattle.std.proofs.Common.{Some}
 use Rattle.std.proofs.Common.{None, length, replicate, slice_get, refl, sym, ap, subst, ◌∙◌, arith}
 use Rattle.std.proofs.Common.{◌⊎◌, inl, inr, length-append}
@@ -29,7 +29,7 @@ use Rattle.net_core.proofs.Spreads.{kept_alike}
 use Rattle.lossy_link.specs.Links.{Precedes}
 use Rattle.lossy_link.specs.OverBook.{opened_parts, HasOneRunWithoutLinks}
 use Rattle.lossy_link.specs.Schedule as schedule
-use Rattle.lossy_link.specs.Schedule.{Carries, Makes, IsBetween, IsFirstOfLeast}
+use Rattle.lossy_link.specs.Schedule.{Carries, Makes, IsFirstOfLeast}
 use Rattle.lossy_link.proofs.OneOrder.{pairs_order, RunsWell, makes_well, opened_well, carries_one}
 
 -- ---- the first of the least pair

@@ -1,5 +1,5 @@
 -- What a run over links does to a book, and the laws of such runs.
-use Rattle.std.specs.Prelude.{◌≡◌, ℕ, ◌<◌, ◌≤◌, ◌++◌, ◌⊎◌, List, [], length}
+use Rattle.std.specs.Prelude.{◌≡◌, ℕ, ◌≤◌, ◌++◌, ◌⊎◌, List, length}
 use Rattle.chem_model.specs.declared.event.Event.{Event}
 use Rattle.chem_model.specs.ProgramFacts.{ProgramTerms, IsProgram}
 use Rattle.trace_history.specs.Kept.{BookKept}
