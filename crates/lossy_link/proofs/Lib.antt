@@ -1,3 +1,15 @@
 pub mod FrameLaws
 pub mod Heads
 pub mod Exact
+pub mod LineLaws
+pub mod Stepping
+pub mod Weights
+pub mod Waiting
+pub mod Standing
+pub mod Keeping
+pub mod Making
+pub mod Filing
+pub mod Texts
+pub mod SoFar
+pub mod Starting
+pub mod StepsMade
