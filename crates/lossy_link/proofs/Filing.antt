@@ -1,7 +1,7 @@
 -- Lines that are filed under their pairs: what a look-up finds, and what a change leaves.
 use Rattle.std.proofs.Common.{◌≡◌, ℕ, ◌+◌, ◌<◌, ◌≤◌, List, [], ◌∷◌, Bool, true, false, cond, Option, Some}
 use Rattle.std.proofs.Common.{None, length, slice_get, get_or, refl, sym, ap, subst, ◌∙◌, arith, inl}
-use Rattle.std.proofs.Common.{inr}
+use Rattle.std.proofs.Common.{inr, ◌++◌, length-append}
 use Rattle.std.proofs.lemmas.Bool.Decides.{nat_tests}
 use Rattle.std.proofs.lemmas.Bool.{and_parts, eqb-true}
 use Rattle.std.proofs.lemmas.Option.{same_Some, slice_get-get_or}
@@ -143,18 +143,6 @@ set_same f t l (e ∷ es) at = go (same_pair (f, t) e.0) at (set_same f t l es)
         let is : l ≡ e.1 = sym (same_Some e.1 l at) in
         ap (λ (k : Line). (e.0, k) ∷ es) is
     go false at rest = ap (λ (fs : Entries). e ∷ fs) (rest at)
-
--- ---- the line of the pair that is changed
-
-module _ (f t : ℕ) (es : Entries) where
-  abbrev now : Line
-  now = line_in f t es
-
-  pair_now : (now.from ≡ f) × (now.into ≡ t)
-  pair_now = pair_of f t (values_of es)
-
-  acked_now : Each IsAcked (values_of es) → IsAcked now
-  acked_now all = line_has IsAcked f t (values_of es) (omega arith) all
 
 -- ---- the set of open pairs
 
@@ -304,3 +292,118 @@ found_each P test (e ∷ es) l all at = go (test e.0) at (found_each P test es l
         → (lookup test es ≡ Some l → P l) → P l
     go true at rest = subst P (same_Some e.1 l at) all.0
     go false at rest = rest at
+
+-- ---- what the code changes
+
+grown_open : (a : ℕ) (xs : List (List ℕ)) (x : List ℕ) → a ≤ length xs
+    → nat_lt a (length (xs ++ x ∷ [])) ≡ true
+grown_open a xs x within =
+    let more = length-append xs (x ∷ []) in
+    let below : a < length (xs ++ x ∷ []) = omega arith in
+    grind (arith, nat_tests)
+
+module _ (f t : ℕ) (es : Entries) (pairs : BTreeSet Pair) (are : AreFiled es pairs) where
+  abbrev line : Line
+  line = line_in f t es
+
+  line_from : line.from ≡ f
+  line_from = (pair_of f t (values_of es)).0
+
+  line_into : line.into ≡ t
+  line_into = (pair_of f t (values_of es)).1
+
+  line_acked : IsAcked line
+  line_acked = line_has IsAcked f t (values_of es) (let e : 0 ≤ 0 = omega arith in e) are.acked
+
+  -- a packet that leaves
+  module _ (x : List ℕ) (new : Entries) (is : new ≡ with_entry f t (sent_more line x) es) where
+    abbrev sent_line : Line
+    sent_line = sent_more line x
+
+    sent_acked : IsAcked sent_line
+    sent_acked =
+        let more = length-append line.history.sent (x ∷ []) in
+        let a = line_acked in
+        omega arith
+
+    pub left_values : values_of new ≡ with_sent (flight_from f t x) (values_of es)
+    left_values = ap values_of is ∙ values_put f t sent_line line_from line_into es are.filed
+
+    pub left_filed : (now : BTreeSet Pair)
+        → ((q : Pair) → contains pair_cmp now q
+        ≡ cond (is_eq (pair_cmp (f, t) q)) true (contains pair_cmp pairs q))
+        → AreFiled new now
+    left_filed now added = subst (λ (fs : Entries). AreFiled fs now) (sym is) (record {
+      filed = filed_put f t sent_line line_from line_into es are.filed;
+      acked = acked_put f t sent_line line_from line_into es are.filed sent_acked are.acked;
+      open_ones = open_put f t sent_line es pairs now true line_from line_into are.filed
+          (sym (grown_open line.acked line.history.sent x line_acked)) are.open_ones added;
+    })
+
+  -- a packet that is handed out
+  module _ (x : List ℕ) (new : Entries) (is : new ≡ with_entry f t (handed_more line x) es) where
+    pub handed_values : values_of new ≡ with_handed f t x (values_of es)
+    handed_values =
+        ap values_of is ∙ values_put f t (handed_more line x) line_from line_into es are.filed
+
+    pub handed_filed : AreFiled new pairs
+    handed_filed = subst (λ (fs : Entries). AreFiled fs pairs) (sym is) (record {
+      filed = filed_put f t (handed_more line x) line_from line_into es are.filed;
+      acked = acked_put f t (handed_more line x) line_from line_into es are.filed line_acked
+          are.acked;
+      open_ones = open_stays f t (handed_more line x) es pairs line_from line_into are.filed refl
+          are.open_ones;
+    })
+
+  -- an acknowledgement
+  module _ (n : ℕ) (new : Entries) (is : new ≡ with_entry f t (acked_more line n) es)
+      (within : n ≤ length line.history.sent) where
+    abbrev acked_line : Line
+    acked_line = acked_more line n
+
+    acked_acked : IsAcked acked_line
+    acked_acked = let a = line_acked in omega arith
+
+    pub acked_values : values_of new ≡ with_acked f t n (values_of es)
+    acked_values = ap values_of is ∙ values_put f t acked_line line_from line_into es are.filed
+
+    -- it leaves the pair open
+    pub open_filed : has_open acked_line ≡ true → AreFiled new pairs
+    open_filed more = subst (λ (fs : Entries). AreFiled fs pairs) (sym is) (record {
+      filed = filed_put f t acked_line line_from line_into es are.filed;
+      acked = acked_put f t acked_line line_from line_into es are.filed acked_acked are.acked;
+      open_ones = open_stays f t acked_line es pairs line_from line_into are.filed
+          (more ∙ sym (still_open line n more)) are.open_ones;
+    })
+
+    -- or closes it
+    pub closed_filed : has_open acked_line ≡ false → (now : BTreeSet Pair)
+        → ((q : Pair) → contains pair_cmp now q
+        ≡ cond (is_eq (pair_cmp (f, t) q)) false (contains pair_cmp pairs q))
+        → AreFiled new now
+    closed_filed closed now removed = subst (λ (fs : Entries). AreFiled fs now) (sym is) (record {
+      filed = filed_put f t acked_line line_from line_into es are.filed;
+      acked = acked_put f t acked_line line_from line_into es are.filed acked_acked are.acked;
+      open_ones = open_put f t acked_line es pairs now false line_from line_into are.filed
+          (sym closed) are.open_ones removed;
+    })
+
+-- nothing is filed
+pub none_filed : (pairs : BTreeSet Pair) → pairs.keys ≡ [] → AreFiled [] pairs
+none_filed pairs none = record {
+  filed = tt;
+  acked = tt;
+  open_ones = λ f t.
+      ap (λ (ks : List Pair). contains pair_cmp (record { keys = ks }) (f, t)) none;
+}
+
+-- the same pairs and the same entries
+pub same_filed : (es now : Entries) (pairs others : BTreeSet Pair) → AreFiled es pairs → now ≡ es
+    → ((g u : ℕ) → contains pair_cmp others (g, u) ≡ contains pair_cmp pairs (g, u))
+    → AreFiled now others
+same_filed es now pairs others are is same =
+    subst (λ (fs : Entries). AreFiled fs others) (sym is) (record {
+      filed = are.filed;
+      acked = are.acked;
+      open_ones = λ g u. same g u ∙ are.open_ones g u;
+    })

@@ -1,17 +1,19 @@
 -- The steps that the code makes.
 use Rattle.std.proofs.Common.{◌≡◌, ℕ, ◌+◌, ◌-◌, ◌<◌, List, [], ◌∷◌, ◌++◌, Option, Some, None, slice_get}
-use Rattle.std.proofs.Common.{length, replicate, refl, sym, ap, subst, ◌∙◌, arith}
-use Rattle.std.proofs.lemmas.Option.{slice_get_within}
+use Rattle.std.proofs.Common.{length, get_or, replicate, refl, sym, ap, subst, ◌∙◌, arith}
+use Rattle.std.proofs.lemmas.Option.{slice_get_within, slice_get-get_or}
 use Rattle.chem_model.specs.declared.event.Event.{Event}
 use Rattle.env_store.specs.CodeParts.{CodeParts}
 use Rattle.net_core.specs.Acts as acting
 use Rattle.net_core.specs.Choosing.{Allows}
 use Rattle.net_core.specs.Drained.{AreHandedOut}
 use Rattle.net_core.specs.Making.{HasActed, counted}
-use Rattle.net_core.specs.Parts.{without}
-use Rattle.net_core.specs.Received.{HasReceived}
+use Rattle.net_core.specs.Parts.{without, carried, message_in, IsMessageText}
+use Rattle.net_core.specs.Received.{HasReceived, flight_to, with_last}
 use Rattle.net_core.specs.Senders.{kept}
-use Rattle.net_core.specs.Whole.{NetParts}
+use Rattle.net_core.specs.UnderWay.{with_packets}
+use Rattle.net_core.specs.Whole.{NetParts, RunsSome}
+use Rattle.net_laws.specs.Net.{Addressed}
 use Rattle.net_core.specs.declared.choice.Choice.{Choice}
 use Rattle.net_core.specs.declared.choice.Choice.TheVariants as choice
 use Rattle.net_core.specs.declared.drained.FlightFrom.{FlightFrom}
@@ -20,25 +22,32 @@ use Rattle.lossy_link.specs.declared.frame.Frame.TheVariants.{Data, Ack}
 use Rattle.lossy_link.specs.declared.line.Line.{Line}
 use Rattle.lossy_link.specs.declared.step.Step.TheVariants.{Act, Send, Lose, Repeat, Arrive}
 use Rattle.lossy_link.specs.Lines.{line_of, all_sent, with_handed, with_acked}
-use Rattle.lossy_link.specs.Links.{Links, IsOpen, acts, sends, loses, repeats, takes, drops, learns}
+use Rattle.lossy_link.specs.Links.{Links, IsOpen, IsTrueOf, acts, sends, loses, repeats, takes, drops, learns}
+use Rattle.lossy_link.specs.FrameFormat.{CarriesMessage}
 use Rattle.lossy_link.specs.Over.{AllowsOver, ActsOver, ReceivesOver, StepsTo}
+use Rattle.lossy_link.specs.Whole.{AreSpelled, IsWhole}
+use Rattle.lossy_link.proofs.Keeping.{spelled_at}
+use Rattle.lossy_link.proofs.LineLaws.{each_at}
+use Rattle.lossy_link.proofs.Standing.{has_site, may_receive}
 use Rattle.lossy_link.specs.inside.Parted.{Comes, ComesIn, IsLearned, IsReceived}
 use Rattle.lossy_link.specs.inside.Parted as parted
+use Rattle.lossy_link.specs.inside.Queue.{IsRepeated}
 
 abbrev LinksOver : Type 0
 LinksOver = Links NetParts
 
-pub lost : (l : LinksOver) (ws : List Frame) (i : ℕ) (x : Frame) → slice_get l.wire i ≡ Some x
-    → ws ≡ without i l.wire → StepsTo l (Lose i) None (record l { wire = ws })
-lost l ws i x at is =
+pub lost : (l : LinksOver) (ws : List Frame) (i : ℕ) → i < length l.wire → ws ≡ without i l.wire
+    → StepsTo l (Lose i) None (record l { wire = ws })
+lost l ws i below is =
+    let x = get_or l.wire i (Ack 0 0 0) in
     subst (λ (us : List Frame). StepsTo l (Lose i) None (record l { wire = us })) (sym is)
-    (loses i x at)
+    (loses i x (slice_get-get_or l.wire i (Ack 0 0 0) below))
 
-pub repeated : (l : LinksOver) (ws : List Frame) (i : ℕ) (x : Frame) → slice_get l.wire i ≡ Some x
-    → ws ≡ l.wire ++ x ∷ [] → StepsTo l (Repeat i) None (record l { wire = ws })
-repeated l ws i x at is =
-    subst (λ (us : List Frame). StepsTo l (Repeat i) None (record l { wire = us })) (sym is)
-    (repeats i x at)
+pub repeated : (l : LinksOver) (ws : List Frame) (i : ℕ) → IsRepeated l.wire i ws
+    → StepsTo l (Repeat i) None (record l { wire = ws })
+repeated l ws i h =
+    subst (λ (us : List Frame). StepsTo l (Repeat i) None (record l { wire = us })) (sym h.last)
+    (repeats i h.frame h.is)
 
 pub sent : (l : LinksOver) (ws : List Frame) (f t n : ℕ) (bytes : List ℕ)
     → IsOpen l.lines f t n bytes → ws ≡ l.wire ++ Data f t n bytes ∷ []
@@ -183,3 +192,57 @@ pub sent_some : (ls : List Line) (f t n : ℕ) (bytes : List ℕ)
     → 0 < length (line_of f t ls).history.sent
 sent_some ls f t n bytes at =
     let below = slice_get_within (line_of f t ls).history.sent n bytes at in omega arith
+
+-- a packet that a pair sent is the spelling of a message
+pub carries_text : (f t n : ℕ) (bytes : List ℕ) → IsMessageText bytes
+    → CarriesMessage (Data f t n bytes)
+carries_text f t n bytes h = (message_in bytes, h)
+
+pub carries_sent : (ls : List Line) (f t n : ℕ) (found bytes : List ℕ) → AreSpelled ls
+    → IsOpen ls f t n found → bytes ≡ found → CarriesMessage (Data f t n bytes)
+carries_sent ls f t n found bytes all open_one same =
+    carries_text f t n bytes
+    (subst IsMessageText (sym same) (spelled_at f t n found ls all open_one.is))
+
+-- ---- a receipt
+
+-- what a frame on the wire says is so
+pub frame_true : (l : LinksOver) (i : ℕ) (x : Frame) → IsWhole l → slice_get l.wire i ≡ Some x
+    → IsTrueOf l.lines x
+frame_true l i x whole at = each_at (IsTrueOf l.lines) l.wire i x whole.sound.wire at
+
+module _ (l : LinksOver) (f t : ℕ) (bytes : List ℕ) where
+  abbrev IsNextPacket : Type 0
+  IsNextPacket =
+      slice_get (line_of f t l.lines).history.sent (length (line_of f t l.lines).history.handed)
+      ≡ Some bytes
+
+  pub receive_site : IsWhole l → IsNextPacket → t < length l.net.net.sites
+  receive_site whole next = has_site l.net.net f t bytes l.lines next l.net.code whole.stands
+
+  pub receive_spelled : (text : List ℕ) → IsWhole l → IsNextPacket → text ≡ bytes
+      → IsMessageText text
+  receive_spelled text whole next same = subst IsMessageText (sym same)
+      (spelled_at f t (length (line_of f t l.lines).history.handed) bytes l.lines whole.spelled next)
+
+  pub receive_stands : (text : List ℕ) → IsWhole l → IsNextPacket → text ≡ bytes
+      → RunsSome l.net.code (with_last l.net.net t text)
+  receive_stands text whole next same =
+      let one : RunsSome l.net.code (with_packets (carried (flight_to t bytes) ∷ []) l.net.net) =
+      may_receive l.net.net f t bytes l.lines next l.net.code whole.stands in
+      subst (λ (bs : List ℕ). RunsSome l.net.code (with_last l.net.net t bs)) (sym same)
+      (subst (λ (qs : List Addressed). RunsSome l.net.code
+      (with_packets (qs ++ carried (flight_to t bytes) ∷ []) l.net.net)) (sym whole.drained) one)
+
+  pub received : (mid new : NetParts) (text : List ℕ) (out : List FlightFrom)
+      (given lines : List Line) → text ≡ bytes → HasReceived l.net t text mid
+      → AreHandedOut mid out new → given ≡ with_handed f t bytes l.lines
+      → lines ≡ all_sent out given
+      → IsReceived f t bytes l (record { net = new; wire = l.wire; lines = lines })
+  received mid new text out given lines same h handed_out one two = record {
+    out = out;
+    receives = receives_over l.net mid new t bytes out
+        (subst (λ (bs : List ℕ). HasReceived l.net t bs mid) same h) handed_out;
+    wire = refl;
+    lines = two ∙ ap (all_sent out) one;
+  }
