@@ -15,3 +15,15 @@ pub mod Coming
 pub mod Ended
 pub mod OneLinks
 pub mod SomeRun
+pub mod LineLaws
+pub mod Stepping
+pub mod Weights
+pub mod Waiting
+pub mod Standing
+pub mod Keeping
+pub mod Making
+pub mod Filing
+pub mod Texts
+pub mod SoFar
+pub mod Starting
+pub mod StepsMade

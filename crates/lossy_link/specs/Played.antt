@@ -1,6 +1,5 @@
 -- How a list of steps is made.
-use Rattle.std.specs.Prelude.{◌≡◌, ◌≤◌, List, [], ◌∷◌, ◌++◌, Option, Some, None, length, take, drop}
-use Rattle.chem_model.specs.declared.event.Event.{Event}
+use Rattle.std.specs.Prelude.{◌≡◌, ◌+◌, ◌≤◌, List, [], ◌∷◌, length, take, drop}
 use Rattle.net_core.specs.Played.{Replays}
 use Rattle.net_core.specs.Whole.{NetParts}
 use Rattle.net_core.specs.declared.plays.Played.{Played}
@@ -33,5 +32,7 @@ pub record HasPlayed (old : Links NetParts) (xs : List Step) (p : Played) (new :
   pub made : AllStepTo old (take p.done xs) p.events new
   pub within : p.done ≤ length xs
   pub stops : Stops p.stop new (drop p.done xs)
+  pub code : new.net.code ≡ old.net.code
+  pub events : new.net.events ≡ old.net.events + length p.events
   pub replays : Replays old.net.code (net_of_links old) p.events (net_of_links new)
   pub order : AreInOrder new.lines

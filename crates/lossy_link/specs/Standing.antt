@@ -1,6 +1,7 @@
 -- A network over links, and the numbered solution for which it stands: that of the network with the
 -- packets under way that aren't delivered yet.
-use Rattle.std.specs.Prelude.{◌≡◌, ℕ, ◌+◌, cond, List, [], ◌∷◌, Option, Some, slice_get, length}
+use Rattle.std.specs.Prelude.{◌≡◌, ℕ, ◌+◌, cond, List, Option, Some, slice_get, length}
+use Rattle.std.specs.Prelude.{map}
 use Rattle.chem_model.specs.declared.event.Event.{Event}
 use Rattle.chem_model.specs.declared.numbered.NumberedRule.{NumberedRule}
 use Rattle.chem_model.specs.declared.numbered.Numbered.{Numbered}
@@ -21,8 +22,7 @@ use Rattle.lossy_link.specs.Pending.{pending, weight}
 
 -- packets as messages under way
 abbrev pub flights : List FlightFrom → List Addressed
-flights [] = []
-flights (p ∷ ps) = carried p.flight ∷ flights ps
+flights ps = map (λ (p : FlightFrom). carried p.flight) ps
 
 -- the network with what the lines still have to deliver under way
 abbrev pub whole_net : Net → List Line → Net

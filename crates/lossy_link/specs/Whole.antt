@@ -1,6 +1,7 @@
 -- What contracts see of a network over links, and what its type keeps.
 use Rattle.std.specs.Prelude.{◌≡◌, List, []}
 use Rattle.chem_model.specs.Each.{Each}
+use Rattle.env_store.specs.CodeFacts.{IsCode}
 use Rattle.net_core.specs.Drained.{AreHandedOut}
 use Rattle.net_core.specs.Parts.{IsMessageText}
 use Rattle.net_core.specs.Whole.{NetParts, RunsSome}
@@ -26,6 +27,7 @@ pub record IsWhole (l : Links NetParts) : Type 0 where
   pub sound : AreSound l.wire l.lines
   pub used : AreUsed l.lines
   pub spelled : AreSpelled l.lines
+  pub code : IsCode l.net.code
   pub drained : l.net.net.packets ≡ []
   pub no_froms : l.net.froms ≡ []
   pub stands : RunsSome l.net.code (net_of_links l)

@@ -1,13 +1,13 @@
 -- The wire as the spellings of its frames.
-use Rattle.std.specs.Prelude.{◌≡◌, ℕ, ◌<◌, ◌^◌, List, [], ◌∷◌, ◌++◌, Some, length, slice_get, Result, Ok, Err}
+use Rattle.std.specs.Prelude.{◌≡◌, ℕ, ◌<◌, ◌^◌, List, [], ◌∷◌, ◌++◌, Some, length, slice_get}
+use Rattle.std.specs.Prelude.{Result, Ok, Err}
 use Rattle.chem_model.specs.Each.{Each}
-use Rattle.wire_packet.specs.Format.{Spells}
 use Rattle.wire_packet.specs.Reading.{read}
 use Rattle.lossy_link.specs.declared.frame.Frame.{Frame}
 use Rattle.lossy_link.specs.declared.frame.Frame.TheVariants.{Ack}
 use Rattle.lossy_link.specs.FrameFormat.{frames, IsSpelledFrame}
 
--- no frame: what bytes stand for that spell none
+-- what bytes stand for that spell no frame
 abbrev pub frame_read : Result Frame ℕ → Frame
 frame_read (Ok x) = x
 frame_read (Err e) = Ack 0 0 0
@@ -15,10 +15,6 @@ frame_read (Err e) = Ack 0 0 0
 -- the frame that bytes spell
 unfoldable pub frame_in : List ℕ → Frame
 frame_in bytes = frame_read (read frames bytes)
-
-abbrev pub all_read : List (List ℕ) → List Frame
-all_read [] = []
-all_read (text ∷ texts) = frame_in text ∷ all_read texts
 
 -- each text is a frame's spelling, and there are fewer than 2^32
 pub record AreFrames (texts : List (List ℕ)) : Type 0 where

@@ -1,0 +1,20 @@
+use Rattle.std.proofs.Common.{ap, ◌∙◌}
+use Rattle.lossy_link.specs.Lines.{all_sent}
+use Rattle.lossy_link.specs.Whole.{links_of, HasStarted}
+use Rattle.lossy_link.proofs.Starting.{started_leads, started_whole}
+use Rattle.lossy_link.proofs.steps.start.Goals as goal
+
+pub returns-clause-started : goal.returns-clause-started
+returns-clause-started c = record {
+  packets = c.drain-packets.result;
+  handed_out = c.drain-packets.ensures;
+  wire = c.new-wire.ensures;
+  lines = c.in_ok-leave_all.ensures ∙ ap (all_sent c.drain-packets.result) c.new-lines.ensures;
+}
+
+pub returns-clause-whole : goal.returns-clause-whole
+returns-clause-whole c = started_whole c.args.net _ (returns-clause-started c)
+    c.code_is_kept.ensures c.stands_for_some.ensures.runs
+
+pub returns-clause-leads : goal.returns-clause-leads
+returns-clause-leads c = started_leads c.args.net _ (returns-clause-started c)
