@@ -25,7 +25,6 @@ use Rattle.net_core.specs.Senders.{kept}
 use Rattle.net_core.specs.Senders as senders
 use Rattle.net_core.specs.UnderWay.{with_packets}
 use Rattle.net_core.specs.Whole.{NetParts}
-use Rattle.net_core.proofs.Noted.{without_same}
 use Rattle.lossy_link.specs.Links.{Precedes}
 use Rattle.lossy_link.specs.Over.{ActsOver, ReceivesOver}
 use Rattle.lossy_link.specs.Schedule as schedule
@@ -62,6 +61,11 @@ map_without f zero [] = refl
 map_without f (suc i) [] = refl
 map_without f zero (x ∷ xs) = refl
 map_without f (suc i) (x ∷ xs) = ap (λ ys. f x ∷ ys) (map_without f i xs)
+
+without_same : (i : ℕ) (ps : List Addressed) → without_packet i ps ≡ without i ps
+without_same i [] = refl
+without_same zero (p ∷ ps) = refl
+without_same (suc i) (p ∷ ps) = ap (λ qs. p ∷ qs) (without_same i ps)
 
 -- ---- a network and packets beside it
 

@@ -119,7 +119,7 @@ some_first x (y ∷ ys) = go (some_first y ys)
 
 -- ---- of a network
 
-pairs_of : List ℕ → List Addressed → List (ℕ × ℕ)
+abbrev pairs_of : List ℕ → List Addressed → List (ℕ × ℕ)
 pairs_of [] ps = []
 pairs_of (f ∷ fs) [] = []
 pairs_of (f ∷ fs) (p ∷ ps) = (f, p.target) ∷ pairs_of fs ps
@@ -210,7 +210,7 @@ some_sender c net (choice.Halt a) h = (h.asks.number, senders.halt a h.asks)
 some_sender c net (choice.Detect a) h = (h.asks.number, senders.detect a h.asks)
 
 -- the network that a choice leaves
-after : NetParts → Choice → Option Event → Net → ℕ → NetParts
+abbrev after : NetParts → Choice → Option Event → Net → ℕ → NetParts
 after net x o new i = record {
   code = net.code;
   net = new;
