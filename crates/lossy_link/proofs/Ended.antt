@@ -16,10 +16,12 @@ use Rattle.net_core.proofs.Enabling.{none_enabled_is_quiet}
 use Rattle.net_core.proofs.Ending.{not_enabled}
 use Rattle.lossy_link.specs.declared.schedule.LinkCounts.{LinkCounts}
 use Rattle.lossy_link.specs.Lines.{line_of}
+use Rattle.lossy_link.specs.Links.{Links}
 use Rattle.lossy_link.specs.Over.{ActsOver, ReceivesOver}
 use Rattle.lossy_link.specs.OverBook.{RunsFrom, RunsOverLinks, LossyOf, LossIsHidden, opened_parts}
-use Rattle.lossy_link.specs.Schedule.{Carries, NextOver, RestsOver}
-use Rattle.lossy_link.specs.Settling.{AreOne, HasRunFrom}
+use Rattle.lossy_link.specs.Schedule.{Carries, NextOver, RestsOver, capped, nothing_counted}
+use Rattle.lossy_link.specs.Settling.{AreOne, HasRun, HasRunFrom}
+use Rattle.lossy_link.specs.Whole.{HasStarted, IsWhole}
 use Rattle.lossy_link.proofs.Coming.{one_at_rest}
 use Rattle.lossy_link.proofs.Counting.{counted_all}
 use Rattle.lossy_link.proofs.Joining.{joined, joined_out, bare_out, brings_carry}
@@ -42,6 +44,22 @@ loss_is_hidden budget loss k net es counts end r =
     subst (Carries budget k net es) r.end_is
     (subst (λ (n : NetParts). Carries budget k n es r.last.net)
     (joined_out net start.net packets r.starts.handed_out) carries)
+
+-- a run from started links, whose counts are handed out
+pub has_run_from : (budget loss : ℕ) (net : NetParts) (book later : BookKept)
+    (start last : Links NetParts) (more counts : LinkCounts) → HasStarted net start
+    → HasRun budget loss start book nothing_counted last later more → IsWhole last
+    → counts ≡ more → counts ≡ capped counts → HasRunFrom budget loss net book later counts
+has_run_from budget loss net book later start last more counts starts run whole same fits =
+    record {
+      start = start;
+      starts = starts;
+      last = last;
+      run = subst (λ (a : LinkCounts). HasRun budget loss start book nothing_counted last later a)
+          (sym same) run;
+      whole = whole;
+      fits = fits;
+    }
 
 module _ (law : StuckIsQuiet) (budget loss : ℕ) (net : NetParts) (book after : BookKept)
     (counts : LinkCounts) (o : AreOne book net net.net)

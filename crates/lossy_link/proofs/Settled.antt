@@ -1,6 +1,6 @@
 -- Turns and sends of the schedule: what they leave to do, what the links then stand for, and that
 -- they come before the rest of a run.
-use Rattle.std.proofs.Common.{◌≡◌, ℕ, zero, suc, ◌+◌, ◌<◌, List, [], ◌∷◌, ◌++◌, Some, None}
+use Rattle.std.proofs.Common.{◌≡◌, ℕ, zero, suc, ◌+◌, ◌<◌, ◌≤◌, List, [], ◌∷◌, ◌++◌, Some, None}
 use Rattle.std.proofs.Common.{length, refl, sym, subst, ◌∙◌, arith}
 use Rattle.std.proofs.lemmas.List.{length-append}
 use Rattle.env_store.specs.CodeParts.{CodeParts}
@@ -150,6 +150,11 @@ after_repeat l new i (repeats j x h) =
     let long : length (l.wire ++ x ∷ []) ≡ length l.wire + length (x ∷ []) =
     length-append l.wire (x ∷ []) in
     omega arith
+
+-- a wire without a frame
+pub bare_wire : (ws : List Frame) → length ws ≤ 0 → ws ≡ []
+bare_wire [] h = refl
+bare_wire (x ∷ ws) h = absurd (omega arith)
 
 -- ---- turns and sends
 

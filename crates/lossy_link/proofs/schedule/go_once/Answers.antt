@@ -1,13 +1,13 @@
-use Rattle.std.proofs.Common.{◌≡◌, ◌<◌, ℕ, Option, [], length, subst, arith, rules}
+use Rattle.std.proofs.Common.{◌≤◌, ◌<◌, ℕ, Option, length, subst, rules}
 use Rattle.lossy_link.specs.declared.step.Step.TheVariants.{Send}
 use Rattle.lossy_link.specs.Links.{HasLeast}
 use Rattle.lossy_link.specs.Whole.{links_of}
 use Rattle.lossy_link.proofs.Counting.{counted_sent}
-use Rattle.lossy_link.proofs.Settled.{as_before, once_turned, once_sent}
+use Rattle.lossy_link.proofs.Settled.{as_before, bare_wire, once_turned, once_sent}
 use Rattle.lossy_link.proofs.schedule.go_once.Goals as goal
 
-pub returns-then-len-0-clause-goes : goal.returns-then-len-0-clause-goes
-returns-then-len-0-clause-goes c =
+pub returns-then-len-gt0-clause-goes : goal.returns-then-len-gt0-clause-goes
+returns-then-len-gt0-clause-goes c =
     let some : 0 < length c.args.parts.now.wire = search rules in
     once_turned (links_of c.args.parts.now) (links_of c.turn.new.parts) c.args.kind
     c.next_of.result c.args.counts.now c.turn.new.counts some c.next_of.ensures
@@ -17,7 +17,8 @@ pub returns-in_ok-send-in-Some-clause-goes : goal.returns-in_ok-send-in-Some-cla
 returns-in_ok-send-in-Some-clause-goes c =
     let old = links_of c.args.parts.now in
     let new = links_of c.send.new.parts in
-    let bare : c.args.parts.now.wire ≡ [] = search rules in
+    let low : length c.args.parts.now.wire ≤ 0 = search rules in
+    let bare = bare_wire c.args.parts.now.wire low in
     let found = c.in-Some.found in
     let least = subst (λ (o : Option (ℕ × ℕ × ℕ)). HasLeast c.args.parts.now.lines o) c.in-Some.is
     c.least_open.ensures in

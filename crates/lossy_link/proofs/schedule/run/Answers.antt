@@ -23,6 +23,14 @@ make_next-requires-clause-allowed c =
     c.in_ok-kind.ensures.whole c.in_ok-kind.ensures.settled come.apart
     (rw c.in-Some.is at c.next.ensures.some)
 
+pub make_next-requires-clause-one : goal.make_next-requires-clause-one
+make_next-requires-clause-one c =
+    let come = has_settled c.args.budget c.args.kind (links_of c.args.parts.now) c.args.book.now
+    c.args.counts.now c.choices.kind (links_of c.choices.parts) c.choices.book c.choices.counts
+    c.choices.invariant.come c.in_ok-kind.kind (links_of c.settle.new.parts) c.settle.new.counts
+    c.in_ok-kind.ensures.settles in
+    come.one
+
 pub returns-then-len-budget-clause-run : goal.returns-then-len-budget-clause-run
 returns-then-len-budget-clause-run c =
     let come = has_settled c.args.budget c.args.kind (links_of c.args.parts.now) c.args.book.now
