@@ -5,7 +5,9 @@ use Rattle.std.proofs.Common.{inr, ◌++◌, length-append}
 use Rattle.std.proofs.lemmas.Bool.Decides.{nat_tests}
 use Rattle.std.proofs.lemmas.Bool.{and_parts, eqb-true}
 use Rattle.std.proofs.lemmas.Option.{same_Some, slice_get-get_or}
-use Rattle.std.specs.Prelude.{◌==◌, ◌&&◌, if◌then◌else◌, nat_lt, IsTrue, IsSome, is_some}
+use Rattle.std.specs.Prelude.{◌==◌, ◌&&◌, if◌then◌else◌, nat_lt, is_some, not, Result, Ok, Err}
+use Rattle.std.specs.Prelude.{OnOk, OnErr}
+use Rattle.chem_laws.proofs.Lists.{has_none}
 use Rattle.std.specs.Ordering.{is_eq, is_gt}
 use Rattle.std.specs.Map.{lookup, set_value, values_of}
 use Rattle.std.specs.BTreeSet.{BTreeSet, contains}
@@ -13,7 +15,7 @@ use Rattle.chem_model.specs.Each.{Each}
 use Rattle.lossy_link.specs.declared.line.Line.{Line}
 use Rattle.lossy_link.specs.Lines.{is_between, no_line, line_of, with_line, sent_more, handed_more}
 use Rattle.lossy_link.specs.Lines.{acked_more, raised, flight_from, with_sent, with_handed, with_acked}
-use Rattle.lossy_link.specs.Links.{IsLeastOpen, NoneIsOpen, HasLeast, Precedes}
+use Rattle.lossy_link.specs.Links.{NoneOpen, NoneIsOpen, HasLeast, Precedes}
 use Rattle.lossy_link.specs.inside.Table.{Pair, Entries, same_pair, pair_cmp, line_in, with_entry}
 use Rattle.lossy_link.specs.inside.Table.{has_open, IsFiled, IsAcked, AreFiled}
 use Rattle.lossy_link.proofs.LineLaws.{between, each_with, line_has, line_with, pair_of}
@@ -407,3 +409,62 @@ same_filed es now pairs others are is same =
       acked = are.acked;
       open_ones = λ g u. same g u ∙ are.open_ones g u;
     })
+
+-- ---- what a look-up tells of the lines
+
+module _ (es : Entries) (ls : List Line) (view : values_of es ≡ ls) (filed : Each IsFiled es)
+    (f t : ℕ) where
+  pub read_some : (l : Line) → Some l ≡ lookup (same_pair (f, t)) es → line_of f t ls ≡ l
+  read_some l at = ap (line_of f t) (sym view) ∙ found_line f t es l filed (sym at)
+
+  pub read_none : None ≡ lookup (same_pair (f, t)) es → line_of f t ls ≡ no_line f t
+  read_none at = ap (line_of f t) (sym view) ∙ found_none f t es filed (sym at)
+
+  pub none_open : (n : ℕ) → None ≡ lookup (same_pair (f, t)) es → NoneOpen f t n ls
+  none_open n at bytes h =
+      let there : slice_get [] n ≡ Some bytes =
+      subst (λ (l : Line). slice_get l.history.sent n ≡ Some bytes) (read_none at) h.is in
+      cc
+
+-- ---- what is written through a look-up
+
+module _ (f t : ℕ) (es new : Entries) (l k : Line) (at : Some l ≡ lookup (same_pair (f, t)) es)
+    (is : new ≡ set_value (same_pair (f, t)) es k) where
+  pub written : (h : Line → Line) → Each IsFiled es → k ≡ h l
+      → new ≡ with_entry f t (h (line_in f t es)) es
+  written h filed made =
+      is ∙ set_put f t l k es (sym at)
+      ∙ ap (λ (m : Line). with_entry f t m es)
+      (made ∙ ap h (sym (found_line f t es l filed (sym at))))
+
+  pub unwritten : k ≡ l → new ≡ es
+  unwritten same =
+      is ∙ ap (set_value (same_pair (f, t)) es) same ∙ set_same f t l es (sym at)
+
+-- a line that is the first of its pair
+pub first_written : (f t : ℕ) (x : List ℕ) (es : Entries) (l : Line) → Each IsFiled es
+    → is_some (lookup (same_pair (f, t)) es) ≡ false → l ≡ sent_more (no_line f t) x
+    → with_entry f t l es ≡ with_entry f t (sent_more (line_in f t es) x) es
+first_written f t x es l filed none made =
+    ap (λ (m : Line). with_entry f t m es)
+    (made ∙ ap (λ (m : Line). sent_more m x)
+    (sym (found_none f t es filed (has_none (lookup (same_pair (f, t)) es) none))))
+
+pub either_filed : {A E : Type 0} (r : Result A E) (f t : ℕ) (es : Entries)
+    (pairs : BTreeSet Pair) (x : List ℕ) (new : Entries) → AreFiled es pairs
+    → OnOk r (new ≡ with_entry f t (handed_more (line_in f t es) x) es) → OnErr r (new ≡ es)
+    → AreFiled new pairs
+either_filed (Ok a) f t es pairs x new are ok err = handed_filed f t es pairs are x new ok
+either_filed (Err e) f t es pairs x new are ok err =
+    same_filed es new pairs pairs are err (λ g u. refl)
+
+pub not_true : (b : Bool) → not b ≡ true → b ≡ false
+not_true true e = sym e
+not_true false e = refl
+
+pub no_keys : (ks : List Pair) → (0 < length ks → ⊥) → ks ≡ []
+no_keys [] none = refl
+no_keys (k ∷ ks) none = absurd (none (omega arith))
+
+pub none_sent : (l : Line) (f t : ℕ) → l ≡ no_line f t → l.history.sent ≡ []
+none_sent l f t is = ap (λ (k : Line). k.history.sent) is

@@ -108,8 +108,8 @@ spelled_step l new x o all (learns i f t n h) =
 -- ---- the network
 
 -- what is handed out leaves nothing under way
-record IsEmptied (code : CodeParts) (new : NetParts) : Type 0 where
-  pub code : new.code ≡ code
+record IsEmptied (kept : CodeParts) (new : NetParts) : Type 0 where
+  pub code : new.code ≡ kept
   pub packets : new.net.packets ≡ []
   pub froms : new.froms ≡ []
 

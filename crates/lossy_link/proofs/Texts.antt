@@ -1,7 +1,8 @@
 -- The wire as the spellings of its frames.
 use Rattle.std.proofs.Common.{◌≡◌, ℕ, zero, suc, ◌+◌, ◌<◌, ◌^◌, ◌-◌, List, [], ◌∷◌, ◌++◌, length, Some}
 use Rattle.std.proofs.Common.{get_or, slice_get, refl, sym, ap, subst, ◌∙◌, arith, length-append}
-use Rattle.std.specs.Prelude.{Result, Ok, Err, map, remove}
+use Rattle.std.specs.Prelude.{Result, Ok, Err, Option, None, IsSome, OnSome, OnOk, true, false, map}
+use Rattle.std.specs.List.{remove}
 use Rattle.std.proofs.lemmas.List.{map-append}
 use Rattle.std.proofs.lemmas.Option.{slice_get-get_or}
 use Rattle.chem_model.specs.Each.{Each}
@@ -77,7 +78,7 @@ pub ack_spelled : (x : Frame) (tag f t n : ℕ) (rest bytes : List ℕ) → HasH
 ack_spelled (Data g u m text) tag f t n rest bytes h s is =
     let both = first_two tag 1 (digits four f ++ (digits four t ++ (digits eight n ++ rest)))
     ((digits four g ++ (digits four u ++ digits eight m)) ++ text) (sym h.is ∙ s.is) in
-    let clash : 2 ≡ 1 = sym is ∙ both.0 in
+    let clash : ◌≡◌ {A = ℕ} 2 1 = sym is ∙ both.0 in
     cc
 ack_spelled (Ack g u m) tag f t n rest bytes h s is =
     let fields = digits four g ++ (digits four u ++ digits eight m) in
@@ -135,9 +136,9 @@ IsText text = IsSpelledFrame (frame_in text) text
 
 pub frames_more : (texts : List (List ℕ)) (text : List ℕ) → AreFrames texts → IsText text
     → length texts < 2 ^ 32 - 1 → AreFrames (texts ++ text ∷ [])
-frames_more texts text all one few = record {
-  spelled = each_more IsText texts text all.spelled one;
-  few = let more = length-append texts (text ∷ []) in omega arith;
+frames_more texts text all more few = record {
+  spelled = each_more IsText texts text all.spelled more;
+  few = let long = length-append texts (text ∷ []) in omega arith;
 }
 
 pub frames_without : (n : ℕ) (texts : List (List ℕ)) → AreFrames texts
@@ -150,3 +151,28 @@ frames_without n texts all = record {
 pub removed_is : (n : ℕ) (texts left : List (List ℕ)) → left ≡ remove texts n
     → left ≡ without n texts
 removed_is n texts left is = is ∙ sym (without_is n texts)
+
+-- ---- what is found at a place
+
+pub on_some : {X P : Type 0} (o : Option X) → IsSome o → OnSome o P → P
+on_some None some h = absurd (let e : false ≡ true = some in cc)
+on_some (Some x) some h = h
+
+-- the place of a frame is one of its spelling
+pub below_texts : (texts : List (List ℕ)) (seen : List Frame) (i n : ℕ)
+    → map frame_in texts ≡ seen → n ≡ length texts → i < length seen → i < n
+below_texts texts seen i n is count below =
+    let same : length (map frame_in texts) ≡ length seen = ap length is in
+    let many = map_length frame_in texts in
+    omega arith
+
+-- what is left
+pub left_frames : (texts left : List (List ℕ)) (seen : List Frame) (i : ℕ)
+    → map frame_in texts ≡ seen → left ≡ remove texts i → map frame_in left ≡ without i seen
+left_frames texts left seen i is gone =
+    ap (map frame_in) (removed_is i texts left gone) ∙ map_without frame_in texts i
+    ∙ ap (without i) is
+
+pub on_ok_from : {A E P : Type 0} (r : Result A E) → P → OnOk r P
+on_ok_from (Ok x) p = p
+on_ok_from (Err e) p = tt

@@ -1,5 +1,5 @@
 // The steps over links.
-ghost use Rattle.std.specs.Prelude.{◌≡◌, ℕ, ◌<◌, ◌-◌, ◌^◌, Some, None, IfOk, OnOk, length, slice_get};
+ghost use Rattle.std.specs.Prelude.{◌≡◌, ◌-◌, ◌<◌, ◌^◌, Some, None, IfOk, OnOk, length, slice_get};
 ghost use Rattle.net_core.specs.Laws.{IsLedFrom};
 ghost use Rattle.lossy_link.specs.declared.step.Step.TheVariants as step;
 ghost use Rattle.lossy_link.specs.Lines.{all_sent, line_of};

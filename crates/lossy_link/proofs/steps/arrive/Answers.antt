@@ -10,7 +10,7 @@ pub come-requires-clause-whole : goal.come-requires-clause-whole
 come-requires-clause-whole c =
     let l = links_of c.args.parts.now in
     whole_after l _ (Lose c.args.frame) None c.requires.whole
-    (lost l c.take-taken.new.self c.args.frame c.requires.enabled c.in_ok-taken.ensures.left)
+    (lost l c.take.new.self c.args.frame c.requires.enabled c.in_ok-taken.ensures.left)
 
 pub come-requires-clause-says : goal.come-requires-clause-says
 come-requires-clause-says c = frame_true (links_of c.args.parts.now) c.args.frame
@@ -18,7 +18,7 @@ come-requires-clause-says c = frame_true (links_of c.args.parts.now) c.args.fram
 
 pub returns-clause-steps : goal.returns-clause-steps
 returns-clause-steps c = on_ok_weaker c.come.result (λ h. came (links_of c.args.parts.now)
-    (links_of c.come.new.parts) c.take-taken.new.self c.args.frame c.in_ok-taken.taken
+    (links_of c.come.new.parts) c.take.new.self c.args.frame c.in_ok-taken.taken
     c.in_ok-taken.ensures.is c.in_ok-taken.ensures.left h) c.come.ensures
 
 pub returns-clause-whole : goal.returns-clause-whole

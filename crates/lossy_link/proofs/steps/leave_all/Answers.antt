@@ -14,5 +14,6 @@ loop-packet-smaller c = omega (arith, ap (λ (ps : List FlightFrom). length ps) 
 
 pub returns : goal.returns
 returns c =
-    ap (λ (ps : List FlightFrom). all_sent ps c.loop-packet.lines) (sym c.in-None.ensures.0)
+    let none = rw c.in_default.is at c.next.ensures in
+    ap (λ (ps : List FlightFrom). all_sent ps c.loop-packet.lines) (sym none.0)
     ∙ c.loop-packet.invariant
