@@ -50,16 +50,15 @@ pub has_run_from : (budget loss : ℕ) (net : NetParts) (book later : BookKept)
     (start last : Links NetParts) (more counts : LinkCounts) → HasStarted net start
     → HasRun budget loss start book nothing_counted last later more → IsWhole last
     → counts ≡ more → counts ≡ capped counts → HasRunFrom budget loss net book later counts
-has_run_from budget loss net book later start last more counts starts run whole same fits =
-    record {
-      start = start;
-      starts = starts;
-      last = last;
-      run = subst (λ (a : LinkCounts). HasRun budget loss start book nothing_counted last later a)
-          (sym same) run;
-      whole = whole;
-      fits = fits;
-    }
+has_run_from budget loss net book later start last more counts starts run whole same fits = record {
+  start = start;
+  starts = starts;
+  last = last;
+  run = subst (λ (a : LinkCounts). HasRun budget loss start book nothing_counted last later a)
+      (sym same) run;
+  whole = whole;
+  fits = fits;
+}
 
 module _ (law : StuckIsQuiet) (budget loss : ℕ) (net : NetParts) (book after : BookKept)
     (counts : LinkCounts) (o : AreOne book net net.net)

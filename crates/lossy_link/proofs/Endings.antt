@@ -10,7 +10,7 @@ use Rattle.lossy_link.specs.declared.frame.Frame.{Frame}
 use Rattle.lossy_link.specs.declared.frame.Frame.TheVariants.{Data, Ack}
 use Rattle.lossy_link.specs.declared.line.Line.{Line}
 use Rattle.lossy_link.specs.Lines.{is_between, line_of, with_line, with_sent, all_sent, with_handed}
-use Rattle.lossy_link.specs.Lines.{with_acked, raised, AreFine}
+use Rattle.lossy_link.specs.Lines.{with_acked, sent_more, handed_more, acked_more, AreFine}
 use Rattle.lossy_link.specs.Links.{Links, IsTrueOf, AreSound, sends, loses, repeats, takes}
 use Rattle.lossy_link.specs.Links.{drops, learns}
 use Rattle.lossy_link.specs.Links.{IsLeastOpen}
@@ -66,12 +66,7 @@ lag_handed f t x ls fine =
     let l = line_of f t ls in
     let is = pair_of f t ls in
     let sum =
-    lag_changed f t (record l {
-      history = record l.history {
-        handed = l.history.handed
-            ++ x ∷ [];
-      };
-    }) ls is.0 is.1 in
+    lag_changed f t (handed_more l x) ls is.0 is.1 in
     let long : length (l.history.handed ++ x ∷ []) ≡ length l.history.handed + 1 =
     length-append l.history.handed (x ∷ []) in
     let within = (fine f t).acked in
@@ -83,7 +78,7 @@ pub lag_acked : (f t n : ℕ) (ls : List Line) → (line_of f t ls).acked < n
 lag_acked f t n ls more within =
     let l = line_of f t ls in
     let is = pair_of f t ls in
-    let sum = lag_changed f t (record l { acked = raised l.acked n }) ls is.0 is.1 in
+    let sum = lag_changed f t (acked_more l n) ls is.0 is.1 in
     omega arith
 
 -- acknowledged by a receipt: what was acknowledged stays
@@ -97,9 +92,7 @@ acked_by_sending (p ∷ out) ls f t = acked_by_sending out (with_sent p ls) f t 
         let l = line_of p.from p.flight.target ls in
         let is = pair_of p.from p.flight.target ls in
         each_line (λ v w k. k.acked ≡ (line_of v w ls).acked) p.from p.flight.target
-        (record l {
-          history = record l.history { sent = l.history.sent ++ p.flight.bytes ∷ [] };
-        }) ls is.0 is.1 refl (λ v w. refl) f t
+        (sent_more l p.flight.bytes) ls is.0 is.1 refl (λ v w. refl) f t
 
 pub acked_by_handing : (g u : ℕ) (x : List ℕ) (ls : List Line) (f t : ℕ)
     → (line_of f t (with_handed g u x ls)).acked ≡ (line_of f t ls).acked
@@ -107,7 +100,7 @@ acked_by_handing g u x ls f t =
     let l = line_of g u ls in
     let is = pair_of g u ls in
     each_line (λ v w k. k.acked ≡ (line_of v w ls).acked) g u
-    (record l { history = record l.history { handed = l.history.handed ++ x ∷ [] } }) ls is.0
+    (handed_more l x) ls is.0
     is.1 refl (λ v w. refl) f t
 
 -- ---- what is left to do
@@ -212,8 +205,7 @@ turn_1 net x rest ls mid new (one_at_1 f t n bytes first) sound (repeats i y h) 
     let is : y ≡ Data f t n bytes = sym (same_Some (Data f t n bytes) y h) in
     arrives_1 net f t n bytes y ls new first (record {
       fine = sound.fine;
-      wire =
-          (sound.wire.0, (subst (IsTrueOf ls) (sym is) sound.wire.0, tt));
+      wire = (sound.wire.0, (subst (IsTrueOf ls) (sym is) sound.wire.0, tt));
     }) is two falls
 
 -- turn 2: a frame is repeated and lost

@@ -133,8 +133,7 @@ delivers_at net new ps i p at h =
         → (let m = cond b (record (with_packets (p ∷ [])
         net) { sites = slice_set net.sites q.target (put (home q) q.msg s); packets = [] })
         (record (with_packets (p ∷ []) net) {
-          packets =
-              record { target = address net.tree (home q); msg = q.msg } ∷ [];
+          packets = record { target = address net.tree (home q); msg = q.msg } ∷ [];
         }) in
         with_packets (without_packet i ps ++ m.packets) m)
         ≡ cond b (record (with_packets ps net) {

@@ -301,8 +301,7 @@ pub counts_over_links_are_one : CountsOverLinksAreOne
 counts_over_links_are_one p c ok kept is budget loss es other counts others end last one two =
     let net = opened_parts p.version c in
     let opened = opened_stands p c ok kept is in
-    let some : RunsSome c net.net =
-    record {
+    let some : RunsSome c net.net = record {
       program = p;
       is_program = ok;
       of_program = is;

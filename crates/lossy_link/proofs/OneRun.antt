@@ -36,13 +36,12 @@ pub least_one : (ls : List Line) (f t m g u n : ℕ) (xs ys : List ℕ) → IsLe
 least_one ls f t m g u n xs ys a b = go (pairs_order f t g u)
   where
     go : ((f ≡ g) × (t ≡ u)) ⊎ (Precedes f t g u ⊎ Precedes g u f t) → SameOpen f t m g u n
-    go (inl h) =
-        record {
-          from = h.0;
-          into = h.1;
-          number = a.at ∙ ap (λ (i : ℕ). (line_of i t ls).acked) h.0
-              ∙ ap (λ (i : ℕ). (line_of g i ls).acked) h.1 ∙ sym b.at;
-        }
+    go (inl h) = record {
+      from = h.0;
+      into = h.1;
+      number = a.at ∙ ap (λ (i : ℕ). (line_of i t ls).acked) h.0
+          ∙ ap (λ (i : ℕ). (line_of g i ls).acked) h.1 ∙ sym b.at;
+    }
     go (inr (inl h)) =
         let one = b.least f t h in
         let two = is_open ls f t m xs a in

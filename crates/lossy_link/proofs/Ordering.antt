@@ -6,7 +6,8 @@ use Rattle.std.proofs.lemmas.Option.{same_Some}
 use Rattle.net_core.specs.declared.drained.FlightFrom.{FlightFrom}
 use Rattle.lossy_link.specs.declared.line.Line.{Line}
 use Rattle.lossy_link.specs.Lines.{is_between, line_of, with_sent, all_sent, with_handed}
-use Rattle.lossy_link.specs.Lines.{with_acked, raised, undelivered, AreFine}
+use Rattle.lossy_link.specs.Lines.{with_acked, sent_more, handed_more, acked_more, undelivered}
+use Rattle.lossy_link.specs.Lines.{AreFine}
 use Rattle.net_core.specs.Parts.{without}
 use Rattle.lossy_link.proofs.Bringing.{of_pair, AreSame}
 use Rattle.lossy_link.proofs.LineLaws.{between, same_pair, pair_of, line_with, each_line, sent_fine}
@@ -140,7 +141,7 @@ sent_same p ls ps fine same f t =
     let l = line_of p.from p.flight.target ls in
     let is = pair_of p.from p.flight.target ls in
     let new : Line =
-    record l { history = record l.history { sent = l.history.sent ++ p.flight.bytes ∷ [] } } in
+    sent_more l p.flight.bytes in
     let names : is_between f t new.from new.into ≡ is_between f t p.from p.flight.target =
     ap (λ (n : ℕ). is_between f t n l.into) is.0
     ∙ ap (λ (n : ℕ). is_between f t p.from n) is.1 in
@@ -149,13 +150,7 @@ sent_same p ls ps fine same f t =
     ∙ go (is_between f t p.from p.flight.target) refl ∙ sym (of_pair_append f t ps (p ∷ []))
   where
     go : (b : Bool) → is_between f t p.from p.flight.target ≡ b
-        → undelivered (cond b (record (line_of p.from p.flight.target ls) {
-          history =
-              record (line_of p.from p.flight.target ls).history {
-                sent =
-                    (line_of p.from p.flight.target ls).history.sent ++ p.flight.bytes ∷ [];
-              };
-        })
+        → undelivered (cond b (sent_more (line_of p.from p.flight.target ls) p.flight.bytes)
         (line_of f t ls)) ≡ of_pair f t ps ++ cond b (p.flight.bytes ∷ []) []
     go true e =
         let pair = between f t p.from p.flight.target e in
@@ -185,7 +180,7 @@ handed_same f t x ls ps at same h g u =
     let l = line_of f t ls in
     let is = pair_of f t ls in
     let new : Line =
-    record l { history = record l.history { handed = l.history.handed ++ x ∷ [] } } in
+    handed_more l x in
     let names : is_between g u new.from new.into ≡ is_between g u f t =
     ap (λ (n : ℕ). is_between g u n l.into) is.0 ∙ ap (λ (n : ℕ). is_between g u f n) is.1 in
     ap (λ (k : Line). undelivered k) (line_with g u new ls)
@@ -193,13 +188,8 @@ handed_same f t x ls ps at same h g u =
     ∙ go (is_between g u f t) refl
   where
     go : (b : Bool) → is_between g u f t ≡ b → undelivered
-        (cond b (record (line_of f t ls) {
-          history =
-              record (line_of f t ls).history {
-                handed = (line_of f t ls).history.handed
-                    ++ x ∷ [];
-              };
-        }) (line_of g u ls)) ≡ of_pair g u (without h.place ps)
+        (cond b (handed_more (line_of f t ls) x) (line_of g u ls))
+        ≡ of_pair g u (without h.place ps)
     go true e =
         let pair = between g u f t e in
         let k = line_of f t ls in
@@ -214,5 +204,5 @@ pub acked_same : (f t n : ℕ) (ls : List Line) (ps : List FlightFrom) → AreSa
 acked_same f t n ls ps same g u =
     let l = line_of f t ls in
     let is = pair_of f t ls in
-    each_line (λ v w k. undelivered k ≡ of_pair v w ps) f t (record l { acked = raised l.acked n })
+    each_line (λ v w k. undelivered k ≡ of_pair v w ps) f t (acked_more l n)
     ls is.0 is.1 (same f t) same g u

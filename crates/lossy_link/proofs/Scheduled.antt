@@ -11,7 +11,8 @@ use Rattle.net_core.specs.declared.drained.FlightFrom.{FlightFrom}
 use Rattle.lossy_link.specs.declared.frame.Frame.{Frame}
 use Rattle.lossy_link.specs.declared.frame.Frame.TheVariants.{Data, Ack}
 use Rattle.lossy_link.specs.declared.line.Line.{Line}
-use Rattle.lossy_link.specs.Lines.{line_of, with_sent, all_sent, with_handed, with_acked, raised}
+use Rattle.lossy_link.specs.Lines.{line_of, with_sent, all_sent, with_handed, with_acked, sent_more}
+use Rattle.lossy_link.specs.Lines.{acked_more}
 use Rattle.lossy_link.specs.Lines.{undelivered, IsFine, AreFine}
 use Rattle.lossy_link.specs.Links.{Links, IsTrueOf, AreSound, Steps, acts, sends, loses, repeats}
 use Rattle.lossy_link.specs.Links.{takes, drops, learns}
@@ -62,12 +63,7 @@ handed_by_sending (p ∷ out) ls f t = handed_by_sending out (with_sent p ls) f 
         let l = line_of p.from p.flight.target ls in
         let is = pair_of p.from p.flight.target ls in
         each_line (λ v w k. k.history.handed ≡ (line_of v w ls).history.handed) p.from
-        p.flight.target (record l {
-          history = record l.history {
-            sent = l.history.sent
-                ++ p.flight.bytes ∷ [];
-          };
-        }) ls is.0 is.1 refl (λ v w. refl) f t
+        p.flight.target (sent_more l p.flight.bytes) ls is.0 is.1 refl (λ v w. refl) f t
 
 -- and where a number is acknowledged, it keeps what it was handed, and what is left
 pub acked_hands : (g u n : ℕ) (ls : List Line) (f t : ℕ)
@@ -77,7 +73,7 @@ acked_hands g u n ls f t =
     let l = line_of g u ls in
     let is = pair_of g u ls in
     each_line (λ v w k. length k.history.handed ≡ length (line_of v w ls).history.handed) g u
-    (record l { acked = raised l.acked n }) ls is.0 is.1 refl (λ v w. refl) f t
+    (acked_more l n) ls is.0 is.1 refl (λ v w. refl) f t
 
 pub acked_leaves : (g u n : ℕ) (ls : List Line) (f t : ℕ)
     → undelivered (line_of f t (with_acked g u n ls)) ≡ undelivered (line_of f t ls)
@@ -85,7 +81,7 @@ acked_leaves g u n ls f t =
     let l = line_of g u ls in
     let is = pair_of g u ls in
     each_line (λ v w k. undelivered k ≡ undelivered (line_of v w ls)) g u
-    (record l { acked = raised l.acked n }) ls is.0 is.1 refl (λ v w. refl) f t
+    (acked_more l n) ls is.0 is.1 refl (λ v w. refl) f t
 
 module _ (Net : Type 0) (Acts : Net → Choice → Event → Net → List FlightFrom → Type 0)
     (Receives : Net → ℕ → List ℕ → Net → List FlightFrom → Type 0) where
@@ -116,12 +112,10 @@ module _ (Net : Type 0) (Acts : Net → Choice → Event → Net → List Flight
       good.sound (loses i y h)).0 in
       stays refl (record {
         sound = sound;
-        copies =
-            record {
-              copies = each_without (IsCopy f t n) i l.wire good.copies.copies;
-              least =
-                  good.copies.least;
-            };
+        copies = record {
+          copies = each_without (IsCopy f t n) i l.wire good.copies.copies;
+          least = good.copies.least;
+        };
         same = good.same;
       })
   after_step l mid x o f t n packets on good (repeats i y h) =
@@ -130,13 +124,11 @@ module _ (Net : Type 0) (Acts : Net → Choice → Event → Net → List Flight
       good.sound (repeats i y h)).0 in
       stays refl (record {
         sound = sound;
-        copies =
-            record {
-              copies = each_more (IsCopy f t n) l.wire y good.copies.copies
-                  (each_at (IsCopy f t n) l.wire i y good.copies.copies h);
-              least =
-                  good.copies.least;
-            };
+        copies = record {
+          copies = each_more (IsCopy f t n) l.wire y good.copies.copies
+              (each_at (IsCopy f t n) l.wire i y good.copies.copies h);
+          least = good.copies.least;
+        };
         same = good.same;
       })
   after_step l mid x o f t n packets on good (takes i g u m bytes net out h next r) =
@@ -147,8 +139,7 @@ module _ (Net : Type 0) (Acts : Net → Choice → Event → Net → List Flight
       let k = line_of g u l.lines in
       let at : slice_get k.history.sent (length k.history.handed) ≡ Some bytes =
       subst (λ (j : ℕ). slice_get k.history.sent j ≡ Some bytes) next said in
-      let new : Links Net =
-      record {
+      let new : Links Net = record {
         net = net;
         wire = without i l.wire ++ Ack g u (m + 1) ∷ [];
         lines = all_sent out
@@ -222,13 +213,12 @@ module _ (Net : Type 0) (Acts : Net → Choice → Event → Net → List Flight
       (drops i g u m bytes h other)).0 in
       stays refl (record {
         sound = sound;
-        copies =
-            record {
-              copies = each_more (IsCopy f t n) (without i l.wire)
-                  (Ack g u (length k.history.handed)) (each_without (IsCopy f t n) i l.wire
-                  good.copies.copies) tt;
-              least = good.copies.least;
-            };
+        copies = record {
+          copies = each_more (IsCopy f t n) (without i l.wire)
+              (Ack g u (length k.history.handed)) (each_without (IsCopy f t n) i l.wire
+              good.copies.copies) tt;
+          least = good.copies.least;
+        };
         same = good.same;
       })
   after_step l mid x o f t n packets on good (learns i g u m h) =
@@ -275,12 +265,11 @@ module _ (Net : Type 0) (Acts : Net → Choice → Event → Net → List Flight
         → IsGood Net l f t n packets → l.wire ≡ [] → IsLeastOpen l.lines g u m bytes
         → IsGood Net (record l { wire = l.wire ++ Data g u m bytes ∷ [] }) g u m packets
     sent_good l f t n g u m bytes packets good bare least = record {
-      sound =
-          record {
-            fine = good.sound.fine;
-            wire = each_more (IsTrueOf l.lines) l.wire
-                (Data g u m bytes) good.sound.wire least.is;
-          };
+      sound = record {
+        fine = good.sound.fine;
+        wire = each_more (IsTrueOf l.lines) l.wire
+            (Data g u m bytes) good.sound.wire least.is;
+      };
       copies = record {
         copies =
             subst (λ (xs : List Frame). Each (IsCopy g u m) (xs ++ Data g u m bytes ∷ []))
@@ -326,18 +315,16 @@ module _ (Net : Type 0) (Acts : Net → Choice → Event → Net → List Flight
         let fine = all_sent_fine out l.lines good.sound.fine in
         let m = length (line_of 0 0 (all_sent out l.lines)).history.handed in
         record {
-          sound =
-              record {
-                fine = fine;
-                wire = subst (λ (xs : List Frame). Each
-                    (IsTrueOf (all_sent out l.lines)) xs) (sym bare) tt;
-              };
-          copies =
-              record {
-                copies = subst (λ (xs : List Frame). Each (IsCopy 0 0 (m + 1)) xs) (sym bare)
-                    tt;
-                least = λ is. absurd (apart m is);
-              };
+          sound = record {
+            fine = fine;
+            wire = subst (λ (xs : List Frame). Each
+                (IsTrueOf (all_sent out l.lines)) xs) (sym bare) tt;
+          };
+          copies = record {
+            copies = subst (λ (xs : List Frame). Each (IsCopy 0 0 (m + 1)) xs) (sym bare)
+                tt;
+            least = λ is. absurd (apart m is);
+          };
           same =
               subst (λ (ps : List FlightFrom). AreSame (all_sent out l.lines) (ps ++ out)) none
               (all_sent_same out l.lines packets good.sound.fine good.same);
