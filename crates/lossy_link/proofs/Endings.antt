@@ -23,17 +23,20 @@ use Rattle.lossy_link.specs.Ending.{one_at_2, two_at_2, one_at_3, two_at_3}
 use Rattle.lossy_link.proofs.LineLaws.{pair_of, each_line}
 use Rattle.lossy_link.proofs.Weights.{acked_weight}
 
-abbrev pub lag : Line → ℕ
+-- how many of a line are delivered and not acknowledged
+abbrev lag : Line → ℕ
 lag l = length l.history.handed - l.acked
 
-pub lag_with : (l : Line) (ls : List Line) → unacknowledged (with_line l ls) + lag
-    (line_of l.from l.into ls) ≡ unacknowledged ls + lag l
+lag_with : (l : Line) (ls : List Line)
+    → unacknowledged (with_line l ls) + lag (line_of l.from l.into ls) ≡ unacknowledged ls + lag l
 lag_with l [] = omega arith
 lag_with l (k ∷ ks) = go (is_between l.from l.into k.from k.into) (lag_with l ks)
   where
-    go : (b : Bool) → unacknowledged (with_line l ks) + lag (line_of l.from l.into ks)
-        ≡ unacknowledged ks + lag l → unacknowledged (cond b (l ∷ ks) (k ∷ with_line l ks)) + lag
-        (cond b k (line_of l.from l.into ks)) ≡ unacknowledged (k ∷ ks) + lag l
+    go : (b : Bool)
+        → unacknowledged (with_line l ks) + lag (line_of l.from l.into ks)
+        ≡ unacknowledged ks + lag l
+        → unacknowledged (cond b (l ∷ ks) (k ∷ with_line l ks))
+        + lag (cond b k (line_of l.from l.into ks)) ≡ unacknowledged (k ∷ ks) + lag l
     go true ih = omega arith
     go false ih = omega arith
 
@@ -44,35 +47,31 @@ lag_changed f t l ls one two =
     ≡ unacknowledged ls + lag l) one (subst (λ (n : ℕ). unacknowledged (with_line l ls) + lag
     (line_of l.from n ls) ≡ unacknowledged ls + lag l) two (lag_with l ls))
 
-pub lag_sent : (p : FlightFrom) (ls : List Line)
+lag_sent : (p : FlightFrom) (ls : List Line)
     → unacknowledged (with_sent p ls) ≡ unacknowledged ls
 lag_sent p ls =
     let l = line_of p.from p.flight.target ls in
     let is = pair_of p.from p.flight.target ls in
-    let sum =
-    lag_changed p.from p.flight.target (record
-    l { history = record l.history { sent = l.history.sent ++ p.flight.bytes ∷ [] } }) ls
-    is.0 is.1 in
+    let sum = lag_changed p.from p.flight.target (sent_more l p.flight.bytes) ls is.0 is.1 in
     omega arith
 
-pub lag_all_sent : (ps : List FlightFrom) (ls : List Line)
+lag_all_sent : (ps : List FlightFrom) (ls : List Line)
     → unacknowledged (all_sent ps ls) ≡ unacknowledged ls
 lag_all_sent [] ls = refl
 lag_all_sent (p ∷ ps) ls = lag_all_sent ps (with_sent p ls) ∙ lag_sent p ls
 
-pub lag_handed : (f t : ℕ) (x : List ℕ) (ls : List Line) → AreFine ls
+lag_handed : (f t : ℕ) (x : List ℕ) (ls : List Line) → AreFine ls
     → unacknowledged (with_handed f t x ls) ≡ unacknowledged ls + 1
 lag_handed f t x ls fine =
     let l = line_of f t ls in
     let is = pair_of f t ls in
-    let sum =
-    lag_changed f t (handed_more l x) ls is.0 is.1 in
+    let sum = lag_changed f t (handed_more l x) ls is.0 is.1 in
     let long : length (l.history.handed ++ x ∷ []) ≡ length l.history.handed + 1 =
     length-append l.history.handed (x ∷ []) in
     let within = (fine f t).acked in
     omega arith
 
-pub lag_acked : (f t n : ℕ) (ls : List Line) → (line_of f t ls).acked < n
+lag_acked : (f t n : ℕ) (ls : List Line) → (line_of f t ls).acked < n
     → n ≤ length (line_of f t ls).history.handed
     → unacknowledged (with_acked f t n ls) < unacknowledged ls
 lag_acked f t n ls more within =
@@ -82,7 +81,7 @@ lag_acked f t n ls more within =
     omega arith
 
 -- acknowledged by a receipt: what was acknowledged stays
-pub acked_by_sending : (out : List FlightFrom) (ls : List Line) (f t : ℕ)
+acked_by_sending : (out : List FlightFrom) (ls : List Line) (f t : ℕ)
     → (line_of f t (all_sent out ls)).acked ≡ (line_of f t ls).acked
 acked_by_sending [] ls f t = refl
 acked_by_sending (p ∷ out) ls f t = acked_by_sending out (with_sent p ls) f t ∙ one
@@ -94,14 +93,13 @@ acked_by_sending (p ∷ out) ls f t = acked_by_sending out (with_sent p ls) f t 
         each_line (λ v w k. k.acked ≡ (line_of v w ls).acked) p.from p.flight.target
         (sent_more l p.flight.bytes) ls is.0 is.1 refl (λ v w. refl) f t
 
-pub acked_by_handing : (g u : ℕ) (x : List ℕ) (ls : List Line) (f t : ℕ)
+acked_by_handing : (g u : ℕ) (x : List ℕ) (ls : List Line) (f t : ℕ)
     → (line_of f t (with_handed g u x ls)).acked ≡ (line_of f t ls).acked
 acked_by_handing g u x ls f t =
     let l = line_of g u ls in
     let is = pair_of g u ls in
-    each_line (λ v w k. k.acked ≡ (line_of v w ls).acked) g u
-    (handed_more l x) ls is.0
-    is.1 refl (λ v w. refl) f t
+    each_line (λ v w k. k.acked ≡ (line_of v w ls).acked) g u (handed_more l x) ls is.0 is.1 refl
+    (λ v w. refl) f t
 
 -- ---- what is left to do
 
@@ -140,8 +138,8 @@ Lowers v l w new = IsAtTurn new.lines w new.wire × (left_by w new < left_by v l
 
 -- turn 0: a frame is lost
 pub turn_0 : (net : NetParts) (x : Frame) (rest : List Frame) (ls : List Line)
-    (mid : Links NetParts)
-    → IsAtTurn ls 0 (x ∷ rest) → StepsTo (at_wire net (x ∷ rest) ls) (Lose 0) None mid
+    (mid : Links NetParts) → IsAtTurn ls 0 (x ∷ rest)
+    → StepsTo (at_wire net (x ∷ rest) ls) (Lose 0) None mid
     → Lowers 0 (at_wire net (x ∷ rest) ls) 1 mid
 turn_0 net x rest ls mid (one_at_0 y) (loses i z h) = (none 1 (omega arith), omega arith)
 
@@ -154,9 +152,9 @@ two_packets ls f t n g u m bytes y is more =
 -- turn 1: a frame is repeated, and arrives
 arrives_1 : (net : NetParts) (f t n : ℕ) (bytes : List ℕ) (y : Frame) (ls : List Line)
     (new : Links NetParts) → n ≡ (line_of f t ls).acked → AreSound (Data f t n bytes ∷ y ∷ []) ls
-    → y
-    ≡ Data f t n bytes → StepsTo (at_wire net (Data f t n bytes ∷ y ∷ []) ls) (Arrive 0) None
-    new → ReceiptFalls (at_wire net (Data f t n bytes ∷ y ∷ []) ls) 0 new
+    → y ≡ Data f t n bytes
+    → StepsTo (at_wire net (Data f t n bytes ∷ y ∷ []) ls) (Arrive 0) None new
+    → ReceiptFalls (at_wire net (Data f t n bytes ∷ y ∷ []) ls) 0 new
     → Lowers 1 (at_wire net (Data f t n bytes ∷ []) ls) 2 new
 arrives_1 net f t n bytes y ls new first sound is (takes i g u m bs mid out h next r) falls =
     let same : Data f t n bytes ≡ Data g u m bs =

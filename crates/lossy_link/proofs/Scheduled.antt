@@ -48,12 +48,12 @@ pub record IsGood (Net : Type 0) (l : Links Net) (f t n : ℕ) (packets : List F
     pub same : AreSame l.lines packets
 
 -- what all of a line has been delivered
-pub all_delivered : (l : Line) → IsFine l → length l.history.sent ≤ l.acked → undelivered l ≡ []
+all_delivered : (l : Line) → IsFine l → length l.history.sent ≤ l.acked → undelivered l ≡ []
 all_delivered l fine e =
     drop_all (length l.history.handed) l.history.sent (let a = fine.acked in omega arith)
 
 -- handed out by more: each pair keeps how many it was handed
-pub handed_by_sending : (out : List FlightFrom) (ls : List Line) (f t : ℕ)
+handed_by_sending : (out : List FlightFrom) (ls : List Line) (f t : ℕ)
     → (line_of f t (all_sent out ls)).history.handed ≡ (line_of f t ls).history.handed
 handed_by_sending [] ls f t = refl
 handed_by_sending (p ∷ out) ls f t = handed_by_sending out (with_sent p ls) f t ∙ one
@@ -66,7 +66,7 @@ handed_by_sending (p ∷ out) ls f t = handed_by_sending out (with_sent p ls) f 
         p.flight.target (sent_more l p.flight.bytes) ls is.0 is.1 refl (λ v w. refl) f t
 
 -- and where a number is acknowledged, it keeps what it was handed, and what is left
-pub acked_hands : (g u n : ℕ) (ls : List Line) (f t : ℕ)
+acked_hands : (g u n : ℕ) (ls : List Line) (f t : ℕ)
     → length (line_of f t (with_acked g u n ls)).history.handed
     ≡ length (line_of f t ls).history.handed
 acked_hands g u n ls f t =
@@ -75,7 +75,7 @@ acked_hands g u n ls f t =
     each_line (λ v w k. length k.history.handed ≡ length (line_of v w ls).history.handed) g u
     (acked_more l n) ls is.0 is.1 refl (λ v w. refl) f t
 
-pub acked_leaves : (g u n : ℕ) (ls : List Line) (f t : ℕ)
+acked_leaves : (g u n : ℕ) (ls : List Line) (f t : ℕ)
     → undelivered (line_of f t (with_acked g u n ls)) ≡ undelivered (line_of f t ls)
 acked_leaves g u n ls f t =
     let l = line_of g u ls in
@@ -101,7 +101,7 @@ module _ (Net : Type 0) (Acts : Net → Choice → Event → Net → List Flight
   IsOnWire (Repeat i) = Unit {0}
   IsOnWire (Arrive i) = Unit {0}
 
-  pub after_step : (l mid : Links Net) (x : Step) (o : Option Event) (f t n : ℕ)
+  after_step : (l mid : Links Net) (x : Step) (o : Option Event) (f t n : ℕ)
       (packets : List FlightFrom) → IsOnWire x → IsGood Net l f t n packets
       → Steps Net Acts Receives l x o mid → After l mid f t n packets
   after_step l mid x o f t n packets on good (acts y e net out h) = absurd on
