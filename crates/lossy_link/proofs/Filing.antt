@@ -277,9 +277,9 @@ least_is es pairs f t n is there lower at =
   where
     go : (g u : ℕ) → Precedes g u f t → (b : Bool) → has_open (line_in g u es) ≡ b
         → has_open (line_in g u es) ≡ false
-    go g u before true yes =
+    go g u before true more =
         let clash : true ≡ false =
-        sym (after_pair f t g u before) ∙ lower (g, u) (is g u ∙ yes) in
+        sym (after_pair f t g u before) ∙ lower (g, u) (is g u ∙ more) in
         cc
     go g u before false e = e
 

@@ -1,6 +1,7 @@
 use Rattle.std.proofs.Common.{◌≤◌, length, refl, sym, subst, arith}
 use Rattle.lossy_link.specs.declared.frame.Frame.{Frame}
-use Rattle.lossy_link.specs.Links.{IsTrueOf}
+use Rattle.net_core.specs.Whole.{NetParts}
+use Rattle.lossy_link.specs.Links.{Links, IsTrueOf}
 use Rattle.lossy_link.specs.Whole.{links_of}
 use Rattle.lossy_link.specs.inside.Parted.{Comes}
 use Rattle.lossy_link.proofs.steps.come.Goals as goal
@@ -16,5 +17,11 @@ acknowledge-requires-clause-within c =
     omega arith
 
 pub returns-in-Ack : goal.returns-in-Ack
-returns-in-Ack c = subst (λ (x : Frame). Comes x (links_of c.args.parts.now) _) (sym c.in-Ack.is)
+returns-in-Ack c =
+    let new : Links NetParts = record {
+      net = c.args.parts.now.net;
+      wire = c.args.parts.now.wire;
+      lines = c.acknowledge.new.self;
+    } in
+    subst (λ (x : Frame). Comes x (links_of c.args.parts.now) new) (sym c.in-Ack.is)
     (record { net = refl; wire = refl; lines = c.acknowledge.ensures })
