@@ -1,6 +1,8 @@
 -- Lines that are filed under their pairs: what a look-up finds, and what a change leaves.
-use Rattle.std.proofs.Common.{◌≡◌, ℕ, ◌+◌, ◌<◌, ◌≤◌, List, [], ◌∷◌, Bool, true, false, cond, Option, Some}
-use Rattle.std.proofs.Common.{None, length, slice_get, get_or, refl, sym, ap, subst, ◌∙◌, arith, inl}
+use Rattle.std.proofs.Common.{◌≡◌, ℕ, ◌+◌, ◌<◌, ◌≤◌, List, [], ◌∷◌, Bool, true, false, cond, Option}
+use Rattle.std.proofs.Common.{Some}
+use Rattle.std.proofs.Common.{None, length, slice_get, get_or, refl, sym, ap, subst, ◌∙◌, arith}
+use Rattle.std.proofs.Common.{inl}
 use Rattle.std.proofs.Common.{inr, ◌++◌, length-append}
 use Rattle.std.proofs.lemmas.Bool.Decides.{nat_tests}
 use Rattle.std.proofs.lemmas.Bool.{and_parts, eqb-true}
@@ -14,7 +16,8 @@ use Rattle.std.specs.BTreeSet.{BTreeSet, contains}
 use Rattle.chem_model.specs.Each.{Each}
 use Rattle.lossy_link.specs.declared.line.Line.{Line}
 use Rattle.lossy_link.specs.Lines.{is_between, no_line, line_of, with_line, sent_more, handed_more}
-use Rattle.lossy_link.specs.Lines.{acked_more, raised, flight_from, with_sent, with_handed, with_acked}
+use Rattle.lossy_link.specs.Lines.{acked_more, raised, flight_from, with_sent, with_handed}
+use Rattle.lossy_link.specs.Lines.{with_acked}
 use Rattle.lossy_link.specs.Links.{NoneOpen, NoneIsOpen, HasLeast, Precedes}
 use Rattle.lossy_link.specs.inside.Table.{Pair, Entries, same_pair, pair_cmp, line_in, with_entry}
 use Rattle.lossy_link.specs.inside.Table.{has_open, IsFiled, IsAcked, AreFiled}

@@ -1,5 +1,6 @@
 -- What the type of links keeps, it keeps at each step.
-use Rattle.std.proofs.Common.{◌≡◌, ℕ, ◌+◌, ◌<◌, List, [], ◌∷◌, ◌++◌, Option, Some, None, Bool, true, false}
+use Rattle.std.proofs.Common.{◌≡◌, ℕ, ◌+◌, ◌<◌, List, [], ◌∷◌, ◌++◌, Option, Some, None, Bool, true}
+use Rattle.std.proofs.Common.{false}
 use Rattle.std.proofs.Common.{cond, slice_get, length, refl, sym, ap, subst, ◌∙◌, arith}
 use Rattle.std.proofs.lemmas.List.{length-append}
 use Rattle.std.proofs.lemmas.Option.{slice_get_within, same_Some}
@@ -81,7 +82,8 @@ spelled_sent : (p : FlightFrom) (ls : List Line) → IsMessageFlight p.flight �
 spelled_sent p ls one all =
     let l = line_of p.from p.flight.target ls in
     each_with IsSpelled (sent_more l p.flight.bytes) ls
-    (each_more IsMessageText l.history.sent p.flight.bytes (spelled_line p.from p.flight.target ls all) one) all
+    (each_more IsMessageText
+    l.history.sent p.flight.bytes (spelled_line p.from p.flight.target ls all) one) all
 
 pub spelled_all : (ps : List FlightFrom) (ls : List Line)
     → Each (λ (p : FlightFrom). IsMessageFlight p.flight) ps → AreSpelled ls
