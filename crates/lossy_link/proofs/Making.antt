@@ -4,11 +4,10 @@ use Rattle.std.proofs.Common.{slice_get}
 use Rattle.std.proofs.Common.{length, get_or, replicate, refl, sym, ap, subst, ◌∙◌, arith}
 use Rattle.std.proofs.lemmas.Option.{slice_get_within, slice_get-get_or}
 use Rattle.chem_model.specs.declared.event.Event.{Event}
-use Rattle.env_store.specs.CodeParts.{CodeParts}
 use Rattle.net_core.specs.Acts as acting
 use Rattle.net_core.specs.Choosing.{Allows}
 use Rattle.net_core.specs.Drained.{AreHandedOut}
-use Rattle.net_core.specs.Making.{HasActed, counted}
+use Rattle.net_core.specs.Making.{HasActed}
 use Rattle.net_core.specs.Parts.{without, carried, message_in, IsMessageText}
 use Rattle.net_core.specs.Received.{HasReceived, flight_to, with_last}
 use Rattle.net_core.specs.Senders.{kept}

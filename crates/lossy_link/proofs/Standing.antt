@@ -1,9 +1,8 @@
 -- Each step over links leaves links that stand for what its event leads to.
-use Rattle.std.proofs.Common.{◌≡◌, ℕ, zero, suc, ◌+◌, ◌<◌, List, [], ◌∷◌, ◌++◌, Bool, true, false}
+use Rattle.std.proofs.Common.{◌≡◌, ℕ, ◌+◌, ◌<◌, List, [], ◌∷◌, ◌++◌, Bool, true, false}
 use Rattle.std.proofs.Common.{cond}
 use Rattle.std.proofs.Common.{Option, Some, None, length, slice_get, refl, sym, ap, subst, ◌∙◌}
 use Rattle.std.proofs.Common.{arith}
-use Rattle.std.specs.Prelude.{map}
 use Rattle.chem_model.specs.Each.{Each}
 use Rattle.chem_model.specs.Opening.{root_of}
 use Rattle.chem_model.specs.declared.event.Event.{Event}
@@ -18,12 +17,12 @@ use Rattle.env_store.specs.Laws.{rules_of_group}
 use Rattle.loc_tree.specs.Tree.{Tree}
 use Rattle.wire_packet.specs.GroupFacts.{GroupParts}
 use Rattle.net_laws.specs.Choices.{Leads}
-use Rattle.net_laws.specs.Net.{Addressed, Net, Stands, under_way, IsOnItsWay, among, home_or}
+use Rattle.net_laws.specs.Net.{Addressed, Net, under_way, IsOnItsWay, among, home_or}
 use Rattle.net_laws.specs.Opened.{RunsCode}
 use Rattle.net_core.specs.Acting.{Delivers}
 use Rattle.net_core.specs.Acts.{Acts}
 use Rattle.net_core.specs.Drained.{AreHandedOut}
-use Rattle.net_core.specs.Falling.{is_misdirected, misdirected, deliveries_left}
+use Rattle.net_core.specs.Falling.{misdirected, deliveries_left}
 use Rattle.net_core.specs.Laws.{IsLed, IsLedFrom}
 use Rattle.net_core.specs.Parts.{carried}
 use Rattle.net_core.specs.Playing.{deliver}
