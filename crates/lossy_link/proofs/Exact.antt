@@ -35,7 +35,7 @@ put_four a b c d e x y z u p q r s =
     ∙ append_assoc ((a ++ x) ++ y) z u ∙ append_assoc (a ++ x) y (z ++ u)
     ∙ append_assoc a x (y ++ (z ++ u))
 
-pub regroup : (f t n rest : List ℕ) → (f ++ (t ++ n)) ++ rest ≡ f ++ (t ++ (n ++ rest))
+regroup : (f t n rest : List ℕ) → (f ++ (t ++ n)) ++ rest ≡ f ++ (t ++ (n ++ rest))
 regroup f t n rest =
     append_assoc f (t ++ n) rest ∙ ap (λ (xs : List ℕ). f ++ xs) (append_assoc t n rest)
 

@@ -1,6 +1,8 @@
 -- Lines that are filed under their pairs: what a look-up finds, and what a change leaves.
-use Rattle.std.proofs.Common.{◌≡◌, ℕ, ◌+◌, ◌<◌, ◌≤◌, List, [], ◌∷◌, Bool, true, false, cond, Option, Some}
-use Rattle.std.proofs.Common.{None, length, slice_get, get_or, refl, sym, ap, subst, ◌∙◌, arith, inl}
+use Rattle.std.proofs.Common.{◌≡◌, ℕ, ◌+◌, ◌<◌, ◌≤◌, List, [], ◌∷◌, Bool, true, false, cond}
+use Rattle.std.proofs.Common.{Some}
+use Rattle.std.proofs.Common.{None, length, slice_get, get_or, refl, sym, ap, subst, ◌∙◌, arith}
+use Rattle.std.proofs.Common.{inl}
 use Rattle.std.proofs.Common.{inr, ◌++◌, length-append}
 use Rattle.std.proofs.lemmas.Bool.Decides.{nat_tests}
 use Rattle.std.proofs.lemmas.Bool.{and_parts, eqb-true}
@@ -14,7 +16,8 @@ use Rattle.std.specs.BTreeSet.{BTreeSet, contains}
 use Rattle.chem_model.specs.Each.{Each}
 use Rattle.lossy_link.specs.declared.line.Line.{Line}
 use Rattle.lossy_link.specs.Lines.{is_between, no_line, line_of, with_line, sent_more, handed_more}
-use Rattle.lossy_link.specs.Lines.{acked_more, raised, flight_from, with_sent, with_handed, with_acked}
+use Rattle.lossy_link.specs.Lines.{acked_more, flight_from, with_sent, with_handed}
+use Rattle.lossy_link.specs.Lines.{with_acked}
 use Rattle.lossy_link.specs.Links.{NoneOpen, NoneIsOpen, HasLeast, Precedes}
 use Rattle.lossy_link.specs.inside.Table.{Pair, Entries, same_pair, pair_cmp, line_in, with_entry}
 use Rattle.lossy_link.specs.inside.Table.{has_open, IsFiled, IsAcked, AreFiled}
@@ -151,9 +154,6 @@ set_same f t l (e ∷ es) at = go (same_pair (f, t) e.0) at (set_same f t l es)
 pub pair_is : (f t g u : ℕ) → is_eq (pair_cmp (f, t) (g, u)) ≡ is_between g u f t
 pair_is f t g u = grind arith
 
-pub between_sym : (f t g u : ℕ) → is_between g u f t ≡ is_between f t g u
-between_sym f t g u = grind arith
-
 -- after a line was put, where the set has the pair exactly where it is open
 pub open_put : (f t : ℕ) (l : Line) (es : Entries) (old new : BTreeSet Pair) (b : Bool)
     → l.from ≡ f → l.into ≡ t → Each IsFiled es → b ≡ has_open l
@@ -212,22 +212,6 @@ module _ (f t : ℕ) (old mid : BTreeSet Pair)
       go true is =
           let p = between g u f t is in
           sym absent ∙ ap (λ (n : ℕ). contains pair_cmp old (n, t)) (sym p.0)
-          ∙ ap (λ (n : ℕ). contains pair_cmp old (g, n)) (sym p.1)
-      go false is = refl
-
-  -- one that was there stays
-  pub was_there : contains pair_cmp old (f, t) ≡ true
-      → (g u : ℕ) → contains pair_cmp mid (g, u) ≡ contains pair_cmp old (g, u)
-  was_there there g u =
-      added (g, u)
-      ∙ ap (λ (b : Bool). cond b true (contains pair_cmp old (g, u))) (pair_is f t g u)
-      ∙ go (is_between g u f t) refl
-    where
-      go : (b : Bool) → is_between g u f t ≡ b
-          → cond b true (contains pair_cmp old (g, u)) ≡ contains pair_cmp old (g, u)
-      go true is =
-          let p = between g u f t is in
-          sym there ∙ ap (λ (n : ℕ). contains pair_cmp old (n, t)) (sym p.0)
           ∙ ap (λ (n : ℕ). contains pair_cmp old (g, n)) (sym p.1)
       go false is = refl
 
@@ -390,15 +374,6 @@ module _ (f t : ℕ) (es : Entries) (pairs : BTreeSet Pair) (are : AreFiled es p
           (sym closed) are.open_ones removed;
     })
 
--- nothing is filed
-pub none_filed : (pairs : BTreeSet Pair) → pairs.keys ≡ [] → AreFiled [] pairs
-none_filed pairs none = record {
-  filed = tt;
-  acked = tt;
-  open_ones = λ f t.
-      ap (λ (ks : List Pair). contains pair_cmp (record { keys = ks }) (f, t)) none;
-}
-
 -- the same pairs and the same entries
 pub same_filed : (es now : Entries) (pairs others : BTreeSet Pair) → AreFiled es pairs → now ≡ es
     → ((g u : ℕ) → contains pair_cmp others (g, u) ≡ contains pair_cmp pairs (g, u))
@@ -465,6 +440,3 @@ not_true false e = refl
 pub no_keys : (ks : List Pair) → (0 < length ks → ⊥) → ks ≡ []
 no_keys [] none = refl
 no_keys (k ∷ ks) none = absurd (none (omega arith))
-
-pub none_sent : (l : Line) (f t : ℕ) → l ≡ no_line f t → l.history.sent ≡ []
-none_sent l f t is = ap (λ (k : Line). k.history.sent) is

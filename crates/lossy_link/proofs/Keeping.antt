@@ -1,6 +1,6 @@
 -- What the type of links keeps, it keeps at each step.
-use Rattle.std.proofs.Common.{◌≡◌, ℕ, ◌+◌, ◌<◌, List, [], ◌∷◌, ◌++◌, Option, Some, None, Bool, true, false}
-use Rattle.std.proofs.Common.{cond, slice_get, length, refl, sym, ap, subst, ◌∙◌, arith}
+use Rattle.std.proofs.Common.{◌≡◌, ℕ, ◌<◌, List, [], ◌∷◌, Option, Some, None}
+use Rattle.std.proofs.Common.{slice_get, length, refl, sym, ap, subst, ◌∙◌, arith}
 use Rattle.std.proofs.lemmas.List.{length-append}
 use Rattle.std.proofs.lemmas.Option.{slice_get_within, same_Some}
 use Rattle.std.specs.Prelude.{is_some}
@@ -8,9 +8,7 @@ use Rattle.chem_model.specs.Each.{Each}
 use Rattle.chem_model.specs.declared.event.Event.{Event}
 use Rattle.env_store.specs.CodeFacts.{IsCode}
 use Rattle.env_store.specs.CodeParts.{CodeParts}
-use Rattle.net_laws.specs.Net.{Addressed}
 use Rattle.net_core.specs.Drained.{AreHandedOut}
-use Rattle.net_core.specs.Laws.{IsLedFrom}
 use Rattle.net_core.specs.Parts.{IsMessageFlight, IsMessageText}
 use Rattle.net_core.specs.Whole.{NetParts, RunsSome}
 use Rattle.net_core.specs.declared.drained.FlightFrom.{FlightFrom}
@@ -19,8 +17,8 @@ use Rattle.lossy_link.specs.declared.frame.Frame.TheVariants.{Data, Ack}
 use Rattle.lossy_link.specs.declared.line.Line.{Line}
 use Rattle.lossy_link.specs.declared.step.Step.{Step}
 use Rattle.lossy_link.specs.declared.step.Step.TheVariants.{Arrive}
-use Rattle.lossy_link.specs.Lines.{is_between, line_of, no_line, with_line, with_sent, all_sent}
-use Rattle.lossy_link.specs.Lines.{with_handed, with_acked, sent_more, handed_more, acked_more}
+use Rattle.lossy_link.specs.Lines.{line_of, with_sent, all_sent}
+use Rattle.lossy_link.specs.Lines.{with_handed, sent_more, handed_more, acked_more}
 use Rattle.lossy_link.specs.Lines.{AreUsed, AreInOrder}
 use Rattle.lossy_link.specs.Links.{Links, AreSound, is_act, acts, sends, loses, repeats, takes}
 use Rattle.lossy_link.specs.Links.{drops, learns}
@@ -81,7 +79,8 @@ spelled_sent : (p : FlightFrom) (ls : List Line) → IsMessageFlight p.flight �
 spelled_sent p ls one all =
     let l = line_of p.from p.flight.target ls in
     each_with IsSpelled (sent_more l p.flight.bytes) ls
-    (each_more IsMessageText l.history.sent p.flight.bytes (spelled_line p.from p.flight.target ls all) one) all
+    (each_more IsMessageText
+    l.history.sent p.flight.bytes (spelled_line p.from p.flight.target ls all) one) all
 
 pub spelled_all : (ps : List FlightFrom) (ls : List Line)
     → Each (λ (p : FlightFrom). IsMessageFlight p.flight) ps → AreSpelled ls

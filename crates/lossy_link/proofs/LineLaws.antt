@@ -1,5 +1,6 @@
 -- Lines of pairs: what is read after a change, and what a change keeps.
-use Rattle.std.proofs.Common.{◌≡◌, ℕ, zero, suc, ◌+◌, ◌<◌, ◌≤◌, List, [], ◌∷◌, ◌++◌, Bool, true, false}
+use Rattle.std.proofs.Common.{◌≡◌, ℕ, zero, suc, ◌+◌, ◌<◌, ◌≤◌, List, [], ◌∷◌, ◌++◌, Bool, true}
+use Rattle.std.proofs.Common.{false}
 use Rattle.std.proofs.Common.{cond, length, take, drop, Some, slice_get, refl, sym, ap, subst, ◌∙◌}
 use Rattle.std.proofs.Common.{arith}
 use Rattle.std.specs.Prelude.{◌==◌}
@@ -251,7 +252,8 @@ pub handed_fine : (g u : ℕ) (x : List ℕ) (ls : List Line) → AreFine ls
 handed_fine g u x ls all e =
     let l = line_of g u ls in
     let is = pair_of g u ls in
-    each_line (λ f t k. IsFine k) g u (handed_more l x) ls is.0 is.1 (fine_handed l x (all g u) e) all
+    each_line (λ f t k. IsFine k) g u (handed_more l x) ls is.0 is.1 (fine_handed l x (all g u) e)
+    all
 
 pub handed_grows : (g u : ℕ) (x : List ℕ) (ls : List Line) → AllGrow ls (with_handed g u x ls)
 handed_grows g u x ls =

@@ -1,13 +1,13 @@
 -- The steps that the code makes.
-use Rattle.std.proofs.Common.{◌≡◌, ℕ, ◌+◌, ◌-◌, ◌<◌, List, [], ◌∷◌, ◌++◌, Option, Some, None, slice_get}
+use Rattle.std.proofs.Common.{◌≡◌, ℕ, ◌+◌, ◌-◌, ◌<◌, List, [], ◌∷◌, ◌++◌, Option, Some, None}
+use Rattle.std.proofs.Common.{slice_get}
 use Rattle.std.proofs.Common.{length, get_or, replicate, refl, sym, ap, subst, ◌∙◌, arith}
 use Rattle.std.proofs.lemmas.Option.{slice_get_within, slice_get-get_or}
 use Rattle.chem_model.specs.declared.event.Event.{Event}
-use Rattle.env_store.specs.CodeParts.{CodeParts}
 use Rattle.net_core.specs.Acts as acting
 use Rattle.net_core.specs.Choosing.{Allows}
 use Rattle.net_core.specs.Drained.{AreHandedOut}
-use Rattle.net_core.specs.Making.{HasActed, counted}
+use Rattle.net_core.specs.Making.{HasActed}
 use Rattle.net_core.specs.Parts.{without, carried, message_in, IsMessageText}
 use Rattle.net_core.specs.Received.{HasReceived, flight_to, with_last}
 use Rattle.net_core.specs.Senders.{kept}
@@ -22,7 +22,8 @@ use Rattle.lossy_link.specs.declared.frame.Frame.TheVariants.{Data, Ack}
 use Rattle.lossy_link.specs.declared.line.Line.{Line}
 use Rattle.lossy_link.specs.declared.step.Step.TheVariants.{Act, Send, Lose, Repeat, Arrive}
 use Rattle.lossy_link.specs.Lines.{line_of, all_sent, with_handed, with_acked}
-use Rattle.lossy_link.specs.Links.{Links, IsOpen, IsTrueOf, acts, sends, loses, repeats, takes, drops, learns}
+use Rattle.lossy_link.specs.Links.{Links, IsOpen, IsTrueOf, acts, sends, loses, repeats, takes}
+use Rattle.lossy_link.specs.Links.{drops, learns}
 use Rattle.lossy_link.specs.FrameFormat.{CarriesMessage}
 use Rattle.lossy_link.specs.Over.{AllowsOver, ActsOver, ReceivesOver, StepsTo}
 use Rattle.lossy_link.specs.Whole.{AreSpelled, IsWhole}
@@ -82,7 +83,8 @@ packet_came l new ws i f t n bytes at left (parted.drops other net one lines) =
     λ j. record { net = net j; wire = wire j; lines = lines j } in
     subst (StepsTo l (Arrive i) None) (sym is) (drops i f t n bytes at other)
 
-learned : (l new : LinksOver) (ws : List Frame) (i f t n : ℕ) → slice_get l.wire i ≡ Some (Ack f t n)
+learned : (l new : LinksOver) (ws : List Frame) (i f t n : ℕ)
+    → slice_get l.wire i ≡ Some (Ack f t n)
     → ws ≡ without i l.wire → IsLearned f t n (record l { wire = ws }) new
     → StepsTo l (Arrive i) None new
 learned l new ws i f t n at left h =
@@ -223,7 +225,8 @@ module _ (l : LinksOver) (f t : ℕ) (bytes : List ℕ) where
   pub receive_spelled : (text : List ℕ) → IsWhole l → IsNextPacket → text ≡ bytes
       → IsMessageText text
   receive_spelled text whole next same = subst IsMessageText (sym same)
-      (spelled_at f t (length (line_of f t l.lines).history.handed) bytes l.lines whole.spelled next)
+      (spelled_at f t (length (line_of f t l.lines).history.handed) bytes
+      l.lines whole.spelled next)
 
   pub receive_stands : (text : List ℕ) → IsWhole l → IsNextPacket → text ≡ bytes
       → RunsSome l.net.code (with_last l.net.net t text)

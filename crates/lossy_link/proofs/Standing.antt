@@ -1,7 +1,8 @@
 -- Each step over links leaves links that stand for what its event leads to.
-use Rattle.std.proofs.Common.{◌≡◌, ℕ, zero, suc, ◌+◌, ◌<◌, List, [], ◌∷◌, ◌++◌, Bool, true, false, cond}
-use Rattle.std.proofs.Common.{Option, Some, None, length, slice_get, refl, sym, ap, subst, ◌∙◌, arith}
-use Rattle.std.specs.Prelude.{map}
+use Rattle.std.proofs.Common.{◌≡◌, ℕ, ◌+◌, ◌<◌, List, [], ◌∷◌, ◌++◌, Bool, true, false}
+use Rattle.std.proofs.Common.{cond}
+use Rattle.std.proofs.Common.{Option, Some, None, length, slice_get, refl, sym, ap, subst, ◌∙◌}
+use Rattle.std.proofs.Common.{arith}
 use Rattle.chem_model.specs.Each.{Each}
 use Rattle.chem_model.specs.Opening.{root_of}
 use Rattle.chem_model.specs.declared.event.Event.{Event}
@@ -16,12 +17,12 @@ use Rattle.env_store.specs.Laws.{rules_of_group}
 use Rattle.loc_tree.specs.Tree.{Tree}
 use Rattle.wire_packet.specs.GroupFacts.{GroupParts}
 use Rattle.net_laws.specs.Choices.{Leads}
-use Rattle.net_laws.specs.Net.{Addressed, Net, Stands, under_way, IsOnItsWay, among, home_or}
+use Rattle.net_laws.specs.Net.{Addressed, Net, under_way, IsOnItsWay, among, home_or}
 use Rattle.net_laws.specs.Opened.{RunsCode}
 use Rattle.net_core.specs.Acting.{Delivers}
 use Rattle.net_core.specs.Acts.{Acts}
 use Rattle.net_core.specs.Drained.{AreHandedOut}
-use Rattle.net_core.specs.Falling.{is_misdirected, misdirected, deliveries_left}
+use Rattle.net_core.specs.Falling.{misdirected, deliveries_left}
 use Rattle.net_core.specs.Laws.{IsLed, IsLedFrom}
 use Rattle.net_core.specs.Parts.{carried}
 use Rattle.net_core.specs.Playing.{deliver}
@@ -49,7 +50,8 @@ use Rattle.lossy_link.proofs.Weights.{weight_append, all_sent_weight, handed_wei
 -- ---- the same packets in another order
 
 runs_alike : (p : ProgramTerms) (c : CodeParts) (net : Net) (qs : List Addressed)
-    → RunsCode p c net → Each (IsOnItsWay (length net.sites)) qs → RunsCode p c (with_packets qs net)
+    → RunsCode p c net → Each (IsOnItsWay (length net.sites)) qs
+    → RunsCode p c (with_packets qs net)
 runs_alike p c net qs runs each = record {
   version = runs.version;
   seen = runs.seen;
@@ -158,7 +160,8 @@ module _ (net : Net) (f t : ℕ) (bytes : List ℕ) (ls : List Line)
       ap (λ (xs : List Addressed). under_way xs a)
       (sym (flights_append (pending rest) (packet ∷ [])))
       ∙ alike_under_way (pending rest ++ packet ∷ []) (pending ls)
-      (λ w. weight_append w (pending rest) (packet ∷ []) ∙ alone w (handed_weight w f t bytes ls at))
+      (λ w.
+      weight_append w (pending rest) (packet ∷ []) ∙ alone w (handed_weight w f t bytes ls at))
       a
     where
       alone : (w : FlightFrom → ℕ)
@@ -294,5 +297,6 @@ receipt_falls net new f t bytes out ls drained fine at some comes =
     let fell : weight w (pending ls) ≡ weight w (pending (all_sent out left)) + 1 = omega arith in
     let tree : new.net.tree ≡ before =
     ap (λ (m : NetParts). m.net.tree) comes.handed_out.left ∙ kept in
-    subst (λ (t : Tree). weight w (pending ls) ≡ weight (weighs t) (pending (all_sent out left)) + 1)
+    subst
+    (λ (t : Tree). weight w (pending ls) ≡ weight (weighs t) (pending (all_sent out left)) + 1)
     (sym tree) fell

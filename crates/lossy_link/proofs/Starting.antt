@@ -6,11 +6,10 @@ use Rattle.net_core.specs.Drained.{AreHandedOut}
 use Rattle.net_core.specs.Laws.{IsLedFrom}
 use Rattle.net_core.specs.Whole.{NetParts, RunsSome}
 use Rattle.net_core.specs.declared.drained.FlightFrom.{FlightFrom}
-use Rattle.lossy_link.specs.declared.frame.Frame.{Frame}
 use Rattle.lossy_link.specs.declared.line.Line.{Line}
 use Rattle.lossy_link.specs.Lines.{all_sent, AreFine}
 use Rattle.lossy_link.specs.Links.{Links}
-use Rattle.lossy_link.specs.Standing.{net_of_links, whole_net}
+use Rattle.lossy_link.specs.Standing.{net_of_links}
 use Rattle.lossy_link.specs.Whole.{HasStarted, IsWhole}
 use Rattle.lossy_link.proofs.Keeping.{used_all, spelled_all}
 use Rattle.lossy_link.proofs.LineLaws.{all_sent_fine, no_line_fine}

@@ -1,18 +1,17 @@
 -- Lists of steps that are made one after another.
-use Rattle.std.proofs.Common.{◌≡◌, ℕ, ◌+◌, ◌<◌, ◌≤◌, List, [], ◌∷◌, ◌++◌, length, take, drop, get_or}
-use Rattle.std.proofs.Common.{Option, Some, None, Bool, true, false, refl, sym, ap, ◌∙◌, subst, arith}
+use Rattle.std.proofs.Common.{◌≡◌, ℕ, ◌+◌, ◌<◌, ◌≤◌, List, [], ◌∷◌, ◌++◌, length, take, drop}
+use Rattle.std.proofs.Common.{get_or}
+use Rattle.std.proofs.Common.{Option, Some, None, Bool, true, false, refl, sym, ap, ◌∙◌, subst}
+use Rattle.std.proofs.Common.{arith}
 use Rattle.std.proofs.Common.{length-append}
 use Rattle.std.specs.Prelude.{IsTrue, ◌↔◌}
 use Rattle.std.proofs.lemmas.List.{take_more, drop_more, drop_all}
 use Rattle.chem_model.specs.declared.event.Event.{Event}
 use Rattle.chem_model.specs.Apply.{replay_from}
 use Rattle.env_store.specs.CodeParts.{CodeParts}
-use Rattle.net_core.specs.Drained.{AreHandedOut}
-use Rattle.net_core.specs.Laws.{IsLedFrom}
 use Rattle.net_core.specs.Making.{counted}
 use Rattle.net_core.specs.Played.{Replays}
 use Rattle.net_core.specs.Whole.{NetParts}
-use Rattle.net_core.specs.declared.drained.FlightFrom.{FlightFrom}
 use Rattle.net_core.specs.declared.plays.Played.{Played}
 use Rattle.lossy_link.specs.declared.step.Step.{Step}
 use Rattle.lossy_link.specs.Links.{Links, acts, sends, loses, repeats, takes, drops, learns, stops}

@@ -1,6 +1,6 @@
 -- What holds of each packet that the lines still have to deliver, as messages under way.
-use Rattle.std.proofs.Common.{◌≡◌, ℕ, zero, suc, List, [], ◌∷◌, ◌++◌, Bool, true, false, cond, Some}
-use Rattle.std.proofs.Common.{length, drop, slice_get, refl, sym, ap, subst, ◌∙◌, ◌+◌}
+use Rattle.std.proofs.Common.{◌≡◌, ℕ, List, [], ◌∷◌, ◌++◌, Bool, true, false, cond, Some}
+use Rattle.std.proofs.Common.{length, slice_get, refl, sym, ap, subst, ◌∙◌, ◌+◌}
 use Rattle.chem_model.specs.Each.{Each}
 use Rattle.chem_model.specs.declared.numbered.NumberedAtom.{NumberedAtom}
 use Rattle.chem_model.specs.Bag.{one}

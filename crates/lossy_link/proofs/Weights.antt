@@ -1,6 +1,7 @@
 -- What the lines still have to deliver, weighed: a packet that leaves adds to it, and one that is
 -- handed out is taken from it.
-use Rattle.std.proofs.Common.{◌≡◌, ℕ, ◌+◌, List, [], ◌∷◌, ◌++◌, Bool, true, false, cond, length, drop}
+use Rattle.std.proofs.Common.{◌≡◌, ℕ, ◌+◌, List, [], ◌∷◌, ◌++◌, Bool, true, false, cond, length}
+use Rattle.std.proofs.Common.{drop}
 use Rattle.std.proofs.Common.{Some, slice_get, sym, ap, subst, ◌∙◌, arith}
 use Rattle.std.proofs.lemmas.List.{length-append, drop-append-le}
 use Rattle.net_core.specs.declared.drained.FlightFrom.{FlightFrom}

@@ -1,7 +1,7 @@
 -- What passed between sites: a line for each ordered pair of sites that sent a packet. The
 -- receiver's next number is how many packets of the pair it was given.
-use Rattle.std.specs.Prelude.{◌≡◌, ℕ, ◌+◌, ◌-◌, ◌≤◌, ◌<◌, ◌==◌, List, [], ◌∷◌, ◌++◌, Bool, ◌&&◌, cond}
-use Rattle.std.specs.Prelude.{length, take, drop}
+use Rattle.std.specs.Prelude.{◌≡◌, ℕ, ◌+◌, ◌-◌, ◌≤◌, ◌<◌, ◌==◌, List, [], ◌∷◌, ◌++◌, length}
+use Rattle.std.specs.Prelude.{take, drop, Bool, ◌&&◌, cond}
 use Rattle.chem_model.specs.Each.{Each}
 use Rattle.net_core.specs.declared.drained.FlightFrom.{FlightFrom}
 use Rattle.lossy_link.specs.declared.line.Line.{Line}

@@ -1,6 +1,6 @@
 -- Links that lose, repeat and reorder packets, over any network.
-use Rattle.std.specs.Prelude.{◌≡◌, ℕ, ◌+◌, ◌<◌, ◌≤◌, List, [], ◌∷◌, ◌++◌, length, Option, Some, None}
-use Rattle.std.specs.Prelude.{slice_get, Bool, true, false, ◌⊎◌}
+use Rattle.std.specs.Prelude.{◌≡◌, ℕ, ◌+◌, ◌<◌, ◌≤◌, List, [], ◌∷◌, ◌++◌, length, slice_get}
+use Rattle.std.specs.Prelude.{Option, Some, None, Bool, true, false, ◌⊎◌}
 use Rattle.chem_model.specs.Each.{Each}
 use Rattle.chem_model.specs.declared.event.Event.{Event}
 use Rattle.net_core.specs.Parts.{without}

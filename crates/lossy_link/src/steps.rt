@@ -149,7 +149,8 @@ fn take_in(
     bytes: Text,
 ) -> Result<(), Memory>
     requires whole { IsWhole (links_of parts.old) }
-    requires there { slice_get (line_of from into parts.old.lines).history.sent number ≡ Some bytes }
+    requires there { slice_get (line_of from into parts.old.lines).history.sent number
+        ≡ Some bytes }
     ensures { OnOk result (ComesIn from into number bytes (links_of parts.old)
         (links_of parts.new)) }
 {

@@ -5,7 +5,6 @@ use Rattle.net_core.specs.Whole.{NetParts}
 use Rattle.net_core.specs.declared.drained.FlightFrom.{FlightFrom}
 use Rattle.lossy_link.specs.declared.frame.Frame.{Frame}
 use Rattle.lossy_link.specs.declared.frame.Frame.TheVariants.{Data, Ack}
-use Rattle.lossy_link.specs.declared.line.Line.{Line}
 use Rattle.lossy_link.specs.declared.step.Step.{Step}
 use Rattle.lossy_link.specs.Lines.{line_of, all_sent, with_handed, with_acked}
 use Rattle.lossy_link.specs.Links.{Links}

@@ -24,7 +24,8 @@ returns-clause-err c =
     let put : new.entries ≡ set_value (same_pair (c.args.from, c.args.into)) es
     c.note_handed.new.line = search rules in
     on_err_weaker c.note_handed.result (λ same. unwritten c.args.from c.args.into es new.entries
-    c.in-Some.line.now c.note_handed.new.line c.in-Some.ensures.value put same) c.note_handed.ensures.err
+    c.in-Some.line.now c.note_handed.new.line c.in-Some.ensures.value put same)
+    c.note_handed.ensures.err
 
 pub unreachable-requires : goal.unreachable-requires
 unreachable-requires c = some_found c.args.from c.args.into c.args.table.now.entries

@@ -24,4 +24,5 @@ returns-clause-err c =
     let put : new.entries ≡ set_value (same_pair (c.args.from, c.args.into)) es
     c.note_sent.new.line = search rules in
     on_err_weaker c.note_sent.result (λ same. unwritten c.args.from c.args.into es new.entries
-    c.in-Some.line.now c.note_sent.new.line c.in-Some.ensures.value put same) c.note_sent.ensures.err
+    c.in-Some.line.now c.note_sent.new.line c.in-Some.ensures.value put same)
+    c.note_sent.ensures.err

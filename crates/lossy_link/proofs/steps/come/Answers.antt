@@ -1,4 +1,4 @@
-use Rattle.std.proofs.Common.{◌≤◌, length, refl, sym, subst, arith}
+use Rattle.std.proofs.Common.{refl, sym, subst, arith}
 use Rattle.lossy_link.specs.declared.frame.Frame.{Frame}
 use Rattle.net_core.specs.Whole.{NetParts}
 use Rattle.lossy_link.specs.Links.{Links, IsTrueOf}

@@ -1,4 +1,3 @@
-use Rattle.std.proofs.Common.{◌≡◌, ℕ, List, Some, length, slice_get, sym, subst, ap, ◌∙◌}
 use Rattle.std.proofs.lemmas.Result.{on_ok_weaker}
 use Rattle.lossy_link.specs.Whole.{links_of}
 use Rattle.lossy_link.proofs.Making.{received, receive_site, receive_spelled, receive_stands}

@@ -1,6 +1,5 @@
 use Rattle.std.proofs.Common.{ap, ◌∙◌}
 use Rattle.lossy_link.specs.Lines.{all_sent}
-use Rattle.lossy_link.specs.Whole.{links_of, HasStarted}
 use Rattle.lossy_link.proofs.Starting.{started_leads, started_whole}
 use Rattle.lossy_link.proofs.steps.start.Goals as goal
 

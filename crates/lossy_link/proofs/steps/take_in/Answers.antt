@@ -1,5 +1,5 @@
 use Rattle.std.proofs.lemmas.Result.{on_ok_weaker}
-use Rattle.std.proofs.Common.{◌≡◌, Some, length, slice_get, sym, subst, ◌∙◌}
+use Rattle.std.proofs.Common.{◌∙◌}
 use Rattle.lossy_link.specs.Whole.{links_of}
 use Rattle.lossy_link.proofs.Making.{dropped, taken}
 use Rattle.lossy_link.proofs.Stepping.{next_there}

@@ -1,4 +1,4 @@
-use Rattle.std.proofs.Common.{◌≡◌, ◌∙◌, [], List, arith, sym, subst, drop, length}
+use Rattle.std.proofs.Common.{◌≡◌, ◌∙◌, List, arith, sym, subst, drop, length}
 use Rattle.chem_model.specs.declared.event.Event.{Event}
 use Rattle.net_core.specs.declared.plays.PlayStop.{PlayStop}
 use Rattle.lossy_link.specs.Played.{Stops}
