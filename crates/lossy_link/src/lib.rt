@@ -1,5 +1,5 @@
 //! Links that lose, repeat and reorder the packets between the sites of a network: the frames on
-//! the wire and their bytes, and the steps of a network over links.
+//! the wire and their bytes, the steps of a network over links, and the run of a network over them.
 #![tactic(auto)]
 
 mod frame;
