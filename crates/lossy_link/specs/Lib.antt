@@ -11,3 +11,4 @@ pub mod Ending
 pub mod Settling
 pub mod OverBook
 pub mod inside
+pub mod Laws

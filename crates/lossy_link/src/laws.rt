@@ -1,6 +1,20 @@
-// The laws of runs over links.
+// The laws of steps and of runs over links.
+ghost use Rattle.lossy_link.specs.Laws.{StepsLead, ListsReplayOverLinks};
 ghost use Rattle.lossy_link.specs.OverBook.{JournalsOverLinksAreOne, CountsOverLinksAreOne};
 ghost use Rattle.lossy_link.specs.OverBook.{HasOneRunWithoutLinks, LossIsHidden};
+
+/// A step over links, whatever it is, keeps what their type keeps, and the links stand for what its
+/// event leads to, from each solution for which they stood; without one they stand for the same. It
+/// does nothing.
+pub fn steps_lead()
+    ensures { StepsLead }
+{}
+
+/// Any list of steps keeps it too: its events replay from each solution for which the links stood,
+/// and of each pair of sites what was handed over is the front of what was sent. It does nothing.
+pub fn lists_replay_over_links()
+    ensures { ListsReplayOverLinks }
+{}
 
 /// A program's code has at most one run without links for each budget. It does nothing.
 pub fn journals_over_links_are_one()

@@ -113,8 +113,8 @@ impl LinkNet {
         self.parts.lines.history_of(from, into)
     }
 
-    // What its type keeps. It does nothing.
-    fn is_kept(&self)
+    /// The facts of `IsWhole` hold. It does nothing.
+    pub fn is_kept(&self)
         ensures { IsWhole self.now }
     {
         let _frames = self.parts.wire.len();
