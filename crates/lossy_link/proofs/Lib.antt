@@ -27,3 +27,4 @@ pub mod Texts
 pub mod SoFar
 pub mod Starting
 pub mod StepsMade
+pub mod Wanting

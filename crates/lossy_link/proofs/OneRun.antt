@@ -51,7 +51,7 @@ least_one ls f t m g u n xs ys a b = go (pairs_order f t g u)
         let two = is_open ls g u n ys b in
         absurd (omega arith)
 
-not_both : (ls : List Line) (f t m : ℕ) (bytes : List ℕ) → IsLeastOpen ls f t m bytes
+pub not_both : (ls : List Line) (f t m : ℕ) (bytes : List ℕ) → IsLeastOpen ls f t m bytes
     → NoneIsOpen ls → ⊥
 not_both ls f t m bytes h none =
     let one = none f t in

@@ -1,7 +1,7 @@
 -- Turns and sends of the schedule: what they leave to do, what the links then stand for, and that
 -- they come before the rest of a run.
 use Rattle.std.proofs.Common.{◌≡◌, ℕ, zero, suc, ◌+◌, ◌<◌, ◌≤◌, List, [], ◌∷◌, ◌++◌, Some, None}
-use Rattle.std.proofs.Common.{length, refl, sym, subst, ◌∙◌, arith}
+use Rattle.std.proofs.Common.{length, refl, sym, ap, subst, ◌∙◌, arith}
 use Rattle.std.proofs.lemmas.List.{length-append}
 use Rattle.env_store.specs.CodeParts.{CodeParts}
 use Rattle.env_store.specs.Reading.{IsCodeOf}
@@ -18,10 +18,11 @@ use Rattle.lossy_link.specs.Over.{StepsTo}
 use Rattle.lossy_link.specs.Schedule as schedule
 use Rattle.lossy_link.specs.Schedule.{counted, nothing_counted, both, next_turn, RunsOver}
 use Rattle.lossy_link.specs.Settling.{AreCounted, StandAsBefore, ComesBefore, IsTurned, Settles}
-use Rattle.lossy_link.specs.Settling.{GoesOnce}
+use Rattle.lossy_link.specs.Settling.{GoesOnce, IsSettled}
 use Rattle.lossy_link.specs.Standing.{LinksLead, ReceiptFalls, net_of_links}
 use Rattle.lossy_link.proofs.Apart.{apart_step}
 use Rattle.lossy_link.proofs.Counting.{both_assoc, both_none, counts_on, counted_none}
+use Rattle.lossy_link.proofs.OneRun.{not_both}
 use Rattle.lossy_link.proofs.StepsMade.{step_code, step_events}
 use Rattle.lossy_link.proofs.Endings.{at_wire, Lowers, send_lowers, turn_0, turn_1, turn_2, turn_3}
 
@@ -175,6 +176,16 @@ send_before : (l new : Links NetParts) (v f t m : ℕ) (bytes : List ℕ) → l.
 send_before l new v f t m bytes is least step budget k es n end more =
     schedule.sends v k l new end f t m bytes es n is least step more
 
+-- what is on the wire is to do, and so is what isn't acknowledged
+pub not_settled : (l : Links NetParts) → 0 < length l.wire → IsSettled l → ⊥
+not_settled l some settled =
+    let none : length l.wire ≡ 0 = ap (λ (ws : List Frame). length ws) settled.bare in
+    omega arith
+
+pub not_acknowledged : (l : Links NetParts) (f t m : ℕ) (bytes : List ℕ)
+    → IsLeastOpen l.lines f t m bytes → IsSettled l → ⊥
+not_acknowledged l f t m bytes least settled = not_both l.lines f t m bytes least settled.none
+
 pub once_turned : (l new : Links NetParts) (v w : ℕ) (a b : LinkCounts) → 0 < length l.wire
     → w ≡ next_turn v → IsTurned l v a new b → GoesOnce l v a new b (Some w)
 once_turned l new v w a b some is turned =
@@ -193,6 +204,7 @@ once_turned l new v w a b some is turned =
         stands = turned.stands;
       },
       turned.less,
+      not_settled l some,
     )
 
 pub once_sent : (l new : Links NetParts) (v f t m : ℕ) (bytes : List ℕ) (a b : LinkCounts)
@@ -209,6 +221,7 @@ once_sent l new v f t m bytes a b bare kind least step stands tally =
         stands = stands;
       },
       low.1,
+      not_acknowledged l f t m bytes least,
     )
 
 pub settles_none : (l : Links NetParts) (v : ℕ) (a : LinkCounts) → v < 4

@@ -85,11 +85,11 @@ pub record IsSettled (l : Links NetParts) : Type 0 where
   pub bare : l.wire ≡ []
   pub none : NoneIsOpen l.lines
 
--- one turn or one send, and what is left to do is less; or nothing is to do
+-- something is to do, and by one turn or one send what is left to do is less; or nothing is to do
 abbrev pub GoesOnce :
     Links NetParts → ℕ → LinkCounts → Links NetParts → LinkCounts → Option ℕ → Type 0
 GoesOnce old v counts new more (Some w) =
-    Settles old v counts new w more × (left_by w new < left_by v old)
+    Settles old v counts new w more × (left_by w new < left_by v old) × (IsSettled old → ⊥)
 GoesOnce old v counts new more None = (new ≡ old) × (more ≡ counts) × IsSettled old
 
 -- ---- choices

@@ -1,5 +1,5 @@
 // The schedule of a run over links.
-ghost use Rattle.std.specs.Prelude.{◌≡◌, ◌+◌, ◌<◌, ◌≤◌, ◌^◌, [], length, IfOk, OnOk};
+ghost use Rattle.std.specs.Prelude.{◌≡◌, ◌+◌, ◌<◌, ◌≤◌, ◌^◌, ◌⊎◌, [], length, IfOk, OnOk, OnErr};
 ghost use Rattle.chem_model.specs.ProgramFacts.{IsProgram};
 ghost use Rattle.trace_history.specs.Book.{Replays};
 ghost use Rattle.env_store.specs.CodeFacts.{IsCode};
@@ -146,6 +146,7 @@ fn go_once(
     ensures goes { IfOk result (GoesOnce (links_of parts.old) kind counts.old (links_of parts.new)
         counts.new) }
     ensures whole { OnOk result (IsWhole (links_of parts.new)) }
+    ensures left { OnErr result (IsSettled (links_of parts.old) → ⊥) }
 {
     if parts.wire.len() > 0 {
         turn(alloc, parts, kind, counts)?;
@@ -176,6 +177,7 @@ fn settle(
         (links_of parts.new) next counts.new) }
     ensures settled { OnOk result (IsSettled (links_of parts.new)) }
     ensures whole { OnOk result (IsWhole (links_of parts.new)) }
+    ensures left { OnErr result (IsSettled (links_of parts.old) → ⊥) }
 {
     let mut kind = kind;
     while let Some(next) = go_once(alloc, parts, kind, counts)? {
@@ -224,6 +226,8 @@ fn run(
     ensures run { OnOk result (HasRun budget kind (links_of parts.old) book.old counts.old
         (links_of parts.new) book.new counts.new) }
     ensures whole { OnOk result (IsWhole (links_of parts.new)) }
+    ensures left { OnErr result ((length book.old.journal < budget)
+        ⊎ (IsSettled (links_of parts.old) → ⊥)) }
 {
     let mut kind = kind;
     'choices: loop {
@@ -269,7 +273,9 @@ fn over_links(
     requires within { length book.old.journal ≤ budget }
     requires loss { loss < 4 }
     requires one { AreOne book.old net net.net }
-    ensures { IfOk result (λ counts. HasRunFrom budget loss net book.old book.new counts) }
+    ensures run { IfOk result (λ counts. HasRunFrom budget loss net book.old book.new counts) }
+    ensures left { OnErr result ((length book.old.journal < budget)
+        ⊎ (net.net.packets ≡ [] → ⊥)) }
 {
     let mut parts = start(alloc, net)?;
     let mut counts = LinkCounts {
@@ -300,7 +306,8 @@ fn over_links(
 /// the first. Else the least packet that isn't acknowledged is sent, of the least pair that has
 /// one, by the two sites in order. Else the choice is made that is next. Each packet is delivered
 /// once, and in the order of its pair: so the journal is that of the run without links, whatever
-/// `loss` is. Book and network are dropped where there is no memory.
+/// `loss` is. It takes memory only where a packet is under way or the budget leaves an event; book
+/// and network are dropped where there is none.
 pub fn lossy(
     alloc: Global,
     net: Net,
@@ -316,6 +323,7 @@ pub fn lossy(
     ensures whole { IfOk result (λ done. book.journal ≡ []
         → net ≡ opened_parts book.program.version net.code
         → LossyOf book.program net.code budget loss done.0.journal done.1) }
+    ensures left { OnErr result ((length book.journal < budget) ⊎ (net.net.packets ≡ [] → ⊥)) }
 {
     are_one(&net, &book);
     stuck_is_quiet();

@@ -1,5 +1,6 @@
 // The steps over links.
-ghost use Rattle.std.specs.Prelude.{◌≡◌, ◌-◌, ◌<◌, ◌^◌, Some, None, IfOk, OnOk, length, slice_get};
+ghost use Rattle.std.specs.Prelude.{◌≡◌, ◌-◌, ◌<◌, ◌^◌, [], Some, None, IfOk, OnOk, OnErr, length};
+ghost use Rattle.std.specs.Prelude.{slice_get};
 ghost use Rattle.net_core.specs.Laws.{IsLedFrom};
 ghost use Rattle.lossy_link.specs.declared.step.Step.TheVariants as step;
 ghost use Rattle.lossy_link.specs.Lines.{all_sent, line_of};
@@ -20,7 +21,8 @@ use std::alloc::Global;
 
 // Packets get the next numbers of their pairs, in order.
 fn leave_all(alloc: Global, lines: &mut Lines, packets: FlightFroms) -> Result<(), Memory>
-    ensures { OnOk result (lines.new ≡ all_sent packets lines.old) }
+    ensures sent { OnOk result (lines.new ≡ all_sent packets lines.old) }
+    ensures left { OnErr result (packets ≡ [] → ⊥) }
 {
     let mut left = packets;
     while let Some(packet) = left.next() {
@@ -36,6 +38,7 @@ pub(crate) fn start(alloc: Global, net: Net) -> Result<Parts, Memory>
     ensures whole { IfOk result (λ parts. IsWhole (links_of parts)) }
     ensures leads { IfOk result (λ parts.
         IsLedFrom net.net None (net_of_links (links_of parts)) net.code) }
+    ensures left { OnErr result (net.net.packets ≡ [] → ⊥) }
 {
     let mut net = net;
     net.code_is_kept();

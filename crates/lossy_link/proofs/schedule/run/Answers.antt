@@ -1,8 +1,9 @@
 -- Between two choices the links settle; the run ends with the budget, or where no choice is next.
-use Rattle.std.proofs.Common.{◌≡◌, ◌<◌, ◌≤◌, ◌∙◌, ap, arith, length}
+use Rattle.std.proofs.Common.{◌≡◌, ◌<◌, ◌≤◌, ◌∙◌, ap, arith, length, inl, inr}
 use Rattle.lossy_link.specs.Whole.{links_of}
 use Rattle.lossy_link.proofs.Coming.{has_begun, has_settled, has_made, has_spent, has_rested}
 use Rattle.lossy_link.proofs.Coming.{next_over, length_made}
+use Rattle.lossy_link.proofs.Wanting.{on_err, grown, wanted}
 use Rattle.lossy_link.proofs.schedule.run.Goals as goal
 
 pub choices-init : goal.choices-init
@@ -11,6 +12,7 @@ choices-init c = record {
       c.args.counts.now c.requires.kind c.requires.bare c.requires.one c.requires.apart
       c.requires.within;
   whole = c.requires.whole;
+  past = inr (λ s. s);
 }
 
 pub make_next-requires-clause-allowed : goal.make_next-requires-clause-allowed
@@ -74,7 +76,28 @@ choices-preserved c =
           c.make_next.new.book c.in_ok-kind.ensures.settled few
           (rw c.in-Some.is at c.next.ensures.some) c.in_ok-make_next.ensures.makes;
       whole = c.in_ok-make_next.ensures.whole;
+      past = inl (omega (
+        arith,
+        grown c.args.book.now.journal come.made c.choices.book.journal come.journal,
+        length_made c.choices.book.journal c.make_next.new.book.journal
+            c.in_ok-make_next.ensures.makes.event c.in_ok-make_next.ensures.makes.journal,
+      ));
     }
+
+pub returns-in_err-kind-clause-left : goal.returns-in_err-kind-clause-left
+returns-in_err-kind-clause-left c =
+    on_err c.from_residual.result (wanted c.args.budget c.args.book.now.journal
+    c.choices.book.journal c.choices.invariant.come.within c.choices.invariant.past
+    c.in_err-kind.ensures.left)
+
+pub returns-in_err-make_next-clause-left : goal.returns-in_err-make_next-clause-left
+returns-in_err-make_next-clause-left c =
+    let come = c.choices.invariant.come in
+    let same : c.len.result ≡ length c.choices.book.journal =
+    c.len.ensures.count ∙ ap length c.journal.ensures in
+    let few : length c.choices.book.journal < c.args.budget = omega arith in
+    let grows = grown c.args.book.now.journal come.made c.choices.book.journal come.journal in
+    on_err c.from_residual-in_err-make_next.result (inl (omega arith))
 
 pub choices-smaller : goal.choices-smaller
 choices-smaller c =

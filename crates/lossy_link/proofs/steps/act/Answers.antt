@@ -20,7 +20,7 @@ returns-clause-steps c =
     c.args.choice.now c.in-Some.event c.drain-packets.result
     (acts_over c.args.parts.now.net c.act.new.self c.drain-packets.new.self c.args.choice.now
     c.in-Some.event c.drain-packets.result did c.drain-packets.ensures)
-    c.in_ok-leave_all-in-Some.ensures
+    c.in_ok-leave_all-in-Some.ensures.sent
 
 pub returns-clause-whole : goal.returns-clause-whole
 returns-clause-whole c =

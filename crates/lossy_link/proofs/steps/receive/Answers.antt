@@ -28,4 +28,4 @@ returns c = on_ok_weaker c.leave_all.result (λ lines. received (links_of c.args
     c.args.from c.args.into c.args.bytes c.receive.new.self c.drain-packets.new.self
     c.as_slice.result.now c.drain-packets.result c.hand.new.self c.leave_all.new.lines
     c.as_slice.ensures.members c.in_ok-receive.ensures.ok c.drain-packets.ensures
-    c.in_ok-hand.ensures lines) c.leave_all.ensures
+    c.in_ok-hand.ensures lines) c.leave_all.ensures.sent
