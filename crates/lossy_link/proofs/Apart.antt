@@ -15,7 +15,7 @@ use Rattle.lossy_link.specs.Links.{Links, NoneIsOpen, acts, sends, loses, repeat
 use Rattle.lossy_link.specs.Links.{learns}
 use Rattle.lossy_link.specs.Over.{StepsTo}
 use Rattle.lossy_link.specs.Pending.{of_texts, pending}
-use Rattle.lossy_link.specs.Settling.{AreApart}
+use Rattle.lossy_link.specs.inside.Settling.{AreApart}
 use Rattle.lossy_link.proofs.LineLaws.{between, same_pair}
 
 abbrev Differs : Line → Line → Type 0

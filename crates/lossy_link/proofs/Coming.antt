@@ -24,14 +24,14 @@ use Rattle.net_core.specs.Whole.{NetParts}
 use Rattle.net_core.proofs.Picking.{IsFine, next_allowed}
 use Rattle.lossy_link.specs.declared.schedule.LinkCounts.{LinkCounts}
 use Rattle.lossy_link.specs.declared.step.Step.TheVariants.{Act}
-use Rattle.lossy_link.specs.Ending.{IsAtTurn, none}
+use Rattle.lossy_link.specs.inside.Ending.{IsAtTurn, none}
 use Rattle.lossy_link.specs.Links.{Links, acts}
 use Rattle.lossy_link.specs.OverBook.{StandForOne}
 use Rattle.lossy_link.specs.Over.{StepsTo, AllowsOver}
 use Rattle.lossy_link.specs.Schedule as schedule
 use Rattle.lossy_link.specs.Schedule.{counted, nothing_counted, both, RunsOver, RestsOver}
-use Rattle.lossy_link.specs.Settling.{Settles, IsSettled, AreOne, AreOneOver}
-use Rattle.lossy_link.specs.Settling.{MakesEvent, HasCome, HasRun, AreApart}
+use Rattle.lossy_link.specs.inside.Settling.{Settles, IsSettled, AreOne, AreOneOver}
+use Rattle.lossy_link.specs.inside.Settling.{MakesEvent, HasCome, HasRun, AreApart}
 use Rattle.lossy_link.specs.Standing.{LinksLead, net_of_links, flights}
 use Rattle.lossy_link.specs.Whole.{IsWhole, HasStarted}
 use Rattle.lossy_link.proofs.Apart.{apart_step, apart_sent, settled_none}

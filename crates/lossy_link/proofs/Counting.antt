@@ -2,7 +2,7 @@
 use Rattle.std.proofs.Common.{◌≡◌, ℕ, ◌+◌, ◌<◌, ◌^◌, ◌∙◌, arith}
 use Rattle.lossy_link.specs.declared.schedule.LinkCounts.{LinkCounts}
 use Rattle.lossy_link.specs.Schedule.{most, capped, counted, nothing_counted, both}
-use Rattle.lossy_link.specs.Settling.{AreCounted}
+use Rattle.lossy_link.specs.inside.Settling.{AreCounted}
 
 pub both_assoc : (a b c : LinkCounts) → both (both a b) c ≡ both a (both b c)
 both_assoc a b c =

@@ -19,8 +19,9 @@ use Rattle.lossy_link.specs.Lines.{line_of}
 use Rattle.lossy_link.specs.Links.{Links}
 use Rattle.lossy_link.specs.Over.{ActsOver, ReceivesOver}
 use Rattle.lossy_link.specs.OverBook.{RunsFrom, RunsOverLinks, LossyOf, LossIsHidden, opened_parts}
-use Rattle.lossy_link.specs.Schedule.{Carries, NextOver, RestsOver, capped, nothing_counted}
-use Rattle.lossy_link.specs.Settling.{AreOne, HasRun, HasRunFrom}
+use Rattle.lossy_link.specs.Schedule.{RunsWithoutLinks, NextOver, RestsOver, capped}
+use Rattle.lossy_link.specs.Schedule.{nothing_counted}
+use Rattle.lossy_link.specs.inside.Settling.{AreOne, HasRun, HasRunFrom}
 use Rattle.lossy_link.specs.Whole.{HasStarted, IsWhole}
 use Rattle.lossy_link.proofs.Coming.{one_at_rest}
 use Rattle.lossy_link.proofs.Counting.{counted_all}
@@ -38,11 +39,11 @@ loss_is_hidden budget loss k net es counts end r =
     let brings =
     runs_bring NetParts ActsOver ReceivesOver NextOver RestsOver budget loss k 0 0 m start r.last
     packets es r.total good r.runs in
-    let carries : Carries budget k (joined packets start.net) es r.last.net =
+    let carries : RunsWithoutLinks budget k (joined packets start.net) es r.last.net =
     brings_carry budget k start.net r.last.net packets es
     (bare_out net start.net packets r.starts.handed_out) brings in
-    subst (Carries budget k net es) r.end_is
-    (subst (λ (n : NetParts). Carries budget k n es r.last.net)
+    subst (RunsWithoutLinks budget k net es) r.end_is
+    (subst (λ (n : NetParts). RunsWithoutLinks budget k n es r.last.net)
     (joined_out net start.net packets r.starts.handed_out) carries)
 
 -- a run from started links, whose counts are handed out
@@ -74,7 +75,7 @@ module _ (law : StuckIsQuiet) (budget loss : ℕ) (net : NetParts) (book after :
     end_is = refl;
   }
 
-  carried : Carries budget (length book.journal) net r.run.made r.last.net
+  carried : RunsWithoutLinks budget (length book.journal) net r.run.made r.last.net
   carried =
       loss_is_hidden budget loss (length book.journal) net r.run.made counts r.last.net run_from
 
@@ -121,13 +122,14 @@ module _ (law : StuckIsQuiet) (budget loss : ℕ) (net : NetParts) (book after :
       journal =
           sym (r.run.journal ∙ ap (λ (es : List Event). es ++ r.run.made) empty)
 
-      carries : Carries budget 0 (opened_parts book.program.version net.code) after.journal
+      carries : RunsWithoutLinks budget 0 (opened_parts book.program.version net.code) after.journal
           r.last.net
       carries =
           subst (λ (es : List Event).
-          Carries budget 0 (opened_parts book.program.version net.code) es r.last.net) journal
-          (subst (λ (m : NetParts). Carries budget 0 m r.run.made r.last.net) opened
-          (subst (λ (k : ℕ). Carries budget k net r.run.made r.last.net) none carried))
+          RunsWithoutLinks budget 0 (opened_parts book.program.version net.code) es r.last.net)
+          journal
+          (subst (λ (m : NetParts). RunsWithoutLinks budget 0 m r.run.made r.last.net) opened
+          (subst (λ (k : ℕ). RunsWithoutLinks budget k net r.run.made r.last.net) none carried))
 
       runs :
           RunsFrom budget loss 0 (opened_parts book.program.version net.code) after.journal counts

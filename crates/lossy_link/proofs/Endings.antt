@@ -14,12 +14,13 @@ use Rattle.lossy_link.specs.Lines.{with_acked, sent_more, handed_more, acked_mor
 use Rattle.lossy_link.specs.Links.{Links, IsTrueOf, AreSound, sends, loses, repeats, takes}
 use Rattle.lossy_link.specs.Links.{drops, learns}
 use Rattle.lossy_link.specs.Links.{IsLeastOpen}
-use Rattle.lossy_link.specs.Settling.{left_by}
+use Rattle.lossy_link.specs.inside.Settling.{left_by}
 use Rattle.lossy_link.specs.Over.{StepsTo}
 use Rattle.lossy_link.specs.Standing.{weighs, ReceiptFalls}
 use Rattle.net_core.specs.Whole.{NetParts}
-use Rattle.lossy_link.specs.Ending.{unacknowledged, turns_left, IsAtTurn, none, one_at_0, one_at_1}
-use Rattle.lossy_link.specs.Ending.{one_at_2, two_at_2, one_at_3, two_at_3}
+use Rattle.lossy_link.specs.inside.Ending.{unacknowledged, turns_left, IsAtTurn, none, one_at_0}
+use Rattle.lossy_link.specs.inside.Ending.{one_at_1}
+use Rattle.lossy_link.specs.inside.Ending.{one_at_2, two_at_2, one_at_3, two_at_3}
 use Rattle.lossy_link.proofs.LineLaws.{pair_of, each_line}
 use Rattle.lossy_link.proofs.Weights.{acked_weight}
 

@@ -28,7 +28,7 @@ use Rattle.net_core.specs.Whole.{NetParts}
 use Rattle.lossy_link.specs.Links.{Precedes}
 use Rattle.lossy_link.specs.Over.{ActsOver, ReceivesOver}
 use Rattle.lossy_link.specs.Schedule as schedule
-use Rattle.lossy_link.specs.Schedule.{Carries, Makes, IsBetween, IsFirstOfLeast, NextOver}
+use Rattle.lossy_link.specs.Schedule.{RunsWithoutLinks, Makes, IsBetween, IsFirstOfLeast, NextOver}
 use Rattle.lossy_link.specs.Schedule.{RestsOver}
 use Rattle.lossy_link.proofs.Bringing as bringing
 use Rattle.lossy_link.proofs.Bringing.{Brings, IsFirstIn}
@@ -303,7 +303,7 @@ first_there net packets i p h = record {
 pub brings_carry : (budget k : ℕ) (net end : NetParts) (packets : List FlightFrom)
     (es : List Event) → IsBare net
     → Brings NetParts ActsOver ReceivesOver NextOver RestsOver budget k net packets es end
-    → Carries budget k (joined packets net) es end
+    → RunsWithoutLinks budget k (joined packets net) es end
 brings_carry budget k net end packets es bare
     (bringing.delivers _ i _ mid _ _ out p _ first r more) =
     schedule.delivers k i (joined packets net) (joined (without i packets ++ out) mid) end es
@@ -312,14 +312,16 @@ brings_carry budget k net end packets es bare
     (bare_out r.mid mid out r.handed_out)
     more)
 brings_carry budget k net end packets es bare (bringing.ends _ _ _ none spent) =
-    subst (λ (n : NetParts). Carries budget k n [] net) (sym (joined_none packets net bare none))
+    subst (λ (n : NetParts). RunsWithoutLinks budget k n [] net)
+    (sym (joined_none packets net bare none))
     (schedule.ends k net bare.0 spent)
 brings_carry budget k net end packets es bare (bringing.rests _ _ _ none few rest) =
-    subst (λ (n : NetParts). Carries budget k n [] net) (sym (joined_none packets net bare none))
+    subst (λ (n : NetParts). RunsWithoutLinks budget k n [] net)
+    (sym (joined_none packets net bare none))
     (schedule.rests k net bare.0 few rest)
 brings_carry budget k net end packets es bare
     (bringing.makes _ _ mid _ _ out x e ds none few next h more) =
-    subst (λ (n : NetParts). Carries budget k n (e ∷ ds) end)
+    subst (λ (n : NetParts). RunsWithoutLinks budget k n (e ∷ ds) end)
     (sym (joined_none packets net bare none))
     (schedule.makes k net (joined out mid) end x e ds bare.0 few next
     (acted_there net mid x e out bare h)

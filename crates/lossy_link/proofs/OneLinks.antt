@@ -31,7 +31,7 @@ use Rattle.lossy_link.specs.Lines.{line_of, all_sent, with_handed, with_acked}
 use Rattle.lossy_link.specs.Links.{Links, acts, sends, loses, repeats, takes, drops, learns}
 use Rattle.lossy_link.specs.Over.{ActsOver, ReceivesOver, StepsTo}
 use Rattle.lossy_link.specs.Pending.{pending}
-use Rattle.lossy_link.specs.OverBook.{opened_parts, CountsOverLinksAreOne}
+use Rattle.lossy_link.specs.OverBook.{opened_parts, RunsOverLinksAreOne}
 use Rattle.lossy_link.specs.Schedule.{NextOver, RestsOver, RunsOver, capped}
 use Rattle.lossy_link.specs.Standing.{flights}
 use Rattle.lossy_link.specs.Whole.{IsWhole, HasStarted}
@@ -297,8 +297,8 @@ rests_of_links : (l : Links NetParts) (x : Choice) → IsWhole l → RestsOver l
 rests_of_links l x whole rest next =
     none_rests l.net (alone_fine l whole) whole.code x rest next
 
-pub counts_over_links_are_one : CountsOverLinksAreOne
-counts_over_links_are_one p c ok kept is budget loss es other counts others end last one two =
+pub runs_over_links_are_one : RunsOverLinksAreOne
+runs_over_links_are_one p c ok kept is budget loss es other counts others end last one two =
     let net = opened_parts p.version c in
     let opened = opened_stands p c ok kept is in
     let some : RunsSome c net.net = record {

@@ -20,9 +20,9 @@ use Rattle.net_core.specs.Whole.{NetParts}
 use Rattle.net_core.proofs.OneSender.{sender_is_one}
 use Rattle.net_core.proofs.Picking.{IsFine, acts_fine, acts_one, next_allowed, next_one}
 use Rattle.lossy_link.specs.Links.{Precedes}
-use Rattle.lossy_link.specs.OverBook.{opened_parts, JournalsOverLinksAreOne}
+use Rattle.lossy_link.specs.OverBook.{opened_parts, RunsWithoutLinksAreOne}
 use Rattle.lossy_link.specs.Schedule as schedule
-use Rattle.lossy_link.specs.Schedule.{Carries, Makes, IsBetween, IsFirstOfLeast}
+use Rattle.lossy_link.specs.Schedule.{RunsWithoutLinks, Makes, IsBetween, IsFirstOfLeast}
 
 -- two pairs are one, or one of them precedes the other
 pub pairs_order : (f t g u : ℕ)
@@ -114,7 +114,7 @@ module _ (p : ProgramTerms) (ok : IsProgram p) where
   Same es a ds b = (es ≡ ds) × (a ≡ b)
 
   pub carries_one : (budget k : ℕ) (net a b : NetParts) (es ds : List Event) → RunsWell net
-      → Carries budget k net es a → Carries budget k net ds b → Same es a ds b
+      → RunsWithoutLinks budget k net es a → RunsWithoutLinks budget k net ds b → Same es a ds b
   carries_one budget k net a b es ds well (schedule.delivers _ i _ mid _ _ first make more)
       (schedule.delivers _ j _ mid2 _ _ first2 make2 more2) =
       let place = first_one net i j first first2 in
@@ -122,7 +122,7 @@ module _ (p : ProgramTerms) (ok : IsProgram p) where
       subst (λ (n : ℕ). Makes net (choice.Deliver n) None mid2) (sym place) make2 in
       let left = makes_one net mid mid2 (choice.Deliver i) None None well make again in
       carries_one budget k mid a b es ds (makes_well net mid (choice.Deliver i) None well make) more
-      (subst (λ (n : NetParts). Carries budget k n ds b) (sym left.1) more2)
+      (subst (λ (n : NetParts). RunsWithoutLinks budget k n ds b) (sym left.1) more2)
   carries_one budget k net a b es ds well (schedule.delivers _ i _ mid _ _ first make more)
       (schedule.ends _ _ none spent) = absurd (none_first net i first none)
   carries_one budget k net a b es ds well (schedule.delivers _ i _ mid _ _ first make more)
@@ -165,7 +165,7 @@ module _ (p : ProgramTerms) (ok : IsProgram p) where
       let event : e ≡ d = same_Some e d left.0 in
       let later = carries_one budget (k + 1) mid a b es1 es2
       (makes_well net mid x (Some e) well make) more
-      (subst (λ (n : NetParts). Carries budget (k + 1) n es2 b) (sym left.1) more2) in
+      (subst (λ (n : NetParts). RunsWithoutLinks budget (k + 1) n es2 b) (sym left.1) more2) in
       (λ i. event i ∷ later.0 i, later.1)
 
   pub opened_well : (c : CodeParts) → IsCode c → IsCodeOf p c → RunsWell (opened_parts p.version c)
@@ -177,8 +177,8 @@ module _ (p : ProgramTerms) (ok : IsProgram p) where
         fine = record { solution = opening p; stands = opened.0; runs = opened.1 };
       }
 
-pub journals_over_links_are_one : JournalsOverLinksAreOne
-journals_over_links_are_one p c ok kept is budget es other end last one two =
+pub runs_without_links_are_one : RunsWithoutLinksAreOne
+runs_without_links_are_one p c ok kept is budget es other end last one two =
     carries_one p ok budget 0 (opened_parts p.version c) end last es other
     (opened_well p ok c kept is)
     one two

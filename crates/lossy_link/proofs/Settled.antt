@@ -12,13 +12,14 @@ use Rattle.lossy_link.specs.declared.frame.Frame.{Frame}
 use Rattle.lossy_link.specs.declared.schedule.LinkCounts.{LinkCounts}
 use Rattle.lossy_link.specs.declared.step.Step.{Step}
 use Rattle.lossy_link.specs.declared.step.Step.TheVariants.{Send, Lose, Repeat, Arrive}
-use Rattle.lossy_link.specs.Ending.{IsAtTurn}
+use Rattle.lossy_link.specs.inside.Ending.{IsAtTurn}
 use Rattle.lossy_link.specs.Links.{Links, AreSound, IsLeastOpen, sends, loses, repeats}
 use Rattle.lossy_link.specs.Over.{StepsTo}
 use Rattle.lossy_link.specs.Schedule as schedule
 use Rattle.lossy_link.specs.Schedule.{counted, nothing_counted, both, next_turn, RunsOver}
-use Rattle.lossy_link.specs.Settling.{AreCounted, StandAsBefore, ComesBefore, IsTurned, Settles}
-use Rattle.lossy_link.specs.Settling.{GoesOnce, IsSettled}
+use Rattle.lossy_link.specs.inside.Settling.{AreCounted, StandAsBefore, ComesBefore, IsTurned}
+use Rattle.lossy_link.specs.inside.Settling.{Settles}
+use Rattle.lossy_link.specs.inside.Settling.{GoesOnce, IsSettled}
 use Rattle.lossy_link.specs.Standing.{LinksLead, ReceiptFalls, net_of_links}
 use Rattle.lossy_link.proofs.Apart.{apart_step}
 use Rattle.lossy_link.proofs.Counting.{both_assoc, both_none, counts_on, counted_none}

@@ -29,7 +29,7 @@ use Rattle.net_core.proofs.Spreads.{kept_alike}
 use Rattle.lossy_link.specs.Links.{Precedes}
 use Rattle.lossy_link.specs.OverBook.{opened_parts, HasOneRunWithoutLinks}
 use Rattle.lossy_link.specs.Schedule as schedule
-use Rattle.lossy_link.specs.Schedule.{Carries, Makes, IsFirstOfLeast}
+use Rattle.lossy_link.specs.Schedule.{RunsWithoutLinks, Makes, IsFirstOfLeast}
 use Rattle.lossy_link.proofs.OneOrder.{pairs_order, RunsWell, makes_well, opened_well, carries_one}
 
 -- ---- the first of the least pair
@@ -259,7 +259,7 @@ module _ (p : ProgramTerms) (ok : IsProgram p) where
 
   module _ (budget : ℕ) where
     abbrev Running : ℕ → NetParts → Type 0
-    Running k net = (es : List Event) × (end : NetParts) × Carries budget k net es end
+    Running k net = (es : List Event) × (end : NetParts) × RunsWithoutLinks budget k net es end
 
     -- the packets are delivered one after another
     deliver_all : (k : ℕ)

@@ -10,7 +10,7 @@ use Rattle.net_core.specs.Parts.{carried}
 use Rattle.net_core.specs.Whole.{NetParts}
 use Rattle.lossy_link.specs.Lines.{all_sent}
 use Rattle.lossy_link.specs.Links.{Links, NoneIsOpen}
-use Rattle.lossy_link.specs.Settling.{IsSettled}
+use Rattle.lossy_link.specs.inside.Settling.{IsSettled}
 use Rattle.lossy_link.specs.Whole.{HasStarted}
 
 -- what is said of a failure, where it holds

@@ -7,8 +7,6 @@ pub mod Standing
 pub mod Whole
 pub mod Played
 pub mod Schedule
-pub mod Ending
-pub mod Settling
 pub mod OverBook
 pub mod inside
 pub mod Laws

@@ -14,7 +14,7 @@ use Rattle.net_core.specs.Senders.{opened_froms}
 use Rattle.net_core.specs.Whole.{NetParts}
 use Rattle.lossy_link.specs.declared.schedule.LinkCounts.{LinkCounts}
 use Rattle.lossy_link.specs.Links.{Links}
-use Rattle.lossy_link.specs.Schedule.{Carries, RunsOver, capped}
+use Rattle.lossy_link.specs.Schedule.{RunsWithoutLinks, RunsOver, capped}
 use Rattle.lossy_link.specs.Whole.{HasStarted}
 
 -- the network runs the code of the book's program and stands for the solution of its journal, after
@@ -49,7 +49,7 @@ pub record RunsOverLinks (net : NetParts) (old : BookKept) (budget loss : ℕ) (
   pub added : List Event
   pub end : NetParts
   pub journal : new.journal ≡ old.journal ++ added
-  pub carries : Carries budget (length old.journal) net added end
+  pub carries : RunsWithoutLinks budget (length old.journal) net added end
   pub runs : RunsFrom budget loss (length old.journal) net added counts end
   pub stand : OnItsSolution new (λ n. Stands (rules_of_group new.program) end.net n)
   pub within : length new.journal ≤ budget
@@ -71,22 +71,22 @@ opened_parts version c = record {
 abbrev pub LossyOf : ProgramTerms → CodeParts → ℕ → ℕ → List Event → LinkCounts → Type 0
 LossyOf p c budget loss journal counts =
     IsCode c × IsCodeOf p c × (end : NetParts)
-    × Carries budget 0 (opened_parts p.version c) journal end
+    × RunsWithoutLinks budget 0 (opened_parts p.version c) journal end
     × RunsFrom budget loss 0 (opened_parts p.version c) journal counts end
 
 -- ---- laws
 
 -- a program's code has at most one run without links for each budget
-abbrev pub JournalsOverLinksAreOne : Type 0
-JournalsOverLinksAreOne =
+abbrev pub RunsWithoutLinksAreOne : Type 0
+RunsWithoutLinksAreOne =
     (p : ProgramTerms) (c : CodeParts) → IsProgram p → IsCode c → IsCodeOf p c
     → (budget : ℕ) (es other : List Event) (end last : NetParts)
-    → Carries budget 0 (opened_parts p.version c) es end
-    → Carries budget 0 (opened_parts p.version c) other last → (es ≡ other) × (end ≡ last)
+    → RunsWithoutLinks budget 0 (opened_parts p.version c) es end
+    → RunsWithoutLinks budget 0 (opened_parts p.version c) other last → (es ≡ other) × (end ≡ last)
 
 -- it has at most one run over links for each budget and each loss
-abbrev pub CountsOverLinksAreOne : Type 0
-CountsOverLinksAreOne =
+abbrev pub RunsOverLinksAreOne : Type 0
+RunsOverLinksAreOne =
     (p : ProgramTerms) (c : CodeParts) → IsProgram p → IsCode c → IsCodeOf p c
     → (budget loss : ℕ) (es other : List Event) (counts others : LinkCounts) (end last : NetParts)
     → RunsFrom budget loss 0 (opened_parts p.version c) es counts end
@@ -98,14 +98,14 @@ CountsOverLinksAreOne =
 abbrev pub LossIsHidden : Type 0
 LossIsHidden =
     (budget loss k : ℕ) (net : NetParts) (es : List Event) (counts : LinkCounts) (end : NetParts)
-    → RunsFrom budget loss k net es counts end → Carries budget k net es end
+    → RunsFrom budget loss k net es counts end → RunsWithoutLinks budget k net es end
 
 -- a program's code has one run without links for each budget
 abbrev pub HasOneRunWithoutLinks : Type 0
 HasOneRunWithoutLinks =
     (p : ProgramTerms) (c : CodeParts) → IsProgram p → IsCode c → IsCodeOf p c → (budget : ℕ)
     → (journal : List Event) × (end : NetParts)
-    × Carries budget 0 (opened_parts p.version c) journal end
-    × ((other : List Event) (last : NetParts) → Carries budget 0 (opened_parts p.version c) other
-    last
+    × RunsWithoutLinks budget 0 (opened_parts p.version c) journal end
+    × ((other : List Event) (last : NetParts)
+    → RunsWithoutLinks budget 0 (opened_parts p.version c) other last
     → (other ≡ journal) × (last ≡ end))

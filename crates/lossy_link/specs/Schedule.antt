@@ -57,20 +57,21 @@ NextOver net x = IsNext net.code net.net x
 -- after so many events: the packets under way are delivered one after another, each the first one
 -- of the least pair; else the choice is made that is next; it ends where there are `budget` events,
 -- or where no choice is next
-pub data Carries (budget : ℕ) : ℕ → NetParts → List Event → NetParts → Type 0 where
+pub data RunsWithoutLinks (budget : ℕ) : ℕ → NetParts → List Event → NetParts → Type 0 where
   delivers :
       (k i : ℕ) (net mid end : NetParts) (es : List Event)
       → IsFirstOfLeast net i → Makes net (choice.Deliver i) None mid
-      → Carries budget k mid es end → Carries budget k net es end
+      → RunsWithoutLinks budget k mid es end → RunsWithoutLinks budget k net es end
   ends :
-      (k : ℕ) (net : NetParts) → net.net.packets ≡ [] → budget ≤ k → Carries budget k net [] net
+      (k : ℕ) (net : NetParts)
+      → net.net.packets ≡ [] → budget ≤ k → RunsWithoutLinks budget k net [] net
   rests :
       (k : ℕ) (net : NetParts)
-      → net.net.packets ≡ [] → k < budget → RestsOver net → Carries budget k net [] net
+      → net.net.packets ≡ [] → k < budget → RestsOver net → RunsWithoutLinks budget k net [] net
   makes :
       (k : ℕ) (net mid end : NetParts) (x : Choice) (e : Event) (es : List Event)
       → net.net.packets ≡ [] → k < budget → NextOver net x → Makes net x (Some e) mid
-      → Carries budget (k + 1) mid es end → Carries budget k net (e ∷ es) end
+      → RunsWithoutLinks budget (k + 1) mid es end → RunsWithoutLinks budget k net (e ∷ es) end
 
 -- ---- how many steps of each kind
 

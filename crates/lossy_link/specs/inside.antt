@@ -1,3 +1,5 @@
 pub mod Table
 pub mod Queue
 pub mod Parted
+pub mod Ending
+pub mod Settling

@@ -1,6 +1,6 @@
 // The laws of steps and of runs over links.
 ghost use Rattle.lossy_link.specs.Laws.{StepsLead, ListsReplayOverLinks};
-ghost use Rattle.lossy_link.specs.OverBook.{JournalsOverLinksAreOne, CountsOverLinksAreOne};
+ghost use Rattle.lossy_link.specs.OverBook.{RunsWithoutLinksAreOne, RunsOverLinksAreOne};
 ghost use Rattle.lossy_link.specs.OverBook.{HasOneRunWithoutLinks, LossIsHidden};
 
 /// A step over links, whatever it is, keeps what their type keeps, and the links stand for what its
@@ -17,13 +17,13 @@ pub fn lists_replay_over_links()
 {}
 
 /// A program's code has at most one run without links for each budget. It does nothing.
-pub fn journals_over_links_are_one()
-    ensures { JournalsOverLinksAreOne }
+pub fn runs_without_links_are_one()
+    ensures { RunsWithoutLinksAreOne }
 {}
 
 /// A program's code has at most one run over links for each budget and each loss. It does nothing.
-pub fn counts_over_links_are_one()
-    ensures { CountsOverLinksAreOne }
+pub fn runs_over_links_are_one()
+    ensures { RunsOverLinksAreOne }
 {}
 
 /// Whatever is lost, a run over links makes the events of the run without them, and leaves the same

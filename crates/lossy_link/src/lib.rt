@@ -16,8 +16,8 @@ mod wire;
 
 pub use frame::Frame;
 pub use laws::{
-    counts_over_links_are_one, journals_over_links_are_one, lists_replay_over_links,
-    loss_is_hidden, one_run_without_links, steps_lead,
+    lists_replay_over_links, loss_is_hidden, one_run_without_links, runs_over_links_are_one,
+    runs_without_links_are_one, steps_lead,
 };
 pub use line::PairHistory;
 pub use links::LinkNet;

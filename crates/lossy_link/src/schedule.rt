@@ -3,13 +3,13 @@ ghost use Rattle.std.specs.Prelude.{◌≡◌, ◌+◌, ◌<◌, ◌≤◌, ◌^
 ghost use Rattle.chem_model.specs.ProgramFacts.{IsProgram};
 ghost use Rattle.trace_history.specs.Book.{Replays};
 ghost use Rattle.env_store.specs.CodeFacts.{IsCode};
-ghost use Rattle.lossy_link.specs.Ending.{IsAtTurn};
+ghost use Rattle.lossy_link.specs.inside.Ending.{IsAtTurn};
 ghost use Rattle.lossy_link.specs.Over.{AllowsOver};
 ghost use Rattle.lossy_link.specs.OverBook.{StandForOne, RunsOverLinks, LossyOf, opened_parts};
 ghost use Rattle.lossy_link.specs.Schedule.{most, next_turn};
-ghost use Rattle.lossy_link.specs.Settling.{IsTurned, Settles, IsSettled, GoesOnce};
-ghost use Rattle.lossy_link.specs.Settling.{AreApart, AreOne, AreOneOver, MakesEvent, HasRun};
-ghost use Rattle.lossy_link.specs.Settling.{HasRunFrom};
+ghost use Rattle.lossy_link.specs.inside.Settling.{IsTurned, Settles, IsSettled, GoesOnce};
+ghost use Rattle.lossy_link.specs.inside.Settling.{AreApart, AreOne, AreOneOver, MakesEvent};
+ghost use Rattle.lossy_link.specs.inside.Settling.{HasRun, HasRunFrom};
 ghost use Rattle.lossy_link.specs.Whole.{links_of, IsWhole};
 
 use crate::parts::Parts;

@@ -1,5 +1,5 @@
 use Rattle.std.proofs.Common.{◌-◌, ◌<◌, ◌⊎◌, length}
-use Rattle.lossy_link.specs.Settling.{HasCome, IsSettled}
+use Rattle.lossy_link.specs.inside.Settling.{HasCome, IsSettled}
 use Rattle.lossy_link.specs.Whole.{links_of, IsWhole}
 use Rattle.lossy_link.proofs.schedule.run.Given as goal
 

@@ -1,6 +1,6 @@
 -- Nothing is done at first; each turn or send leaves less to do.
 use Rattle.std.proofs.Common.{ℕ, Option, subst}
-use Rattle.lossy_link.specs.Settling.{GoesOnce}
+use Rattle.lossy_link.specs.inside.Settling.{GoesOnce}
 use Rattle.lossy_link.specs.Whole.{links_of}
 use Rattle.lossy_link.proofs.Settled.{settles_none, settles_on}
 use Rattle.lossy_link.proofs.Wanting.{on_err}

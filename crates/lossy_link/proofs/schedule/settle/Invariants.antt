@@ -1,4 +1,4 @@
-use Rattle.lossy_link.specs.Settling.{Settles, IsSettled, left_by}
+use Rattle.lossy_link.specs.inside.Settling.{Settles, IsSettled, left_by}
 use Rattle.lossy_link.specs.Whole.{links_of, IsWhole}
 use Rattle.lossy_link.proofs.schedule.settle.Given as goal
 

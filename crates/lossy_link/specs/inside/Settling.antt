@@ -1,7 +1,6 @@
 -- What the schedule does between two choices, and what it has done so far.
-use Rattle.std.specs.Prelude.{false, ◌≡◌, ℕ, ◌+◌, ◌<◌, ◌≤◌, List, [], ◌∷◌, ◌++◌, ◌⊎◌, Option, Some}
-use Rattle.std.specs.Prelude.{None}
-use Rattle.std.specs.Prelude.{length}
+use Rattle.std.specs.Prelude.{◌≡◌, ℕ, ◌+◌, ◌<◌, ◌≤◌, List, [], ◌∷◌, ◌++◌, ◌⊎◌, Option, Some, None}
+use Rattle.std.specs.Prelude.{false, length}
 use Rattle.chem_model.specs.Each.{Each}
 use Rattle.chem_model.specs.declared.event.Event.{Event}
 use Rattle.chem_model.specs.declared.numbered.Numbered.{Numbered}
@@ -17,7 +16,7 @@ use Rattle.net_core.specs.Whole.{NetParts}
 use Rattle.lossy_link.specs.declared.line.Line.{Line}
 use Rattle.lossy_link.specs.declared.schedule.LinkCounts.{LinkCounts}
 use Rattle.lossy_link.specs.declared.step.Step.TheVariants.{Act}
-use Rattle.lossy_link.specs.Ending.{IsAtTurn, left_to_do}
+use Rattle.lossy_link.specs.inside.Ending.{IsAtTurn, left_to_do}
 use Rattle.lossy_link.specs.Lines.{is_between}
 use Rattle.lossy_link.specs.Links.{Links, NoneIsOpen}
 use Rattle.lossy_link.specs.Over.{StepsTo}
