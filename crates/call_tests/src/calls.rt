@@ -27,6 +27,7 @@ enum Made {
     Rounds,
     Shared(u64),
     Lone,
+    Lossy,
 }
 
 fn how_made(how: &How) -> Made {
@@ -35,6 +36,7 @@ fn how_made(how: &How) -> Made {
         How::Rounds => Made::Rounds,
         How::Shared { events, .. } => Made::Shared(*events),
         How::Lone(_) => Made::Lone,
+        How::Lossy { .. } => Made::Lossy,
     }
 }
 
