@@ -86,7 +86,8 @@ fn same_journal(one: &Journal, other: &Journal) -> bool {
 }
 
 // The counts of a run over links with this loss in which so many packets came from sites, one that
-// was sent on as another one. They were found by a program that makes such runs by the schedule.
+// was sent on as another one. Worked out by hand: behind the first packet each one is sent once, as
+// the next turn repeats its frame, and is acknowledged in three turns; the fourth one loses a copy.
 fn counts_with(loss: &str, packets: u64) -> [u64; 4] {
     if packets == 0 {
         return [0, 0, 0, 0];
