@@ -17,7 +17,7 @@ use Rattle.net_core.specs.Rounds.{RoundsReplay}
 use Rattle.net_core.specs.Senders.{opened_froms}
 use Rattle.net_core.specs.Whole.{NetParts}
 use Rattle.trace_history.specs.Kept.{BookKept}
-use Rattle.lossy_link.specs.OverBook.{RunsOverLinks, LossyOf}
+use Rattle.lossy_link.specs.OverBook.{RunsOverLinks, LossyOf, opened_parts}
 use Rattle.lossy_link.specs.OverBook as links
 use Rattle.lossy_link.specs.declared.schedule.LinkCounts.{LinkCounts}
 use Rattle.site_runner.specs.Run.{RunsOn}
@@ -159,26 +159,33 @@ stand_for_links book net one = record {
   counted = one.counted;
 }
 
+-- the opened network of a code
+opened_is : (net : NetParts) (version : ℕ) → net.net ≡ opened_net version net.code
+    → net.froms ≡ opened_froms version net.code → net.events ≡ 0
+    → net ≡ opened_parts version net.code
+opened_is net version opened froms none =
+    λ i. record { code = net.code; net = opened i; froms = froms i; events = none i }
+
 -- a run over links from the opened network of the program's code
 pub links_made :
     (p : ProgramTerms) (workers budget loss : ℕ) (net : NetParts)
     → net.net ≡ opened_net p.version net.code → net.froms ≡ opened_froms p.version net.code
     → net.code ≡ code_of p → (book last : BookKept) (counts : LinkCounts) → book ≡ begun p
-    → RunsOverLinks net book budget loss last counts
-    → (book.journal ≡ [] → net.net ≡ opened_net book.program.version net.code
-    → net.froms ≡ opened_froms book.program.version net.code
+    → StandForOne book net → RunsOverLinks net book budget loss last counts
+    → (book.journal ≡ [] → net ≡ opened_parts book.program.version net.code
     → LossyOf book.program net.code budget loss last.journal counts)
     → IsRunBy by.Lossy workers budget loss p (record {
       book = last;
       how = how.Lossy counts.sent counts.lost counts.repeated counts.arrived;
     })
-links_made p workers budget loss net opened froms code book last counts e runs whole =
+links_made p workers budget loss net opened froms code book last counts e one runs whole =
     let program : book.program ≡ p = ap (λ (b : BookKept). b.program) e in
+    let bare : book.journal ≡ [] = ap (λ (b : BookKept). b.journal) e in
+    let at_opening : net ≡ opened_parts p.version net.code =
+    opened_is net p.version opened froms (one.counted ∙ ap length bare) in
     let of_opened : LossyOf book.program net.code budget loss last.journal counts =
-    whole (ap (λ (b : BookKept). b.journal) e)
-    (subst (λ (q : ProgramTerms). net.net ≡ opened_net q.version net.code) (sym program) opened)
-    (subst (λ (q : ProgramTerms). net.froms ≡ opened_froms q.version net.code) (sym program)
-    froms) in
+    whole bare (subst (λ (q : ProgramTerms). net ≡ opened_parts q.version net.code) (sym program)
+    at_opening) in
     record {
       finished = record {
         program = runs.program ∙ program;
