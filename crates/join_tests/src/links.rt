@@ -106,7 +106,7 @@ fn counts_with(loss: &str, packets: u64) -> [u64; 4] {
 // How many packets were sent in a run whose loss is 1, in which each is sent once.
 fn packets_of(made: Option<Made>) -> u64 {
     match made {
-        Some(Made::Lossy([sent, ..])) => sent,
+        Some(Made::Lossy(counts)) => counts[0],
         _ => 0,
     }
 }

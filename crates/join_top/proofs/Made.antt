@@ -171,7 +171,7 @@ pub links_made :
     (p : ProgramTerms) (workers budget loss : ℕ) (net : NetParts)
     → net.net ≡ opened_net p.version net.code → net.froms ≡ opened_froms p.version net.code
     → net.code ≡ code_of p → (book last : BookKept) (counts : LinkCounts) → book ≡ begun p
-    → StandForOne book net → RunsOverLinks net book budget loss last counts
+    → links.StandForOne book net → RunsOverLinks net book budget loss last counts
     → (book.journal ≡ [] → net ≡ opened_parts book.program.version net.code
     → LossyOf book.program net.code budget loss last.journal counts)
     → IsRunBy by.Lossy workers budget loss p (record {

@@ -3,6 +3,7 @@ ghost use Rattle.std.specs.Prelude.{◌≡◌, ◌≤◌, [], IfOk};
 ghost use Rattle.guard_compile.specs.Written.{code_of};
 ghost use Rattle.net_laws.specs.Opened.{opened_net};
 ghost use Rattle.net_core.specs.Senders.{opened_froms};
+ghost use Rattle.lossy_link.specs.OverBook as links;
 ghost use Rattle.site_runner.specs.Rounds.{StandForOne};
 ghost use Rattle.join_words.specs.Asks.{IsWithin};
 ghost use Rattle.join_words.specs.declared.answer.By.TheVariants as by;
@@ -70,6 +71,7 @@ fn on_one_thread(alloc: Global, asked: &Asked, program: &Program) -> Result<Done
 /// solution, as the run in rounds and the one over links need it.
 pub fn begin(alloc: Global, program: &Program) -> Result<(Net, Book), Memory>
     ensures one { IfOk result (λ begun. StandForOne begun.1 begun.0) }
+    ensures linked { IfOk result (λ begun. links.StandForOne begun.1 begun.0) }
     ensures code { IfOk result (λ begun. begun.0.code ≡ code_of program.now) }
     ensures opened { IfOk result (λ begun.
         begun.0.net ≡ opened_net program.now.version begun.0.code) }
