@@ -160,13 +160,13 @@ no_loss l t e (two m n) b w =
 
 -- where no budget and no number of workers leaves something to ask for, nothing is asked for
 by_none : (l : Line) → ((b w : ℕ) → by_mode l l.plain b w ≡ None) → judged l ≡ None
-by_none l none = go (number_or 100000 0 4000000 l.budget) (number_or 4 1 16 l.workers)
+by_none l asks_none = go (number_or 100000 0 4000000 l.budget) (number_or 4 1 16 l.workers)
   where
     go : (b w : Option ℕ)
         → option_and_then (λ b. option_and_then (λ w. by_mode l l.plain b w) w) b ≡ None
     go None w = refl
     go (Some b) None = refl
-    go (Some b) (Some w) = none b w
+    go (Some b) (Some w) = asks_none b w
 
 pub spoils : (f : Field) (t : Text) (l : Line) → at f l ≡ Some (45 ∷ t) → judged l ≡ None
 spoils budget t l e =
