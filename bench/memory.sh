@@ -42,7 +42,7 @@ printf '%s\n' 'log(shop, cheap)' 'log(home, agent)' quiescent >"$work/agent.out"
 echo 'out of memory' >"$work/line"
 
 # the commands, and the texts of which a command may print the lines in another order
-commands=('alone' 'rounds --workers 2' 'run --workers 2')
+commands=('alone' 'rounds --workers 2' 'run --workers 2' 'lossy --loss 3')
 declare -A other_order=(['run --workers 2 move']=1)
 
 . "$root/bench/program.sh"

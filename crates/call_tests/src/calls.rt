@@ -1,9 +1,10 @@
-// The three runs as calls, without the top call.
+// The four runs as calls, without the top call.
 ghost use denote.Param.Send.{IsSync};
 
 use chem_model::{Memory, Program, Text};
 use guard_compile::compile;
 use join_top::{OpenGate, begin};
+use lossy_link::lossy;
 use site_runner::{Done, FreeTeam, How, Threaded, alone, rounds};
 use std::alloc::Global;
 use std::marker::Sync;
@@ -27,6 +28,7 @@ enum Made {
     Rounds,
     Shared(u64),
     Lone,
+    Lossy,
 }
 
 fn how_made(how: &How) -> Made {
@@ -35,6 +37,7 @@ fn how_made(how: &How) -> Made {
         How::Rounds => Made::Rounds,
         How::Shared { events, .. } => Made::Shared(*events),
         How::Lone(_) => Made::Lone,
+        How::Lossy { .. } => Made::Lossy,
     }
 }
 
@@ -86,6 +89,18 @@ fn by_two_free_workers<R: AllocGlobal + Threads + Wait + Sync>(
     outcome_of(rt.alloc(), done)
 }
 
+fn over_links(alloc: Global, program: &Program) -> Result<Outcome, Memory> {
+    let (net, book) = begin(alloc, program)?;
+    let (book, counts) = lossy(alloc, net, book, 10, 0)?;
+    let how = How::Lossy {
+        sent: counts.sent,
+        lost: counts.lost,
+        repeated: counts.repeated,
+        arrived: counts.arrived,
+    };
+    outcome_of(alloc, Done { book, how })
+}
+
 // That a run was made as wanted, ended quiet with two events, and shows the location.
 fn expect_move(rt: &impl Abort, run: &Outcome, made: Made) {
     assert_eq!(rt; run.made, made);
@@ -95,10 +110,11 @@ fn expect_move(rt: &impl Abort, run: &Outcome, made: Made) {
 }
 
 #[test]
-fn a_move_by_the_three_calls(rt: HostRuntime) -> Result<(), Fail> {
+fn a_move_by_the_four_calls(rt: HostRuntime) -> Result<(), Fail> {
     let program = program_of(rt.alloc(), MOVE.as_bytes())?;
     expect_move(&rt, &on_one_thread(rt.alloc(), &program)?, Made::Alone);
     expect_move(&rt, &by_two_workers(&rt, &program)?, Made::Rounds);
     expect_move(&rt, &by_two_free_workers(&rt, &program)?, Made::Shared(2));
+    expect_move(&rt, &over_links(rt.alloc(), &program)?, Made::Lossy);
     Ok(())
 }

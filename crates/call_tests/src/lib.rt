@@ -1,4 +1,4 @@
-//! Tests of the three runs, called by themselves: from a program to its book and its text.
+//! Tests of the four runs, called by themselves: from a program to its book and its text.
 #![tactic(auto)]
 
 #[cfg(test)]

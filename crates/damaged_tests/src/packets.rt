@@ -182,6 +182,13 @@ fn packet(fields: &mut Fields, ids: &mut Vec<Pair>) -> Result<(), Memory> {
     Ok(())
 }
 
+/// A packet that is one message, and no other.
+pub fn only_message(fields: &mut Fields) {
+    fields.tag(1, 1);
+    pair(fields);
+    message(fields, None);
+}
+
 /// The place of the first field that is wrong, if these bytes are no packet.
 pub fn packet_wrong_at(alloc: Global, bytes: &[u8]) -> Result<Option<usize>, Memory> {
     let mut fields = fields_of(bytes);

@@ -1,5 +1,5 @@
-// Packets and logs that are damaged, as data: the bytes, and where they are wrong first. The places
-// were counted by hand.
+// Packets, frames and logs that are damaged, as data: the bytes, and where they are wrong first.
+// The places were counted by hand.
 
 const PACKETS: &[(&[u8], usize)] = &[
     // It ends behind the site of its location.
@@ -64,6 +64,67 @@ const PACKETS: &[(&[u8], usize)] = &[
 // Packets, each with the place of its first wrong field.
 pub fn packets() -> &'static [(&'static [u8], usize)] {
     PACKETS
+}
+
+const FRAMES: &[(&[u8], usize)] = &[
+    // No frame, and of no kind.
+    (&[], 0),
+    (&[0], 0),
+    (&[3], 0),
+    // They end within the first site, the second one and the number.
+    (&[2, 0, 0, 0], 1),
+    (&[1, 0, 0, 0, 1, 0, 0, 0], 5),
+    (&[2, 0, 0, 0, 1, 0, 0, 0, 0, 0, 0, 0, 0, 0, 0, 0], 9),
+    // An acknowledgement with one byte more.
+    (&[2, 0, 0, 0, 1, 0, 0, 0, 0, 0, 0, 0, 0, 0, 0, 0, 1, 0], 17),
+    // No packet behind the head, one of no kind, and a parcel.
+    (&[1, 0, 0, 0, 1, 0, 0, 0, 0, 0, 0, 0, 0, 0, 0, 0, 0], 17),
+    (&[1, 0, 0, 0, 1, 0, 0, 0, 0, 0, 0, 0, 0, 0, 0, 0, 0, 0], 17),
+    (
+        &[
+            1, 0, 0, 0, 1, 0, 0, 0, 0, 0, 0, 0, 0, 0, 0, 0, 0, 2, 0, 0, 0, 0, 0, 0, 0, 0, 0, 0, 0,
+            1, 0, 0, 0, 1, 0, 0, 0, 1, 0, 0, 0, 0, 0, 0, 0, 0, 0, 0, 0, 2, 0, 0, 0, 0, 0, 0, 0, 0,
+            0, 0, 0, 3, 0, 0, 0, 0, 0, 0, 0, 0, 0, 0, 0, 0,
+        ],
+        17,
+    ),
+    // A message on an operation that there isn't, and one with a count that isn't the sum's.
+    (
+        &[
+            1, 0, 0, 0, 1, 0, 0, 0, 0, 0, 0, 0, 0, 0, 0, 0, 0, 1, 0, 0, 0, 0, 0, 0, 0, 0, 0, 0, 0,
+            5, 4, 0, 0, 0, 2, 3,
+        ],
+        31,
+    ),
+    (
+        &[
+            1, 0, 0, 0, 1, 0, 0, 0, 0, 0, 0, 0, 0, 0, 0, 0, 0, 1, 0, 0, 0, 0, 0, 0, 0, 0, 0, 0, 0,
+            5, 4, 0, 0, 0, 0, 4,
+        ],
+        35,
+    ),
+    // A message that claims 255 arguments, and has one.
+    (
+        &[
+            1, 0, 0, 0, 1, 0, 0, 0, 0, 0, 0, 0, 0, 0, 0, 0, 0, 1, 0, 0, 0, 0, 0, 0, 0, 0, 0, 0, 0,
+            5, 0, 0, 0, 0, 0, 255, 0, 0, 0, 0, 7,
+        ],
+        41,
+    ),
+    // A message with one byte more.
+    (
+        &[
+            1, 0, 0, 0, 1, 0, 0, 0, 0, 0, 0, 0, 0, 0, 0, 0, 0, 1, 0, 0, 0, 0, 0, 0, 0, 0, 0, 0, 0,
+            5, 2, 0, 0, 0, 0, 0, 0, 0, 0, 0, 0, 0, 1, 0, 0, 0, 0, 0, 0, 0, 0, 0, 0, 0, 0, 1, 1, 0,
+            0, 0, 1, 0, 0, 0, 0, 0, 0, 0, 0, 0,
+        ],
+        69,
+    ),
+];
+
+// Frames, each with the place of its first wrong field.
+pub fn frames() -> &'static [(&'static [u8], usize)] {
+    FRAMES
 }
 
 const LOGS: &[(&[u8], usize)] = &[

@@ -1,9 +1,12 @@
 // Each byte of a worked text, changed to each other value.
 
+use crate::frames::frame_wrong_at;
 use crate::logs::log_wrong_at;
 use crate::packets::packet_wrong_at;
-use crate::rows::{logs, packets};
+use crate::rows::{frames, logs, packets};
+use crate::spelled::{acknowledgement, carried, largest};
 use chem_model::{Items, Memory, Text};
+use lossy_link::read_frame;
 use std::alloc::Global;
 use std::process::Abort;
 use trace_text::{LogEnd, read_log};
@@ -77,6 +80,14 @@ fn decoded(alloc: Global, bytes: &[u8]) -> Found {
     }
 }
 
+fn framed(alloc: Global, bytes: &[u8]) -> Found {
+    match read_frame(alloc, bytes) {
+        Ok(_) => Ok(None),
+        Err(DecodeEnd::Bad { place }) => Ok(Some(place as usize)),
+        Err(DecodeEnd::Memory) => Err(Memory),
+    }
+}
+
 fn read(alloc: Global, bytes: &[u8]) -> Found {
     match read_log(alloc, bytes) {
         Ok(_) => Ok(None),
@@ -89,6 +100,7 @@ fn read(alloc: Global, bytes: &[u8]) -> Found {
 #[derive(Clone, Copy)]
 enum Kind {
     Packet,
+    Frame,
     Log,
 }
 
@@ -96,6 +108,7 @@ enum Kind {
 fn product(alloc: Global, kind: Kind, bytes: &[u8]) -> Found {
     match kind {
         Kind::Packet => decoded(alloc, bytes),
+        Kind::Frame => framed(alloc, bytes),
         Kind::Log => read(alloc, bytes),
     }
 }
@@ -104,6 +117,7 @@ fn product(alloc: Global, kind: Kind, bytes: &[u8]) -> Found {
 fn small_reader(alloc: Global, kind: Kind, bytes: &[u8]) -> Found {
     match kind {
         Kind::Packet => packet_wrong_at(alloc, bytes),
+        Kind::Frame => Ok(frame_wrong_at(bytes)),
         Kind::Log => Ok(log_wrong_at(bytes)),
     }
 }
@@ -159,6 +173,13 @@ fn each_byte_of_a_packet(rt: HostRuntime) {
 }
 
 #[test]
+fn each_byte_of_a_frame(rt: HostRuntime) {
+    expect_damage(&rt, rt.alloc(), Kind::Frame, acknowledgement());
+    expect_damage(&rt, rt.alloc(), Kind::Frame, largest());
+    expect_damage(&rt, rt.alloc(), Kind::Frame, carried());
+}
+
+#[test]
 fn each_byte_of_a_log(rt: HostRuntime) {
     expect_damage(&rt, rt.alloc(), Kind::Log, log());
 }
@@ -174,5 +195,6 @@ fn expect_places(rt: &impl Abort, alloc: Global, kind: Kind, rows: &[(&[u8], usi
 #[test]
 fn the_first_wrong_field(rt: HostRuntime) {
     expect_places(&rt, rt.alloc(), Kind::Packet, packets());
+    expect_places(&rt, rt.alloc(), Kind::Frame, frames());
     expect_places(&rt, rt.alloc(), Kind::Log, logs());
 }

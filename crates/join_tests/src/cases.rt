@@ -1,7 +1,7 @@
 // Worked cases as data, and the one test that runs them all.
 ghost use denote.Param.Send.{IsSync};
 
-use crate::lines::{lines, no_lines};
+use crate::lines::{lines, no_lines, no_losses};
 use crate::outcome::{Made, Outcome, call};
 use crate::refusals::refusals;
 use chem_model::Memory;
@@ -140,7 +140,8 @@ fn lines_of_words(rt: HostRuntime) -> Result<(), Fail> {
     for cases in lines() {
         expect_all(&rt, cases)?;
     }
-    expect_usage(&rt, no_lines())
+    expect_usage(&rt, no_lines())?;
+    expect_usage(&rt, no_losses())
 }
 
 #[test]

@@ -60,7 +60,7 @@ fn keep_order(text: &[u8], pairs: &[(&'static str, &'static str)]) -> bool {
 }
 
 // Whether free threads may print this text in the case.
-fn may_print(printed: &[u8], case: &Case) -> bool {
+pub fn may_print(printed: &[u8], case: &Case) -> bool {
     match case.freely {
         Freely::Same => printed == case.out.as_bytes(),
         Freely::AnyOrder => has_lines_of(printed, case.out.as_bytes()),

@@ -21,6 +21,7 @@ const COMMANDS: &[&[&str]] = &[
     &["alone", "--budget", "10"],
     &["rounds", "--budget", "10"],
     &["run", "--budget", "10"],
+    &["lossy", "--budget", "10"],
 ];
 
 // A case, and the numbers of the reads, of the writes and of the writes to the sink of errors that

@@ -39,7 +39,8 @@ fn expect_so<R: AllocGlobal + Abort + Threads + Wait + Sync>(
 {
     expect_with(rt, &["alone"], text, status, out, err)?;
     expect_with(rt, &["rounds"], text, status, out, err)?;
-    expect_with(rt, &["run"], text, status, out, err)
+    expect_with(rt, &["run"], text, status, out, err)?;
+    expect_with(rt, &["lossy"], text, status, out, err)
 }
 
 // A text of version 2 with so many sites, fewer than 1,000.
@@ -113,6 +114,11 @@ fn all_levels_of_rules_in_rounds(rt: HostRuntime) -> Result<(), Fail> {
 #[test]
 fn all_levels_of_rules_on_free_threads(rt: HostRuntime) -> Result<(), Fail> {
     expect_all_levels(&rt, &["run"])
+}
+
+#[test]
+fn all_levels_of_rules_over_links(rt: HostRuntime) -> Result<(), Fail> {
+    expect_all_levels(&rt, &["lossy"])
 }
 
 #[test]

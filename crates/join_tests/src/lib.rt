@@ -17,6 +17,8 @@ mod large;
 #[cfg(test)]
 mod lines;
 #[cfg(test)]
+mod links;
+#[cfg(test)]
 mod outcome;
 #[cfg(test)]
 mod refusals;

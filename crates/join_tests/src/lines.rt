@@ -128,9 +128,38 @@ fn rings() -> &'static [Case] {
     RINGS
 }
 
+const LOSSES: &[Case] = &[
+    // No loss is given, and the text sends nothing.
+    Case {
+        words: &["lossy"],
+        text: &[(1, "observe out/1; site s [ x(u) => out(u) : x(s) ]")],
+        out: "out(s)\nquiescent\n",
+        events: Some(1),
+        ..QUIET
+    },
+    Case {
+        words: &["--loss=0000003", "lossy", "--budget", "0"],
+        text: &[(1, "observe out/1; site s [ x(u) => out(u) : x(s) ]")],
+        status: 5,
+        out: "stopped\n",
+        ..QUIET
+    },
+    Case {
+        words: &["--loss", "2", "--budget=10", "--", "lossy"],
+        text: &[(1, "observe out/1; site s [ x(u) => out(u) : x(s) ]")],
+        out: "out(s)\nquiescent\n",
+        events: Some(1),
+        ..QUIET
+    },
+];
+
+fn losses() -> &'static [Case] {
+    LOSSES
+}
+
 // Lines of words that ask for a run.
-pub fn lines() -> [&'static [Case]; 4] {
-    [budgets(), logs(), longer_logs(), rings()]
+pub fn lines() -> [&'static [Case]; 5] {
+    [budgets(), logs(), longer_logs(), rings(), losses()]
 }
 
 const NO_LINES: &[&[&str]] = &[
@@ -167,4 +196,32 @@ const NO_LINES: &[&[&str]] = &[
 // Lines of words that ask for nothing.
 pub fn no_lines() -> &'static [&'static [&'static str]] {
     NO_LINES
+}
+
+const NO_LOSSES: &[&[&str]] = &[
+    &["lossy", "--loss", "4"],
+    &["lossy", "--loss", "00000001"],
+    &["lossy", "--loss="],
+    &["lossy", "--loss", "-1"],
+    &["lossy", "--loss"],
+    &["lossy", "--loss", "1", "--loss=1"],
+    &["lossy", "--loss", "1x"],
+    &["lossy", "--workers", "4"],
+    &["lossy", "--log"],
+    &["lossy", "5"],
+    &["lossy", "--by", "alone"],
+    &["lossy", "--budget", "4000001"],
+    &["alone", "--loss", "0"],
+    &["rounds", "--loss=1"],
+    &["run", "--loss", "3"],
+    &["gen", "5", "--loss", "0"],
+    &["gen", "5", "--by", "lossy"],
+    &["check", "--loss", "0"],
+    &["explain", "--loss=0"],
+    &["sorts", "--loss", "0"],
+];
+
+// Lines of words about links that ask for nothing.
+pub fn no_losses() -> &'static [&'static [&'static str]] {
+    NO_LOSSES
 }

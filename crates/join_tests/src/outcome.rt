@@ -17,13 +17,15 @@ use worked_texts::Case;
 const ROOM: u32 = 16_384;
 
 // How a run was made, without its report: on free threads with the number of events that the
-// workers made.
+// workers made, over links with how often packets were sent, and frames lost and repeated and
+// arrived.
 #[derive(Clone, Copy, Debug, PartialEq, Eq)]
 pub enum Made {
     Alone,
     Rounds,
     Shared(u64),
     Lone,
+    Lossy([u64; 4]),
 }
 
 impl Made {
@@ -33,6 +35,12 @@ impl Made {
             How::Rounds => Made::Rounds,
             How::Shared { events, .. } => Made::Shared(*events),
             How::Lone(_) => Made::Lone,
+            How::Lossy {
+                sent,
+                lost,
+                repeated,
+                arrived,
+            } => Made::Lossy([*sent, *lost, *repeated, *arrived]),
         }
     }
 }
@@ -192,6 +200,19 @@ pub fn call<R: AllocGlobal + Abort + Threads + Wait + Sync>(
     call_into(rt, words, &mut ends)
 }
 
+// What a run with these words over a source of these bytes left.
+pub fn ended_with<R: AllocGlobal + Abort + Threads + Wait + Sync>(
+    rt: &R,
+    words: &[&str],
+    bytes: &[u8],
+) -> Result<Box<Ended>, Memory>
+    requires { IsSync R.row }
+{
+    let mut ends = ends_of(rt.alloc(), bytes)?;
+    let team = Threaded::new(rt);
+    ended_by(rt.alloc(), words, &mut ends, &OpenGate, &team)
+}
+
 // What a run of a text on one thread left.
 pub fn ended_alone<R: AllocGlobal + Abort + Threads + Wait + Sync>(
     rt: &R,
@@ -199,10 +220,7 @@ pub fn ended_alone<R: AllocGlobal + Abort + Threads + Wait + Sync>(
 ) -> Result<Box<Ended>, Memory>
     requires { IsSync R.row }
 {
-    let words = ["alone", "--budget", "10"];
-    let mut ends = ends_of(rt.alloc(), text.as_bytes())?;
-    let team = Threaded::new(rt);
-    ended_by(rt.alloc(), &words, &mut ends, &OpenGate, &team)
+    ended_with(rt, &["alone", "--budget", "10"], text.as_bytes())
 }
 
 // The run that a call kept.

@@ -31,6 +31,8 @@ const UNREAD: &[(&[&str], u8)] = &[
     (&["alone", "--budget", "4000001"], 2),
     (&["sorts", "5"], 2),
     (&["sorts", "--log"], 2),
+    (&["lossy", "--loss", "4"], 2),
+    (&["lossy", "--workers", "1"], 2),
     (&["gen", "2"], 0),
     (&["gen", "2", "--by", "rounds"], 0),
     (&["gen", "2", "--by", "run"], 0),

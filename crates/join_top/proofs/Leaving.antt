@@ -33,7 +33,7 @@ same_solution k n m e f = cc
 pub ended :
     (a : Asked) (source : List ℕ) (p : ProgramTerms) (k : BookKept) (how : How) (quiet : Bool)
     (ending : Ending) (text : List ℕ)
-    → IsRunBy a.by a.workers a.budget p (record { book = k; how = how })
+    → IsRunBy a.by a.workers a.budget a.loss p (record { book = k; how = how })
     → Replays k → IsRun k.program (erase_all (states k.program k.journal))
     → (IsTrue quiet ↔ IsStuck k) → (IsTrue quiet ↔ IsQuiet k)
     → ending ≡ ending_of quiet
@@ -189,7 +189,8 @@ module _ (it : Ended) (status : ℕ) (kept : Left)
 
   pub is_run_of : (job : Begun) (was now : Option (List ℕ)) (text : List ℕ) (ending : Ending)
       → kept.program ≡ job.program → IsEnded job.asked job.text kept text ending
-      → IsMadeBy job.asked.by job.asked.workers job.asked.budget job.program kept.journal kept.how
+      → IsMadeBy job.asked.by job.asked.workers job.asked.budget job.asked.loss
+      job.program kept.journal kept.how
       → GoesWith status ending → IsWritten status text was now
       → IfSome it.kept (IsRunOfJob job it.status was now)
   is_run_of job was now text ending same ended made goes written =
@@ -199,7 +200,8 @@ module _ (it : Ended) (status : ℕ) (kept : Left)
         program = same;
         ended = ended;
         made = subst (λ (p : ProgramTerms).
-            IsMadeBy job.asked.by job.asked.workers job.asked.budget p kept.journal kept.how)
+            IsMadeBy job.asked.by job.asked.workers job.asked.budget job.asked.loss
+            p kept.journal kept.how)
             (sym same) made;
         goes = goes;
         written = written;

@@ -19,13 +19,15 @@ use Rattle.guard_compile.specs.Written.{code_of}
 use Rattle.site_runner.specs.Schedule.{ScheduleOf}
 use Rattle.site_runner.specs.Rounds.{RoundsOf}
 use Rattle.site_runner.specs.Free.{IsFree, first_workers}
+use Rattle.lossy_link.specs.OverBook.{LossyOf}
+use Rattle.lossy_link.specs.declared.schedule.LinkCounts.{LinkCounts}
 use Rattle.site_runner.specs.declared.outcome.How.{How}
 use Rattle.site_runner.specs.declared.outcome.How.TheVariants as how
 use Rattle.trace_text.specs.declared.text.Ending.{Ending}
 use Rattle.trace_text.specs.declared.text.Ending.TheVariants.{Quiescent, Stopped}
 use Rattle.join_words.specs.declared.answer.Asked.{Asked}
 use Rattle.join_words.specs.declared.answer.By.{By}
-use Rattle.join_words.specs.declared.answer.By.TheVariants.{Alone, Rounds, Run}
+use Rattle.join_words.specs.declared.answer.By.TheVariants.{Alone, Rounds, Run, Lossy}
 use Rattle.log_judge.specs.declared.ask.Ask.{Ask}
 use Rattle.log_judge.specs.Judged.{has_verdict, IsRefusedLog, IsNoLog, WritesVerdict}
 use Rattle.sort_judge.specs.Command.{was_judged, IsRefusedSource}
@@ -130,29 +132,43 @@ pub record Keeps (words : Words) (told : Option (List ℕ)) (ended : Ended) : Ty
 
 -- each command says of itself how it was made; on one thread and in rounds it has a schedule, which
 -- the journal is and in which no number of workers occurs; on free threads the workers have a
--- receipt for each event that they made
-abbrev pub IsMadeBy : By → (workers budget : ℕ) → ProgramTerms → (journal : List Event) → How
+-- receipt for each event that they made; over links the journal is that of the run without them, in
+-- which no loss occurs, and the counts are those of the run over links
+abbrev pub IsMadeBy : By → (workers budget loss : ℕ) → ProgramTerms → (journal : List Event) → How
     → Type 0
-IsMadeBy Alone workers budget p journal made = ScheduleOf p budget journal × (made ≡ how.Alone)
-IsMadeBy Rounds workers budget p journal made =
+IsMadeBy Alone workers budget loss p journal made =
+    ScheduleOf p budget journal × (made ≡ how.Alone)
+IsMadeBy Rounds workers budget loss p journal made =
     RoundsOf p (code_of p) budget journal × (made ≡ how.Rounds)
-IsMadeBy Run workers budget p journal made =
+IsMadeBy Run workers budget loss p journal made =
     IsFree (length p.sites) (first_workers workers) p budget journal made
+IsMadeBy Lossy workers budget loss p journal made =
+    (counts : LinkCounts) × LossyOf p (code_of p) budget loss journal counts
+    × (made ≡ how.Lossy counts.sent counts.lost counts.repeated counts.arrived)
 
 -- such a command makes no two different runs of a program for one budget, however many workers
--- there are
+-- there are and whatever is lost
 abbrev pub MakesOneRun : By → Type 0
 MakesOneRun by =
-    (p : ProgramTerms) → IsProgram p → (workers others budget : ℕ)
+    (p : ProgramTerms) → IsProgram p → (workers others budget loss other_loss : ℕ)
     → (journal other : List Event) (how told : How)
-    → IsMadeBy by workers budget p journal how → IsMadeBy by others budget p other told
-    → journal ≡ other
+    → IsMadeBy by workers budget loss p journal how
+    → IsMadeBy by others budget other_loss p other told → journal ≡ other
+
+-- of two runs over links of one program, for one budget and one loss, the same counts are told
+abbrev pub TellsOneCount : Type 0
+TellsOneCount =
+    (p : ProgramTerms) → IsProgram p → (workers others budget loss : ℕ)
+    → (journal other : List Event) (how told : How)
+    → IsMadeBy Lossy workers budget loss p journal how
+    → IsMadeBy Lossy others budget loss p other told → how ≡ told
 
 -- the run that is kept is made by the command that the words ask for
 pub record IsMadeAsAsked (words : Words) (kept : Kept) : Type 0 where
   pub asked : Asked
   pub is_asked : task words ≡ Some asked
-  pub made : IsMadeBy asked.by asked.workers asked.budget kept.program kept.journal kept.how
+  pub made :
+      IsMadeBy asked.by asked.workers asked.budget asked.loss kept.program kept.journal kept.how
 
 -- ---- what is written of it
 

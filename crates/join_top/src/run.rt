@@ -56,7 +56,7 @@ pub fn run<G: Gate, T: Team + FreeTeam<G>>(
     ensures program { IfOk result (λ ran. ran.kept.program ≡ program.now) }
     ensures ended { IfOk result (λ ran. IsEnded asked.now source.now ran.kept ran.text ran.ending) }
     ensures made { IfOk result (λ ran.
-        IsMadeBy asked.now.by asked.now.workers asked.now.budget program.now
+        IsMadeBy asked.now.by asked.now.workers asked.now.budget asked.now.loss program.now
         ran.kept.journal ran.kept.how) }
 {
     let done = make(alloc, asked, program, gate, team)?;

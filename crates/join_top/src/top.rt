@@ -63,7 +63,7 @@ enum Wanted {
 /// Does all that the program does, from its words and the bytes of its source to the bytes on `out`
 /// and `err`. The team works where the words ask for rounds or for free threads, which pass the
 /// gate in each of their turns. It returns wherever the calls of the team that it was handed
-/// return, and with `alone` it makes none.
+/// return, and with `alone` and `lossy` it makes none.
 ///
 /// The clauses are in the words of `specs/RunJoin.antt` and `specs/Task.antt`. They see a source by
 /// the bytes that it has left, and a sink by those that it holds, where these are told.

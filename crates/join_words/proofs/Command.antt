@@ -9,7 +9,8 @@ use Rattle.clap.specs.Walk.{Row, Rule, Text, arg_by_long, has_row, used, with_de
 use Rattle.clap.specs.Simple.{Shape, built, filled, is_simple, with_index}
 use Rattle.clap.specs.Faults.{default_fault, defaults_fault, is_simple_and_free, use_fault}
 use Rattle.clap.specs.Kinds.{Kinds, or_else}
-use Rattle.join_words.specs.Line.{Field, Kind, budget, by, flag, kind_of, unknown, valued, workers}
+use Rattle.join_words.specs.Line.{Field, Kind, budget, by, flag, kind_of, loss, unknown, valued}
+use Rattle.join_words.specs.Line.{workers}
 use Rattle.join_words.specs.inside.Command.{flagged, line_app, optional, positional}
 use Rattle.join_words.proofs.Rows.{put}
 
@@ -35,6 +36,7 @@ abbrev pub field_id : Field → Text
 field_id budget = codes "budget"
 field_id workers = codes "workers"
 field_id by = codes "by"
+field_id loss = codes "loss"
 
 abbrev pub field_rule : Field → Rule
 field_rule f = filled (optional (field_id f))
@@ -49,19 +51,21 @@ kind_rule unknown = None
 
 pub by_long : (name : Text) → arg_by_long all_rules name ≡ kind_rule (kind_of (45 ∷ 45 ∷ name))
 by_long name = go (bytes_eq (codes "budget") name) (bytes_eq (codes "workers") name)
-    (bytes_eq (codes "by") name) (bytes_eq (codes "log") name)
+    (bytes_eq (codes "by") name) (bytes_eq (codes "loss") name) (bytes_eq (codes "log") name)
   where
-    go : (b w y l : Bool)
+    go : (b w y s l : Bool)
         → cond (b || false) (Some (field_rule budget))
         (cond (w || false) (Some (field_rule workers))
-        (cond (y || false) (Some (field_rule by)) (cond (l || false) (Some log_rule) None)))
+        (cond (y || false) (Some (field_rule by))
+        (cond (s || false) (Some (field_rule loss)) (cond (l || false) (Some log_rule) None))))
         ≡ kind_rule (cond b (valued budget)
-        (cond w (valued workers) (cond y (valued by) (cond l flag unknown))))
-    go true w y l = refl
-    go false true y l = refl
-    go false false true l = refl
-    go false false false true = refl
-    go false false false false = refl
+        (cond w (valued workers) (cond y (valued by) (cond s (valued loss) (cond l flag unknown)))))
+    go true w y s l = refl
+    go false true y s l = refl
+    go false false true s l = refl
+    go false false false true l = refl
+    go false false false false true = refl
+    go false false false false false = refl
 
 -- ---- one use
 
@@ -88,6 +92,7 @@ pub field_use : (f : Field) (v : Text) (rows : List Row)
 field_use budget v rows = text-repeat (has_row (codes "budget") rows)
 field_use workers v rows = text-repeat (has_row (codes "workers") rows)
 field_use by v rows = text-repeat (has_row (codes "by") rows)
+field_use loss v rows = text-repeat (has_row (codes "loss") rows)
 
 pub log_use : (rows : List Row)
     → use_fault false log_rule [] rows ≡ repeat (has_row (codes "log") rows)
@@ -98,6 +103,7 @@ pub field_used : (f : Field) (v : Text) (rows : List Row)
 field_used budget v rows = refl
 field_used workers v rows = refl
 field_used by v rows = refl
+field_used loss v rows = refl
 
 -- ---- after the words
 
@@ -128,7 +134,8 @@ defaults_pass = one_more mode_rule _ (λ rows. no_default (has_row (codes "mode"
     (one_more (field_rule budget) _ (λ rows. no_default (has_row (codes "budget") rows) _)
     (one_more (field_rule workers) _ (λ rows. no_default (has_row (codes "workers") rows) _)
     (one_more (field_rule by) _ (λ rows. no_default (has_row (codes "by") rows) _)
-    (one_more log_rule _ (λ rows. log_default (has_row (codes "log") rows)) nothing_left)))))
+    (one_more (field_rule loss) _ (λ rows. no_default (has_row (codes "loss") rows) _)
+    (one_more log_rule _ (λ rows. log_default (has_row (codes "log") rows)) nothing_left))))))
   where
     log_default : (b : Bool) → cond {A = Kinds} (b || false) [] [] ≡ []
     log_default true = refl

@@ -13,7 +13,7 @@ use Rattle.clap.specs.Simple.{built, entered, matches_of}
 use Rattle.clap.specs.Faults.{defaults_fault, entered_fault, fault_of, level_fault, settle_fault}
 use Rattle.clap.specs.Faults.{walk_fault}
 use Rattle.clap.specs.Kinds.{Kinds, or_else}
-use Rattle.join_words.specs.Line.{Field, Line, budget, by, line_of, nothing_read, workers}
+use Rattle.join_words.specs.Line.{Field, Line, budget, by, line_of, loss, nothing_read, workers}
 use Rattle.join_words.specs.Asks.{asked}
 use Rattle.join_words.specs.inside.Command.{line_app}
 use Rattle.join_words.proofs.Rows.{at_none, has-look, look, look-other, look-same}
@@ -42,6 +42,7 @@ start = ready [] None Rattle.clap.specs.Walk.idle false nothing_read.line refl r
     no_field budget = refl
     no_field workers = refl
     no_field by = refl
+    no_field loss = refl
 
 abbrev default_row : Row
 default_row = record {
@@ -81,6 +82,8 @@ sees-field workers rows l m = ap (option_and_then (λ (r : Row). slice_get r.val
     (kept (codes "workers") refl rows ∙ m.fields workers) ∙ seen (codes "workers") l.workers
 sees-field by rows l m = ap (option_and_then (λ (r : Row). slice_get r.values 0))
     (kept (codes "by") refl rows ∙ m.fields by) ∙ seen (codes "by") l.by
+sees-field loss rows l m = ap (option_and_then (λ (r : Row). slice_get r.values 0))
+    (kept (codes "loss") refl rows ∙ m.fields loss) ∙ seen (codes "loss") l.loss
 
 sees-log : (rows : List Row) (b : Bool) → look (codes "log") rows ≡ cond b
     (Some (Rattle.join_words.proofs.Rows.new_row (codes "log") AsWritten (codes "true" ∷ []))) None

@@ -20,7 +20,7 @@ use Rattle.clap.specs.Faults.{positional_fault, settle_fault, step_fault, stray_
 use Rattle.clap.specs.Faults.{use_fault, walk_fault, word_fault}
 use Rattle.clap.specs.Kinds.{Kinds, or_else}
 use Rattle.join_words.specs.Line.{Field, Kind, Line, Plain, Reading, Text, budget, by, dashed_word}
-use Rattle.join_words.specs.Line.{flag, into, is_dashed, given, kind_of, name_of, none, one}
+use Rattle.join_words.specs.Line.{flag, into, is_dashed, given, kind_of, loss, name_of, none, one}
 use Rattle.join_words.specs.Line.{option_word, read_from, read_word, two, unknown, value_of, valued}
 use Rattle.join_words.specs.Line.{with_plain, workers}
 use Rattle.join_words.specs.Asks.{judged}
@@ -356,17 +356,32 @@ field-fields budget workers v rows l m free =
     ∙ m.fields workers
 field-fields budget by v rows l m free =
     put-other (codes "budget") AsWritten (v ∷ []) rows free (codes "by") refl ∙ m.fields by
+field-fields budget loss v rows l m free =
+    put-other (codes "budget") AsWritten (v ∷ []) rows free (codes "loss") refl ∙ m.fields loss
 field-fields workers budget v rows l m free =
     put-other (codes "workers") AsWritten (v ∷ []) rows free (codes "budget") refl ∙ m.fields budget
 field-fields workers workers v rows l m free =
     put-same (codes "workers") AsWritten (v ∷ []) rows free refl
 field-fields workers by v rows l m free =
     put-other (codes "workers") AsWritten (v ∷ []) rows free (codes "by") refl ∙ m.fields by
+field-fields workers loss v rows l m free =
+    put-other (codes "workers") AsWritten (v ∷ []) rows free (codes "loss") refl ∙ m.fields loss
 field-fields by budget v rows l m free =
     put-other (codes "by") AsWritten (v ∷ []) rows free (codes "budget") refl ∙ m.fields budget
 field-fields by workers v rows l m free =
     put-other (codes "by") AsWritten (v ∷ []) rows free (codes "workers") refl ∙ m.fields workers
-field-fields by by v rows l m free = put-same (codes "by") AsWritten (v ∷ []) rows free refl
+field-fields by by v rows l m free =
+    put-same (codes "by") AsWritten (v ∷ []) rows free refl
+field-fields by loss v rows l m free =
+    put-other (codes "by") AsWritten (v ∷ []) rows free (codes "loss") refl ∙ m.fields loss
+field-fields loss budget v rows l m free =
+    put-other (codes "loss") AsWritten (v ∷ []) rows free (codes "budget") refl ∙ m.fields budget
+field-fields loss workers v rows l m free =
+    put-other (codes "loss") AsWritten (v ∷ []) rows free (codes "workers") refl ∙ m.fields workers
+field-fields loss by v rows l m free =
+    put-other (codes "loss") AsWritten (v ∷ []) rows free (codes "by") refl ∙ m.fields by
+field-fields loss loss v rows l m free =
+    put-same (codes "loss") AsWritten (v ∷ []) rows free refl
 
 match-field : (f : Field) (v : Text) (rows : List Row) (l : Line) → Match rows l
     → look (field_id f) rows ≡ None → Match (put (field_id f) AsWritten (v ∷ []) rows) (set f v l)
@@ -388,6 +403,12 @@ match-field by v rows l m free = record {
   ring = put-other (codes "by") AsWritten (v ∷ []) rows free (codes "ring") refl ∙ m.ring;
   log = put-other (codes "by") AsWritten (v ∷ []) rows free (codes "log") refl ∙ m.log;
 }
+match-field loss v rows l m free = record {
+  fields = λ g. field-fields loss g v rows l m free;
+  mode = put-other (codes "loss") AsWritten (v ∷ []) rows free (codes "mode") refl ∙ m.mode;
+  ring = put-other (codes "loss") AsWritten (v ∷ []) rows free (codes "ring") refl ∙ m.ring;
+  log = put-other (codes "loss") AsWritten (v ∷ []) rows free (codes "log") refl ∙ m.log;
+}
 
 log-fields : (g : Field) (v : Text) (rows : List Row) (l : Line) → Match rows l
     → look (codes "log") rows ≡ None
@@ -401,6 +422,9 @@ log-fields workers v rows l m free =
     ∙ m.fields workers
 log-fields by v rows l m free =
     put-other (codes "log") AsWritten (codes "true" ∷ []) rows free (codes "by") refl ∙ m.fields by
+log-fields loss v rows l m free =
+    put-other (codes "log") AsWritten (codes "true" ∷ []) rows free (codes "loss") refl
+    ∙ m.fields loss
 
 mode-fields : (g : Field) (v : Text) (rows : List Row) (l : Line) → Match rows l
     → look (codes "mode") rows ≡ None
@@ -412,6 +436,8 @@ mode-fields workers v rows l m free =
     put-other (codes "mode") AsWritten (v ∷ []) rows free (codes "workers") refl ∙ m.fields workers
 mode-fields by v rows l m free =
     put-other (codes "mode") AsWritten (v ∷ []) rows free (codes "by") refl ∙ m.fields by
+mode-fields loss v rows l m free =
+    put-other (codes "mode") AsWritten (v ∷ []) rows free (codes "loss") refl ∙ m.fields loss
 
 ring-fields : (g : Field) (v : Text) (rows : List Row) (l : Line) → Match rows l
     → look (codes "ring") rows ≡ None
@@ -423,16 +449,20 @@ ring-fields workers v rows l m free =
     put-other (codes "ring") AsWritten (v ∷ []) rows free (codes "workers") refl ∙ m.fields workers
 ring-fields by v rows l m free =
     put-other (codes "ring") AsWritten (v ∷ []) rows free (codes "by") refl ∙ m.fields by
+ring-fields loss v rows l m free =
+    put-other (codes "ring") AsWritten (v ∷ []) rows free (codes "loss") refl ∙ m.fields loss
 
 at-log : (g : Field) (l : Line) → at g (record l { log = true }) ≡ at g l
 at-log budget l = refl
 at-log workers l = refl
 at-log by l = refl
+at-log loss l = refl
 
 at-plain : (g : Field) (p : Plain) (l : Line) → at g (record l { plain = p }) ≡ at g l
 at-plain budget p l = refl
 at-plain workers p l = refl
 at-plain by p l = refl
+at-plain loss p l = refl
 
 match-log : (rows : List Row) (l : Line) → Match rows l → look (codes "log") rows ≡ None
     → Match (put (codes "log") AsWritten (codes "true" ∷ []) rows) (record l { log = true })
@@ -537,6 +567,7 @@ place-set : (f : Field) (v : Text) (l : Line) → place (set f v l).plain ≡ pl
 place-set budget v l = refl
 place-set workers v l = refl
 place-set by v l = refl
+place-set loss v l = refl
 
 -- a word `--name` or `--name=value`, where nothing waits
 module _ (c : ℕ) (t : Text) (rows : List Row) (p : Option (Text × List Text)) (wt : Waiting)
@@ -753,40 +784,47 @@ unfolding walked Takes
 takes-empty budget rows pos = (refl, refl)
 takes-empty workers rows pos = (refl, refl)
 takes-empty by rows pos = (refl, refl)
+takes-empty loss rows pos = (refl, refl)
 
 takes-dash : Takes (45 ∷ [])
 unfolding walked Takes
 takes-dash budget rows pos = (refl, refl)
 takes-dash workers rows pos = (refl, refl)
 takes-dash by rows pos = (refl, refl)
+takes-dash loss rows pos = (refl, refl)
 
 takes-other : (c : ℕ) (t : Text) → (c == 45) ≡ false → Takes (c ∷ t)
 unfolding walked Takes
 takes-other c t n budget rows pos = (rw (n, n) refl, rw (n, n) refl)
 takes-other c t n workers rows pos = (rw (n, n) refl, rw (n, n) refl)
 takes-other c t n by rows pos = (rw (n, n) refl, rw (n, n) refl)
+takes-other c t n loss rows pos = (rw (n, n) refl, rw (n, n) refl)
 
 owes-field : (f : Field) (x : Text) (rows : List Row)
     → owes (Some (field_id f, x ∷ [])) rows ≡ use_fault false (field_rule f) (x ∷ []) rows
 owes-field budget x rows = refl
 owes-field workers x rows = refl
 owes-field by x rows = refl
+owes-field loss x rows = refl
 
 rows-field : (f : Field) (x : Text) (rows : List Row)
     → rows_now (Some (field_id f, x ∷ [])) rows ≡ put (field_id f) AsWritten (x ∷ []) rows
 rows-field budget x rows = refl
 rows-field workers x rows = refl
 rows-field by x rows = refl
+rows-field loss x rows = refl
 
 owes-waiting : (f : Field) (rows : List Row) → Fails (owes (Some (field_id f, [])) rows)
 owes-waiting budget rows = tt
 owes-waiting workers rows = tt
 owes-waiting by rows = tt
+owes-waiting loss rows = tt
 
 at-set : (f : Field) (v : Text) (l : Line) → at f (set f v l) ≡ Some v
 at-set budget v l = refl
 at-set workers v l = refl
 at-set by v l = refl
+at-set loss v l = refl
 
 module _ (f : Field) (rows : List Row) (l : Line) (m : Match rows l) where
   abbrev at_option : Walk

@@ -8,7 +8,7 @@ use Rattle.std.specs.Str.Parse.{digits_value}
 use Rattle.join_words.specs.Line.{Line, Plain, Text, line_of, none, one, two}
 use Rattle.join_words.specs.declared.answer.Asked.{Asked}
 use Rattle.join_words.specs.declared.answer.By.{By}
-use Rattle.join_words.specs.declared.answer.By.TheVariants.{Alone, Rounds, Run}
+use Rattle.join_words.specs.declared.answer.By.TheVariants.{Alone, Rounds, Run, Lossy}
 use Rattle.join_words.specs.declared.answer.Job.{Job}
 use Rattle.join_words.specs.declared.answer.Job.TheVariants as job
 use Rattle.join_words.specs.declared.answer.WordEnd.{WordEnd}
@@ -32,6 +32,7 @@ abbrev pub number_or : ℕ → ℕ → ℕ → Option Text → Option ℕ
 number_or default low high None = Some default
 number_or default low high (Some text) = number_in low high text
 
+-- the commands that `--by` takes
 abbrev pub by_named : Text → Option By
 by_named text = if bytes_eq text (codes "alone") then Some Alone
     else (if bytes_eq text (codes "rounds") then Some Rounds
@@ -51,11 +52,12 @@ nothing_asked = record {
   budget = 100000;
   workers = 4;
   log = false;
+  loss = 0;
 }
 
--- `gen` with the size of a ring, 1 to 64: it takes `--by`, and no `--log`
+-- `gen` with the size of a ring, 1 to 64: it takes `--by`, and neither `--loss` nor `--log`
 abbrev pub generated : Line → Text → ℕ → ℕ → Option Asked
-generated l size budget workers = if l.log then None
+generated l size budget workers = if is_some l.loss || l.log then None
     else option_and_then (λ sites. option_map (λ by. record nothing_asked {
       by = by;
       ring = Some sites;
@@ -63,15 +65,30 @@ generated l size budget workers = if l.log then None
       workers = workers;
     }) (by_or_alone l.by)) (number_in 1 64 size)
 
--- `alone`, `rounds` or `run`: it takes `--log`, and no `--by`
+-- `alone`, `rounds` or `run`: it takes `--log`, and neither `--by` nor `--loss`
 abbrev pub run_as : Line → Text → ℕ → ℕ → Option Asked
-run_as l mode budget workers = if is_some l.by then None
+run_as l mode budget workers = if is_some l.by || is_some l.loss then None
     else option_map (λ by. record nothing_asked {
       by = by;
       budget = budget;
       workers = workers;
       log = l.log;
     }) (by_named mode)
+
+-- `lossy`: it takes `--loss`, 0 to 3 and 0 where it isn't given, and none of `--workers`, `--by`
+-- and `--log`
+abbrev pub lossy_as : Line → ℕ → Option Asked
+lossy_as l budget = if is_some l.workers || (is_some l.by || l.log) then None
+    else option_map (λ loss. record nothing_asked {
+      by = Lossy;
+      budget = budget;
+      loss = loss;
+    }) (number_or 0 0 3 l.loss)
+
+-- one of the two
+abbrev pub any_run_as : Line → Text → ℕ → ℕ → Option Asked
+any_run_as l mode budget workers = if bytes_eq mode (codes "lossy") then lossy_as l budget
+    else run_as l mode budget workers
 
 -- the commands that take no size and no option
 abbrev pub bare_job : Text → Option Job
@@ -80,14 +97,15 @@ bare_job text = if bytes_eq text (codes "check") then Some job.Check
     else (if bytes_eq text (codes "sorts") then Some job.Sorts else None))
 
 abbrev pub is_bare : Line → Bool
-is_bare l = not (is_some l.budget || (is_some l.workers || (is_some l.by || l.log)))
+is_bare l = not (is_some l.budget
+    || (is_some l.workers || (is_some l.by || (is_some l.loss || l.log))))
 
 abbrev pub bare : Line → Job → Option Asked
 bare l j = if is_bare l then Some (record nothing_asked { job = j }) else None
 
 -- one of these, or a run
 abbrev pub bare_or_run : Line → Option Job → Text → ℕ → ℕ → Option Asked
-bare_or_run l None mode budget workers = run_as l mode budget workers
+bare_or_run l None mode budget workers = any_run_as l mode budget workers
 bare_or_run l (Some j) mode budget workers = bare l j
 
 -- there is a mode; the size of a ring is needed with `gen`, and refused otherwise
@@ -118,7 +136,8 @@ IsSizeIfAny (Some n) = IsSize n
 
 -- its numbers are within their limits
 abbrev pub IsWithin : Asked → Type 0
-IsWithin a = (a.budget ≤ 4000000) × ((1 ≤ a.workers) × (a.workers ≤ 16)) × IsSizeIfAny a.ring
+IsWithin a = (a.budget ≤ 4000000) × ((1 ≤ a.workers) × (a.workers ≤ 16)) × (a.loss ≤ 3)
+    × IsSizeIfAny a.ring
 
 -- a call answers what is asked for, `Form` where that is none, or want of memory
 abbrev pub Answers : Option Asked → Result Asked WordEnd → Type 0

@@ -7,11 +7,12 @@ use Rattle.std.specs.Str.{bytes_eq}
 abbrev pub Text : Type 0
 Text = List ℕ
 
--- the options that take a value: `--budget`, `--workers` and `--by`
+-- the options that take a value: `--budget`, `--workers`, `--by` and `--loss`
 pub data Field : Type 0 where
   budget : Field
   workers : Field
   by : Field
+  loss : Field
 
 -- the plain words: the first is the mode, and the second is the size of a ring
 pub data Plain : Type 0 where
@@ -24,6 +25,7 @@ pub record Line : Type 0 where
   pub budget : Option Text
   pub workers : Option Text
   pub by : Option Text
+  pub loss : Option Text
   pub log : Bool
   pub plain : Plain
 
@@ -53,13 +55,15 @@ abbrev pub kind_of : Text → Kind
 kind_of name = if bytes_eq (codes "--budget") name then valued budget
     else (if bytes_eq (codes "--workers") name then valued workers
     else (if bytes_eq (codes "--by") name then valued by
-    else (if bytes_eq (codes "--log") name then flag else unknown)))
+    else (if bytes_eq (codes "--loss") name then valued loss
+    else (if bytes_eq (codes "--log") name then flag else unknown))))
 
 -- an option comes at most once
 abbrev pub given : Field → Text → Line → Option Line
 given budget v l = if is_some l.budget then None else Some (record l { budget = Some v })
 given workers v l = if is_some l.workers then None else Some (record l { workers = Some v })
 given by v l = if is_some l.by then None else Some (record l { by = Some v })
+given loss v l = if is_some l.loss then None else Some (record l { loss = Some v })
 
 -- so does `--log`
 abbrev pub logged : Line → Option Line
@@ -112,7 +116,14 @@ read_from r (w ∷ ws) = option_and_then (λ q. read_from q ws) (read_word r w)
 
 abbrev pub nothing_read : Reading
 nothing_read = record {
-  line = record { budget = None; workers = None; by = None; log = false; plain = none };
+  line = record {
+    budget = None;
+    workers = None;
+    by = None;
+    loss = None;
+    log = false;
+    plain = none;
+  };
   waits = None;
   ended = false;
 }

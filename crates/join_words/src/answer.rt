@@ -24,13 +24,14 @@ impl Job {
     }
 }
 
-/// Who runs a program: one thread that works the sites one after another, the threads in rounds, or
-/// the threads freely.
+/// Who runs a program: one thread that works the sites one after another, the threads in rounds,
+/// the threads freely, or one thread over links that lose, repeat and reorder what sites send.
 #[derive(Clone, Copy, Debug, PartialEq, Eq)]
 pub enum By {
     Alone,
     Rounds,
     Run,
+    Lossy,
 }
 
 impl By {
@@ -54,10 +55,12 @@ pub struct Asked {
     pub ring: Option<u32>,
     /// The most events that the run may have, 0 to 4,000,000.
     pub budget: u32,
-    /// The number of threads, 1 to 16. `By::Alone` doesn't use it.
+    /// The number of threads, 1 to 16. `By::Alone` and `By::Lossy` don't use it.
     pub workers: u32,
     /// Whether the log is written in place of the trace.
     pub log: bool,
+    /// With which turn of four the links begin, 0 to 3. `By::Lossy` alone uses it.
+    pub loss: u32,
 }
 
 impl Asked {

@@ -19,6 +19,7 @@ pub struct LineTexts<'a> {
     pub budget: Option<&'a str>,
     pub workers: Option<&'a str>,
     pub by: Option<&'a str>,
+    pub loss: Option<&'a str>,
     pub log: bool,
 }
 
@@ -65,7 +66,8 @@ fn with_options<'a>(alloc: Global, command: Command<'a>) -> Result<Command<'a>, 
     command
         .arg(valued_option(alloc, "budget"))?
         .arg(valued_option(alloc, "workers"))?
-        .arg(valued_option(alloc, "by"))
+        .arg(valued_option(alloc, "by"))?
+        .arg(valued_option(alloc, "loss"))
 }
 
 // The parts of a line: the first plain word, the second, the options and the flag.
@@ -109,6 +111,7 @@ fn line_texts<'a>(matches: &ArgMatches<'a>) -> LineTexts<'a>
         budget: matches.get_str("budget"),
         workers: matches.get_str("workers"),
         by: matches.get_str("by"),
+        loss: matches.get_str("loss"),
         log: matches.get_flag("log"),
     }
 }

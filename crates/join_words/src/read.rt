@@ -1,7 +1,7 @@
 // From the texts of a line to what it asks for.
-ghost use Rattle.std.specs.Prelude.{◌≡◌, map, option_map, string_bytes, IfOk, IfSome};
+ghost use Rattle.std.specs.Prelude.{◌≡◌, ◌≤◌, map, not, option_map, string_bytes, IfOk, IfSome};
 ghost use Rattle.join_words.specs.Asks.{Answers, IsWithin, asked, by_named, by_or_alone, judged};
-ghost use Rattle.join_words.specs.Asks.{bare, bare_job, run_as};
+ghost use Rattle.join_words.specs.Asks.{bare, bare_job, is_bare, lossy_as, run_as};
 ghost use Rattle.join_words.specs.inside.Command.{line_given};
 ghost use Rattle.join_words.specs.inside.Modes.{AreNumbers, with_gen, without_gen};
 
@@ -24,6 +24,12 @@ const MOST_WORKERS: u32 = 16;
 
 // The most sites of a ring.
 const MOST_SITES: u32 = 64;
+
+// The loss where none is given.
+const DEFAULT_LOSS: u32 = 0;
+
+// The largest loss.
+const MOST_LOSS: u32 = 3;
 
 fn named(text: &str) -> Option<By>
     ensures { result ≡ by_named text.now }
@@ -53,7 +59,7 @@ fn ring_asked(given: &LineTexts, budget: u32, workers: u32) -> Option<Asked>
     ensures within { IfSome result IsWithin }
 {
     let sites = number(given.ring?, 1, MOST_SITES)?;
-    if given.log {
+    if given.loss.is_some() || given.log {
         return None;
     }
     let by = named_unless(given.by)?;
@@ -64,6 +70,7 @@ fn ring_asked(given: &LineTexts, budget: u32, workers: u32) -> Option<Asked>
         budget,
         workers,
         log: false,
+        loss: DEFAULT_LOSS,
     })
 }
 
@@ -79,12 +86,23 @@ fn bare_job(text: &str) -> Option<Job>
     }
 }
 
+// Whether a line has any option.
+fn has_options(given: &LineTexts) -> bool
+    ensures { is_bare (line_given given.now) ≡ not result }
+{
+    given.budget.is_some()
+        || given.workers.is_some()
+        || given.by.is_some()
+        || given.loss.is_some()
+        || given.log
+}
+
 // What a line asks for whose mode is such a command.
 fn bare_asked(given: &LineTexts, job: Job) -> Option<Asked>
     ensures asked { result ≡ bare (line_given given.now) job }
     ensures within { IfSome result IsWithin }
 {
-    if given.budget.is_some() || given.workers.is_some() || given.by.is_some() || given.log {
+    if has_options(given) {
         return None;
     }
     Some(Asked {
@@ -94,16 +112,17 @@ fn bare_asked(given: &LineTexts, job: Job) -> Option<Asked>
         budget: DEFAULT_BUDGET,
         workers: DEFAULT_WORKERS,
         log: false,
+        loss: DEFAULT_LOSS,
     })
 }
 
-// What a line asks for whose mode is a run's.
+// What a line asks for whose mode is a run's, but for the run over links.
 fn run_asked(given: &LineTexts, mode: &str, budget: u32, workers: u32) -> Option<Asked>
     requires { AreNumbers budget workers }
     ensures asked { result ≡ run_as (line_given given.now) mode.now budget workers }
     ensures within { IfSome result IsWithin }
 {
-    if given.by.is_some() {
+    if given.by.is_some() || given.loss.is_some() {
         return None;
     }
     let by = named(mode)?;
@@ -114,6 +133,28 @@ fn run_asked(given: &LineTexts, mode: &str, budget: u32, workers: u32) -> Option
         budget,
         workers,
         log: given.log,
+        loss: DEFAULT_LOSS,
+    })
+}
+
+// What a line asks for whose mode is the run over links.
+fn lossy_asked(given: &LineTexts, budget: u32) -> Option<Asked>
+    requires { budget ≤ 4000000 }
+    ensures asked { result ≡ lossy_as (line_given given.now) budget }
+    ensures within { IfSome result IsWithin }
+{
+    if given.workers.is_some() || given.by.is_some() || given.log {
+        return None;
+    }
+    let loss = number_unless(given.loss, DEFAULT_LOSS, 0, MOST_LOSS)?;
+    Some(Asked {
+        job: Job::Run,
+        by: By::Lossy,
+        ring: None,
+        budget,
+        workers: DEFAULT_WORKERS,
+        log: false,
+        loss,
     })
 }
 
@@ -129,6 +170,7 @@ fn program_asked(given: &LineTexts, mode: &str, budget: u32, workers: u32) -> Op
     }
     match bare_job(mode) {
         Some(job) => bare_asked(given, job),
+        None if mode == "lossy" => lossy_asked(given, budget),
         None => run_asked(given, mode, budget, workers),
     }
 }
@@ -152,6 +194,7 @@ fn asked_of(given: &LineTexts) -> Option<Asked>
 ///
 /// ```text
 /// alone|rounds|run [--budget B] [--workers W] [--log]
+/// lossy [--budget B] [--loss L]
 /// gen N [--by alone|rounds|run] [--budget B] [--workers W]
 /// check
 /// explain
@@ -161,7 +204,8 @@ fn asked_of(given: &LineTexts) -> Option<Asked>
 /// The options stand anywhere, each at most once, and with their value in the next word or after
 /// `=` in the same one. After the word `--` every word is a plain word. A number is 1 to 7 decimal
 /// digits. B is 0 to 4,000,000, and 100,000 where it isn't given; W is 1 to 16, and 4 where it
-/// isn't given; N is 1 to 64. `--by` is `alone` where it isn't given.
+/// isn't given; L is 0 to 3, and 0 where it isn't given; N is 1 to 64. `--by` is `alone` where it
+/// isn't given.
 ///
 /// `Form` comes exactly where the words aren't of this form, and `Memory` only for want of memory.
 pub fn read_words(alloc: Global, words: &[String]) -> Result<Asked, WordEnd>

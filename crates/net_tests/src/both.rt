@@ -73,7 +73,8 @@ pub fn both_of(alloc: Global, text: &[u8]) -> Option<Both> {
     both_with(alloc, &program, &code)
 }
 
-fn commit(alloc: Global, book: &mut Book, event: &Event) -> Step {
+// Makes an event in the book, where it is possible.
+pub fn commit(alloc: Global, book: &mut Book, event: &Event) -> Step {
     if book.journal().len() >= MOST_EVENTS as usize {
         return Step::Not;
     }

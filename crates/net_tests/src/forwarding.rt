@@ -7,7 +7,7 @@ use std::alloc::Global;
 
 // The location's request to go has the number 6, and a message to the location is under way from
 // the start.
-const FORWARDED: &str = "observe out/1; \
+pub const FORWARDED: &str = "observe out/1; \
     site a [ m[ k() => 0 and x(u) => out(u) : go(b, k) ] : 0 ] site b [ none : x(b) ]";
 
 // The location's request to go has the number 4.

@@ -7,6 +7,9 @@ mod both;
 pub mod bringing;
 #[cfg(test)]
 mod forwarding;
+pub mod linking;
+#[cfg(test)]
+mod links;
 #[cfg(test)]
 mod orders;
 #[cfg(test)]

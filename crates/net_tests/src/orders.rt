@@ -7,10 +7,10 @@ use reducer::Pick;
 use std::alloc::Global;
 
 // Groups with greater numbers react only where `next` says so.
-const GROUPS: u32 = 8;
+pub const GROUPS: u32 = 8;
 
 // Requests with greater numbers are made only where `next` says so.
-const ATOMS: u64 = 80;
+pub const ATOMS: u64 = 80;
 
 // What a network makes next: what `next` says; the last packet under way, and else what `next`
 // says; the last event of the first site that has one, and else what `next` says, so that packets
@@ -70,7 +70,8 @@ fn choices_of(alloc: Global, both: &Both, site: u32) -> Result<Choices, Memory> 
     Ok(choices)
 }
 
-fn following(seed: u32) -> u32 {
+// The number behind this one.
+pub fn following(seed: u32) -> u32 {
     seed.wrapping_mul(1_664_525).wrapping_add(1_013_904_223)
 }
 

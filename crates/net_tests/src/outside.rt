@@ -2,14 +2,10 @@
 
 use crate::both::{Both, Step, both_of};
 use crate::bringing::{bring_back, drain_one};
+use crate::forwarding::FORWARDED;
 use chem_model::AtomId;
 use net_core::{Choice, Net};
 use std::alloc::Global;
-
-// The location's request to go has the number 6, and a message to the location is under way from
-// the start, sent by the second site.
-const FORWARDED: &str = "observe out/1; \
-    site a [ m[ k() => 0 and x(u) => out(u) : go(b, k) ] : 0 ] site b [ none : x(b) ]";
 
 // The site that sent the packet under way and the one to which it goes, where it is one alone.
 fn way_of_one(alloc: Global, net: &mut Net) -> Option<(u32, u32)> {

@@ -14,7 +14,7 @@ use Rattle.shared_net.specs.Causes.{IsCause, IsOfStarted}
 use Rattle.shared_net.specs.Reports.{Reported}
 use Rattle.site_runner.specs.Schedule.{IsSchedule, ScheduleOf}
 use Rattle.site_runner.specs.declared.outcome.How.{How}
-use Rattle.site_runner.specs.declared.outcome.How.TheVariants.{Alone, Rounds, Shared, Lone}
+use Rattle.site_runner.specs.declared.outcome.How.TheVariants.{Alone, Rounds, Shared, Lone, Lossy}
 
 -- the book is of the program and has at most so many events; and no event is possible or it has
 -- exactly that many
@@ -69,6 +69,7 @@ IsMadeWith rows p budget journal (Shared events report) =
     × AreFirst events (all_receipts rows) journal × GoesOnAlone p budget events journal
 IsMadeWith rows p budget journal (Lone report) =
     (report.workers ≡ rows) × HasCause p report × ScheduleOf p budget journal
+IsMadeWith rows p budget journal (Lossy sent lost repeated arrived) = ⊥
 
 -- it was made so, with a row for each of these workers
 pub record IsFree (sites : ℕ) (workers : List ℕ) (p : ProgramTerms) (budget : ℕ)

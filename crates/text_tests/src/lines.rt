@@ -11,6 +11,7 @@ const PLAIN: Asked = Asked {
     budget: 100_000,
     workers: 4,
     log: false,
+    loss: 0,
 };
 
 // The words, each with its own bytes.
@@ -67,6 +68,22 @@ const LINES: &[(&[&str], Asked)] = &[
     (&["sorts"], SORTS),
     (&["--", "sorts"], SORTS),
     (&["--by=rounds", "gen", "--", "0000005"], FIVE),
+    (
+        &["lossy"],
+        Asked {
+            by: By::Lossy,
+            ..PLAIN
+        },
+    ),
+    (
+        &["--loss=3", "lossy", "--budget", "7"],
+        Asked {
+            by: By::Lossy,
+            budget: 7,
+            loss: 3,
+            ..PLAIN
+        },
+    ),
 ];
 
 // What asks for the verdict on a log.
@@ -119,6 +136,10 @@ const NO_LINES: &[&[&str]] = &[
     &["sorts", "5"],
     &["sorts", "check"],
     &["gen", "5", "--by", "check"],
+    &["gen", "5", "--by", "lossy"],
+    &["lossy", "5"],
+    &["lossy", "--log"],
+    &["lossy", "--", "--loss"],
 ];
 
 #[test]
@@ -146,6 +167,14 @@ const NO_OPTIONS: &[&[&str]] = &[
     &["explain", "--workers=4"],
     &["sorts", "--log"],
     &["--budget", "10", "sorts"],
+    &["lossy", "--workers", "4"],
+    &["lossy", "--by", "alone"],
+    &["lossy", "--loss", "4"],
+    &["lossy", "--loss", "1", "--loss", "1"],
+    &["lossy", "--loss="],
+    &["alone", "--loss", "0"],
+    &["gen", "5", "--loss", "0"],
+    &["check", "--loss", "0"],
 ];
 
 #[test]

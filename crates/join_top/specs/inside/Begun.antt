@@ -6,6 +6,7 @@ use Rattle.env_store.specs.CodeFacts.{IsCode}
 use Rattle.env_store.specs.Laws.{rules_of_group}
 use Rattle.env_store.specs.Reading.{IsCodeOf}
 use Rattle.guard_compile.specs.Written.{code_of}
+use Rattle.net_core.specs.Senders.{opened_froms}
 use Rattle.net_core.specs.Whole.{NetParts}
 use Rattle.net_laws.specs.Net.{Stands}
 use Rattle.net_laws.specs.Opened.{opened_net, RunsCode}
@@ -16,6 +17,7 @@ pub record IsBegun (p : ProgramTerms) (net : NetParts) : Type 0 where
   pub is_code : IsCode net.code
   pub of_program : IsCodeOf p net.code
   pub opened : net.net ≡ opened_net p.version net.code
+  pub froms : net.froms ≡ opened_froms p.version net.code
   pub events : net.events ≡ 0
   pub stands : Stands (rules_of_group p) net.net (opening p)
   pub runs : RunsCode p net.code net.net

@@ -107,6 +107,7 @@ pub record IsRunOfJob (job : Begun) (status : ℕ) (old new : Option (List ℕ))
   pub program : kept.program ≡ job.program
   pub ended : IsEnded job.asked job.text kept text ending
   pub made :
-      IsMadeBy job.asked.by job.asked.workers job.asked.budget kept.program kept.journal kept.how
+      IsMadeBy job.asked.by job.asked.workers job.asked.budget job.asked.loss
+      kept.program kept.journal kept.how
   pub goes : GoesWith status ending
   pub written : IsWritten status text old new

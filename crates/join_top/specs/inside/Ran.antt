@@ -32,9 +32,10 @@ ReadsPart ring left old new =
     ReadOrRing ring (TakesAtMost (left old) (left new) 1048576) (new ≡ old)
 
 -- a finished run of the program, made by this command
-pub record IsRunBy (by : By) (workers budget : ℕ) (p : ProgramTerms) (done : Done) : Type 0 where
-  pub finished : IsFinished p budget done.book
-  pub made : IsMadeBy by workers budget p done.book.journal done.how
+pub record IsRunBy (by : By) (workers budget loss : ℕ) (p : ProgramTerms) (done : Done) : Type 0
+  where
+    pub finished : IsFinished p budget done.book
+    pub made : IsMadeBy by workers budget loss p done.book.journal done.how
 
 -- how a run ended by whether the machine is quiet
 abbrev pub ending_of : Bool → Ending

@@ -34,8 +34,8 @@ plain_app = with_rule (with_rule bare (positional (codes "mode"))) (positional (
 
 -- one with the options that take a value
 abbrev pub options_app : App → App
-options_app app = with_rule (with_rule (with_rule app (optional (codes "budget")))
-    (optional (codes "workers"))) (optional (codes "by"))
+options_app app = with_rule (with_rule (with_rule (with_rule app (optional (codes "budget")))
+    (optional (codes "workers"))) (optional (codes "by"))) (optional (codes "loss"))
 
 abbrev pub line_app : App
 line_app = with_rule (options_app plain_app) (flagged (codes "log"))
@@ -52,6 +52,7 @@ pub record Shows (found : Found) (given : LineTexts) : Type 0 where
   pub budget : option_map (λ s. s.now) given.budget ≡ first_value found (codes "budget")
   pub workers : option_map (λ s. s.now) given.workers ≡ first_value found (codes "workers")
   pub by : option_map (λ s. s.now) given.by ≡ first_value found (codes "by")
+  pub loss : option_map (λ s. s.now) given.loss ≡ first_value found (codes "loss")
   pub is_logged : one_text found (codes "log") ≡ Some (codes "true") → given.log ≡ true
   pub isnt_logged : one_text found (codes "log") ≡ Some (codes "false") → given.log ≡ false
 
@@ -61,6 +62,7 @@ line_given given = record {
   budget = option_map (λ s. s.now) given.budget;
   workers = option_map (λ s. s.now) given.workers;
   by = option_map (λ s. s.now) given.by;
+  loss = option_map (λ s. s.now) given.loss;
   log = given.log;
   plain = plain_given (option_map (λ s. s.now) given.mode) (option_map (λ s. s.now) given.ring);
 }

@@ -10,5 +10,5 @@ returns c =
     let code : CodeParts = c.in_ok-code.code in
     let is_code : IsCode code = subst IsCode c.code.view_is c.code.invariant in
     net_begun c.args.program.now code c.in_ok-code.ensures.is is_code c.in_ok-code.ensures.reads
-    c.start-net.result c.start-net.ensures.opened c.start-net.ensures.code
+    c.start-net.result c.start-net.ensures.opened c.start-net.ensures.froms c.start-net.ensures.code
     c.start-net.ensures.events c.start-net.ensures.stands c.start-net.ensures.runs

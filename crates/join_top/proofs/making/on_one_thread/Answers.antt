@@ -4,5 +4,5 @@ use Rattle.join_top.proofs.making.on_one_thread.Goals as goal
 
 pub returns : goal.returns
 returns c = alone_made c.args.program.now c.args.asked.now.workers c.args.asked.now.budget
-    c.in_ok-book.book c.alone.result c.in_ok-book.ensures.opening c.alone.ensures.run
-    c.alone.ensures.whole c.alone.ensures.how
+    c.args.asked.now.loss c.in_ok-book.book c.alone.result c.in_ok-book.ensures.opening
+    c.alone.ensures.run c.alone.ensures.whole c.alone.ensures.how

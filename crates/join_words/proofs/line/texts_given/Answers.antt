@@ -7,7 +7,7 @@ use Rattle.clap.specs.declared.error.kind.ErrorKind.TheVariants as kind
 use Rattle.clap.specs.declared.parser.matches.Found.{Found}
 use Rattle.clap.specs.Walk.{Row, first_of, one_of}
 use Rattle.clap.specs.Kinds.{Kinds}
-use Rattle.join_words.specs.Line.{Plain, Text, budget, by, none, one, two, workers}
+use Rattle.join_words.specs.Line.{Plain, Text, budget, by, loss, none, one, two, workers}
 use Rattle.join_words.specs.inside.Command.{Gives, line_app, plain_given}
 use Rattle.join_words.specs.Asks.{asked}
 use Rattle.join_words.specs.declared.answer.WordEnd.{WordEnd}
@@ -63,6 +63,9 @@ returns-in-Ok c =
           l.workers same c.line_texts-texts.ensures.workers (s.fields workers) in
           let bys = shown f _ (codes "by") (option_map (λ s. s.now) c.line_texts-texts.result.by)
           l.by same c.line_texts-texts.ensures.by (s.fields by) in
+          let losses =
+          shown f _ (codes "loss") (option_map (λ s. s.now) c.line_texts-texts.result.loss)
+          l.loss same c.line_texts-texts.ensures.loss (s.fields loss) in
           let logs = flag-is f _ c.line_texts-texts.result.log l.log same
           s.log c.line_texts-texts.ensures.is_logged c.line_texts-texts.ensures.isnt_logged in
           let plains = ap₂ plain_given mode ring ∙ same-plain l.plain in
@@ -70,6 +73,7 @@ returns-in-Ok c =
             budget = budgets i;
             workers = several i;
             by = bys i;
+            loss = losses i;
             log = logs i;
             plain = plains i;
           }))

@@ -9,6 +9,8 @@ returns c =
     ∙ ap (with_rule (app_of c.args.command)) c.valued_option.ensures.rule in
     let workers = c.in_ok-arg-2.ensures.shape c.valued_option-2.ensures.local
     ∙ ap₂ with_rule budget c.valued_option-2.ensures.rule in
-    IfOk-weaker c.arg-3.result _ _ (λ r h.
-    h.shape c.valued_option-3.ensures.local ∙ ap₂ with_rule workers c.valued_option-3.ensures.rule)
-    c.arg-3.ensures
+    let by = c.in_ok-arg-3.ensures.shape c.valued_option-3.ensures.local
+    ∙ ap₂ with_rule workers c.valued_option-3.ensures.rule in
+    IfOk-weaker c.arg-4.result _ _ (λ r h.
+    h.shape c.valued_option-4.ensures.local ∙ ap₂ with_rule by c.valued_option-4.ensures.rule)
+    c.arg-4.ensures
