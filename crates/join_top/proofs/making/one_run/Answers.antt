@@ -10,7 +10,7 @@ pub returns-clause-rounds : goal.returns-clause-rounds
 returns-clause-rounds c = rounds_are_one c.schedules_of_rounds_are_one.ensures
 
 pub returns-clause-lossy : goal.returns-clause-lossy
-returns-clause-lossy c = links_are_one c.journals_over_links_are_one.ensures
+returns-clause-lossy c = links_are_one c.runs_without_links_are_one.ensures
 
 pub returns-clause-counts : goal.returns-clause-counts
-returns-clause-counts c = counts_are_one c.counts_over_links_are_one.ensures
+returns-clause-counts c = counts_are_one c.runs_over_links_are_one.ensures
