@@ -30,5 +30,5 @@ counts_are_one law p fine workers others budget loss journal other made told
     (counts, (is_code, of_program, end, _, one), is) (totals, (_, _, last, _, rest), so) =
     let same : counts ≡ totals =
     (law p (code_of p) fine is_code of_program budget loss journal other counts totals end last
-    one rest).1.0 in
+    one rest).1 in
     is ∙ ap (λ (n : LinkCounts). how.Lossy n.sent n.lost n.repeated n.arrived) same ∙ sym so
