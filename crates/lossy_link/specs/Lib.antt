@@ -1,1 +1,13 @@
 pub mod FrameFormat
+pub mod Lines
+pub mod Pending
+pub mod Links
+pub mod Over
+pub mod Standing
+pub mod Whole
+pub mod Played
+pub mod Schedule
+pub mod Ending
+pub mod Settling
+pub mod OverBook
+pub mod inside

@@ -195,6 +195,28 @@ fn frame_of(alloc: Global, bytes: &[u8]) -> Result<Frame, DecodeEnd>
     }
 }
 
+// The frame of a spelling, of which the head alone is read.
+pub(crate) fn frame_spelled(alloc: Global, bytes: &[u8]) -> Result<Frame, Memory>
+    requires { (x : frame_seen) × IsSpelledFrame x bytes.now }
+    ensures { IfOk result (λ frame. IsSpelledFrame frame bytes.now) }
+{
+    match head_of(bytes) {
+        Ok((tag, from, into, number, rest)) => {
+            if tag == 2 {
+                return Ok(Frame::Ack { from, into, number });
+            }
+            let bytes = Items::from_slice(alloc, rest)?;
+            Ok(Frame::Data {
+                from,
+                into,
+                number,
+                bytes,
+            })
+        }
+        Err(_) => unreachable!(),
+    }
+}
+
 /// The frame whose spelling is the whole input, or the place of the field that is wrong first: its
 /// value isn't allowed behind the fields before it, or the input ends within it. A byte after the
 /// frame is wrong, and so is a packet of another kind than a message.
