@@ -1,7 +1,7 @@
 -- On one thread, in rounds and over links a program has one run for each budget.
 use Rattle.std.proofs.Common.{◌≡◌, ◌∙◌, ap, sym}
 use Rattle.guard_compile.specs.Written.{code_of}
-use Rattle.lossy_link.specs.OverBook.{JournalsOverLinksAreOne, CountsOverLinksAreOne}
+use Rattle.lossy_link.specs.OverBook.{RunsWithoutLinksAreOne, RunsOverLinksAreOne}
 use Rattle.lossy_link.specs.declared.schedule.LinkCounts.{LinkCounts}
 use Rattle.net_core.specs.Scheduling.{SchedulesOfRoundsAreOne}
 use Rattle.site_runner.specs.Schedule.{HasOneSchedule}
@@ -20,12 +20,12 @@ rounds_are_one law p fine workers others budget loss other_loss journal other ho
     ((is_code, of_program, end, one), _) ((_, _, last, rest), _) =
     (law p (code_of p) fine is_code of_program budget journal other end last one rest).0
 
-pub links_are_one : JournalsOverLinksAreOne → MakesOneRun by.Lossy
+pub links_are_one : RunsWithoutLinksAreOne → MakesOneRun by.Lossy
 links_are_one law p fine workers others budget loss other_loss journal other how told
     (counts, (is_code, of_program, end, one, _), _) (totals, (_, _, last, rest, _), _) =
     (law p (code_of p) fine is_code of_program budget journal other end last one rest).0
 
-pub counts_are_one : CountsOverLinksAreOne → TellsOneCount
+pub counts_are_one : RunsOverLinksAreOne → TellsOneCount
 counts_are_one law p fine workers others budget loss journal other made told
     (counts, (is_code, of_program, end, _, one), is) (totals, (_, _, last, _, rest), so) =
     let same : counts ≡ totals =
