@@ -3,8 +3,7 @@ ghost use denote.Param.Send.{IsSync};
 
 use crate::cases::{expect, expect_made};
 use crate::free::may_print;
-use crate::outcome::{Made, Outcome, call, ended_with, kept_of};
-use crate::rounds::words_with;
+use crate::outcome::{Made, Outcome, call, ended_with, expect_bytes, kept_of};
 use chem_model::{Event, Journal, Memory};
 use join_top::Ended;
 use std::alloc::{AllocError, Global};
@@ -13,19 +12,28 @@ use std::process::Abort;
 use std::sync::Wait;
 use std::test::Fail;
 use std::thread::Threads;
-use worked_texts::{Case, QUIET, runs_and_examples};
+use worked_texts::{Case, QUIET, runs_and_examples, runs_in_rounds};
 
 const LOSSES: [&str; 4] = ["0", "1", "2", "3"];
 
-// The words of a case over links, with this loss.
+// The budget of a case.
+fn budget_of(case: &Case) -> &'static str {
+    for (at, word) in case.words.iter().enumerate() {
+        if *word == "--budget" {
+            return case.words.get(at.wrapping_add(1)).copied().unwrap_or("");
+        }
+    }
+    "100000"
+}
+
+// The words of a case over links, with this loss and the case's budget.
 fn words_over(
     alloc: Global,
     case: &Case,
     loss: &'static str,
 ) -> Result<Vec<&'static str>, AllocError> {
-    let mut words = words_with(alloc, case, "lossy")?;
-    words.push("--loss")?;
-    words.push(loss)?;
+    let mut words = Vec::new(alloc);
+    words.extend_from_slice(&["lossy", "--loss", loss, "--budget", budget_of(case)])?;
     Ok(words)
 }
 
@@ -165,12 +173,13 @@ fn expect_one_journal<R: AllocGlobal + Abort + Threads + Wait + Sync>(
     Ok(())
 }
 
-// Whether the words of a case ask for its log, which no run over links writes.
-fn is_logged(case: &Case) -> bool {
-    case.words.iter().any(|word| *word == "--log")
+// Whether the words of a case have this one.
+fn has_word(case: &Case, wanted: &str) -> bool {
+    case.words.iter().any(|word| *word == wanted)
 }
 
-// That each of these cases has one journal over links, and ends as it may.
+// That each of these cases has one journal over links, and ends as it may. Of one whose log is
+// wanted no lines stand there that could be compared.
 fn expect_all_over<R: AllocGlobal + Abort + Threads + Wait + Sync>(
     rt: &R,
     cases: &[Case],
@@ -178,9 +187,9 @@ fn expect_all_over<R: AllocGlobal + Abort + Threads + Wait + Sync>(
     requires { IsSync R.row }
 {
     for case in cases {
-        if !is_logged(case) {
+        expect_one_journal(rt, case)?;
+        if !has_word(case, "--log") {
             expect_lines(rt, case)?;
-            expect_one_journal(rt, case)?;
         }
     }
     Ok(())
@@ -190,6 +199,61 @@ fn expect_all_over<R: AllocGlobal + Abort + Threads + Wait + Sync>(
 fn worked_texts_over_links(rt: HostRuntime) -> Result<(), Fail> {
     for cases in runs_and_examples() {
         expect_all_over(&rt, cases)?;
+    }
+    Ok(())
+}
+
+// That a run of a case with this loss ended as this one did.
+fn expect_same<R: AllocGlobal + Abort + Threads + Wait + Sync>(
+    rt: &R,
+    case: &Case,
+    loss: &'static str,
+    want: &Outcome,
+) -> Result<(), Fail>
+    requires { IsSync R.row }
+{
+    let run = run_over(rt, case, loss)?;
+    run.expect_status(rt, want.status);
+    expect_bytes(rt, run.out.as_slice(), want.out.as_slice());
+    run.expect_events(rt, want.events);
+    Ok(())
+}
+
+// That a case prints one text over links, whatever the loss.
+fn expect_one_text<R: AllocGlobal + Abort + Threads + Wait + Sync>(
+    rt: &R,
+    case: &Case,
+) -> Result<(), Fail>
+    requires { IsSync R.row }
+{
+    let first = run_over(rt, case, "0")?;
+    for loss in LOSSES {
+        expect_same(rt, case, loss, &first)?;
+    }
+    Ok(())
+}
+
+// That each of these texts has one journal and prints one text. Rings are none of them.
+fn expect_each_one<R: AllocGlobal + Abort + Threads + Wait + Sync>(
+    rt: &R,
+    cases: &[Case],
+) -> Result<(), Fail>
+    requires { IsSync R.row }
+{
+    for case in cases {
+        if !has_word(case, "gen") {
+            expect_one_journal(rt, case)?;
+            expect_one_text(rt, case)?;
+        }
+    }
+    Ok(())
+}
+
+// The texts of the runs in rounds, whose lines there may be others than those over links.
+#[test]
+fn texts_of_rounds_over_links(rt: HostRuntime) -> Result<(), Fail> {
+    for cases in runs_in_rounds() {
+        expect_each_one(&rt, cases)?;
     }
     Ok(())
 }

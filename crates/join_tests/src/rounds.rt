@@ -16,7 +16,7 @@ use worked_texts::{Case, examples, runs};
 const ROOM: u32 = 65_536;
 
 // The words of a case, by another command.
-pub fn words_with(
+fn words_with(
     alloc: Global,
     case: &Case,
     command: &'static str,

@@ -255,17 +255,48 @@ fn is_accepted(alloc: Global, book: &mut Book, event: Option<Event>) -> bool {
     }
 }
 
-// How many steps are made, one after another by numbers that begin with a seed: fewer where a book
-// doesn't make an event, or a pair's order is lost, or no step is enabled. And whether a packet was
-// put on the wire.
-fn walk(
-    alloc: Global,
-    links: LinkNet,
-    book: &mut Book,
-    sites: u32,
-    guards: u32,
-    seed: u32,
-) -> (u32, bool)
+// How many packets a site was handed by the others.
+fn handed_to(links: &LinkNet, sites: u32, into: u32) -> usize {
+    let mut many: usize = 0;
+    for from in 0..sites {
+        if let Some(history) = links.history(from, into) {
+            many = many.wrapping_add(history.handed.len());
+        }
+    }
+    many
+}
+
+fn handed_in_all(links: &LinkNet, sites: u32) -> usize {
+    let mut many: usize = 0;
+    for into in 0..sites {
+        many = many.wrapping_add(handed_to(links, sites, into));
+    }
+    many
+}
+
+// A list of steps: how many were made, whether a packet was put on the wire, whether it ended since
+// no step was enabled, and how many packets were handed over.
+#[derive(Clone, Copy)]
+struct Walk {
+    made: u32,
+    sent: bool,
+    is_over: bool,
+    handed: usize,
+}
+
+// Before all steps were made.
+fn cut_off(made: u32, sent: bool, is_over: bool) -> Walk {
+    Walk {
+        made,
+        sent,
+        is_over,
+        handed: 0,
+    }
+}
+
+// Makes steps, one after another by numbers that begin with a seed, until they are many or none is
+// enabled: fewer where a book doesn't make an event, or a pair's order is lost.
+fn walk(alloc: Global, links: LinkNet, book: &mut Book, sites: u32, guards: u32, seed: u32) -> Walk
     requires { links.net.events ≤ 1000 }
 {
     let mut links = links;
@@ -274,25 +305,31 @@ fn walk(
     for made in 0..MANY {
         let Some(step) = step_by(alloc, &links, sites, guards, seed) else {
             drop(links);
-            return (made, sent);
+            return cut_off(made, sent, true);
         };
         let Some((after, event)) = make_step(alloc, links, &step) else {
-            return (made, sent);
+            return cut_off(made, sent, false);
         };
         links = after;
         sent = sent || matches!(step, Step::Send { .. });
         if !is_accepted(alloc, book, event) || !are_fronts(&links, sites) {
             drop(links);
-            return (made, sent);
+            return cut_off(made, sent, false);
         }
         seed = following(seed);
     }
+    let handed = handed_in_all(&links, sites);
     drop(links);
-    (MANY, sent)
+    Walk {
+        made: MANY,
+        sent,
+        is_over: false,
+        handed,
+    }
 }
 
 // The same over the links of a text.
-fn walked(alloc: Global, text: &[u8], seed: u32) -> Option<(u32, bool)> {
+fn walked(alloc: Global, text: &[u8], seed: u32) -> Option<Walk> {
     let Both {
         net,
         mut book,
@@ -303,42 +340,52 @@ fn walked(alloc: Global, text: &[u8], seed: u32) -> Option<(u32, bool)> {
     Some(walk(alloc, links, &mut book, sites, guards, seed))
 }
 
-// That a list of so many steps is made over a case, unless its sites send each other nothing; and
-// whether they do.
-fn expect_walk(rt: &impl Abort, alloc: Global, case: &Case, seed: u32) -> bool {
+// Whether all steps were made, or no more was enabled where the sites send each other nothing.
+fn is_whole(walk: Walk) -> bool {
+    walk.made == MANY || (walk.is_over && !walk.sent)
+}
+
+// That a list of steps over a case is whole.
+fn expect_walk(rt: &impl Abort, alloc: Global, case: &Case, seed: u32) -> Walk {
     let Ok(source) = case.source(alloc) else {
         assert!(rt; false, "no memory");
-        return false;
+        return cut_off(0, false, false);
     };
     match walked(alloc, source.as_slice(), seed) {
-        Some((made, sent)) => {
-            assert!(rt; made == MANY || !sent, "{made} steps by {seed}");
-            sent
+        Some(walk) => {
+            let made = walk.made;
+            assert!(rt; is_whole(walk), "{made} steps by {seed}");
+            walk
         }
         None => {
             assert!(rt; false, "no links");
-            false
+            cut_off(0, false, false)
         }
     }
 }
 
-// The same of some cases, and in how many of them something is sent.
-fn expect_walks(rt: &impl Abort, alloc: Global, cases: &[Case], seed: u32) -> u32 {
+// The same of some cases: in how many of them all steps were made, and how many packets were handed
+// over.
+fn expect_walks(rt: &impl Abort, alloc: Global, cases: &[Case], seed: u32) -> (u32, usize) {
     let mut many: u32 = 0;
+    let mut handed: usize = 0;
     for case in cases {
-        if expect_walk(rt, alloc, case, seed) {
+        let walk = expect_walk(rt, alloc, case, seed);
+        handed = handed.wrapping_add(walk.handed);
+        if walk.made == MANY {
             many = many.wrapping_add(1);
         }
     }
-    many
+    (many, handed)
 }
 
-// How many of the programs about an applet, a spare worker, farms, a pool of workers, a postman and
-// a sailor send something, in lists by a seed.
-fn walks_by(rt: &impl Abort, alloc: Global, seed: u32) -> u32 {
+// The same of the programs about an applet, a spare worker, farms, a pool of workers, a postman and
+// a sailor.
+fn walks_by(rt: &impl Abort, alloc: Global, seed: u32) -> (u32, usize) {
     let tables = examples();
-    let first = expect_walks(rt, alloc, tables[4], seed);
-    first.wrapping_add(expect_walks(rt, alloc, tables[5], seed))
+    let (first, handed) = expect_walks(rt, alloc, tables[4], seed);
+    let (second, others) = expect_walks(rt, alloc, tables[5], seed);
+    (first.wrapping_add(second), handed.wrapping_add(others))
 }
 
 const SEEDS: [u32; 4] = [1, 7, 42, 1996];
@@ -348,6 +395,10 @@ const SEEDS: [u32; 4] = [1, 7, 42, 1996];
 #[test]
 fn worked_texts_over_links_at_random(rt: HostRuntime) {
     for seed in SEEDS {
-        assert!(rt; walks_by(&rt, rt.alloc(), seed) == 5);
+        let (many, handed) = walks_by(&rt, rt.alloc(), seed);
+        assert!(rt;
+            many == 5 && handed > 5,
+            "{many} lists by {seed}, {handed} packets"
+        );
     }
 }
