@@ -14,7 +14,7 @@ ghost use Rattle.join_top.specs.inside.Ran.{IsRunBy};
 use chem_model::{Memory, Program};
 use guard_compile::compile;
 use join_words::{Asked, By};
-use lossy_link::{runs_over_links_are_one, runs_without_links_are_one, lossy};
+use lossy_link::{lossy, runs_over_links_are_one, runs_without_links_are_one};
 use net_core::{Net, rounds_replay, schedules_of_rounds_are_one};
 use shared_net::Gate;
 use site_runner::{Done, FreeTeam, How, Team, alone, one_schedule};
