@@ -294,9 +294,16 @@ fn cut_off(made: u32, sent: bool, is_over: bool) -> Walk {
     }
 }
 
-// Makes steps, one after another by numbers that begin with a seed, until they are many or none is
+// Takes steps, one after another by numbers that begin with a seed, until they are many or none is
 // enabled: fewer where a book doesn't make an event, or a pair's order is lost.
-fn walk(alloc: Global, links: LinkNet, book: &mut Book, sites: u32, guards: u32, seed: u32) -> Walk
+fn take_steps(
+    alloc: Global,
+    links: LinkNet,
+    book: &mut Book,
+    sites: u32,
+    guards: u32,
+    seed: u32,
+) -> Walk
     requires { links.net.events ≤ 1000 }
 {
     let mut links = links;
@@ -337,7 +344,7 @@ fn walked(alloc: Global, text: &[u8], seed: u32) -> Option<Walk> {
         guards,
     } = both_of(alloc, text)?;
     let links = link(alloc, Box::into_inner(net))?;
-    Some(walk(alloc, links, &mut book, sites, guards, seed))
+    Some(take_steps(alloc, links, &mut book, sites, guards, seed))
 }
 
 // Whether all steps were made, or no more was enabled where the sites send each other nothing.
