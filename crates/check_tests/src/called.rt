@@ -2,7 +2,7 @@
 ghost use denote.Param.Send.{IsSync};
 
 use chem_model::{Items, Memory};
-use join_base::{MemSink, MemSource};
+use join_base::{MemSink, MemSource, Source};
 use join_top::{OpenGate, Threaded, run_join};
 use std::alloc::Global;
 use std::marker::Sync;
@@ -25,10 +25,9 @@ pub struct Called {
     pub err: Vec<u8>,
 }
 
-// What a call reads from, and what it writes to.
+// What a call writes to.
 #[derive(Drop)]
-struct Ends {
-    source: Box<MemSource>,
+struct Sinks {
     out: Box<MemSink>,
     err: Box<MemSink>,
 }
@@ -44,12 +43,11 @@ fn sink_of(alloc: Global, room: u32) -> Result<Box<MemSink>, Memory> {
     Ok(Box::new(alloc, MemSink::new(alloc, room, ROOM, fails)?)?)
 }
 
-// A source of these bytes and two sinks, the first of so much room, none of which fails.
-fn ends_of(alloc: Global, bytes: &[u8], room: u32) -> Result<Box<Ends>, Memory> {
-    let source = source_of(alloc, bytes)?;
+// Two sinks, the first of so much room, none of which fails.
+fn sinks_of(alloc: Global, room: u32) -> Result<Sinks, Memory> {
     let out = sink_of(alloc, room)?;
     let err = sink_of(alloc, 64)?;
-    Ok(Box::new(alloc, Ends { source, out, err })?)
+    Ok(Sinks { out, err })
 }
 
 fn owned(alloc: Global, words: &[&str]) -> Result<Vec<String>, Memory> {
@@ -60,11 +58,12 @@ fn owned(alloc: Global, words: &[&str]) -> Result<Vec<String>, Memory> {
     Ok(owned)
 }
 
-// Runs the words over these ends, and answers the status.
-fn status_of<R: AllocGlobal + Abort + Threads + Wait + Sync>(
+// Runs the words over a source, and answers the status.
+fn status_of<R: AllocGlobal + Abort + Threads + Wait + Sync, S: Source>(
     rt: &R,
     words: &[&str],
-    ends: &mut Ends,
+    source: &mut S,
+    sinks: &mut Sinks,
 ) -> Result<u8, Memory>
     requires { IsSync R.row }
 {
@@ -73,24 +72,42 @@ fn status_of<R: AllocGlobal + Abort + Threads + Wait + Sync>(
     let ended = run_join(
         rt.alloc(),
         words.as_slice(),
-        &mut *ends.source,
-        &mut *ends.out,
-        &mut *ends.err,
+        source,
+        &mut *sinks.out,
+        &mut *sinks.err,
         &OpenGate,
         &team,
     );
     Ok(ended.status)
 }
 
-// Runs the words over a source of these bytes. What is printed needs little room.
-pub fn call<R: AllocGlobal + Abort + Threads + Wait + Sync>(
+// Runs the words over a source, where so many bytes may be printed.
+fn call_over<R: AllocGlobal + Abort + Threads + Wait + Sync, S: Source>(
     rt: &R,
     words: &[&str],
-    bytes: &[u8],
+    source: &mut S,
+    room: u32,
 ) -> Result<Called, Memory>
     requires { IsSync R.row }
 {
-    call_with(rt, words, bytes, LINES)
+    let mut sinks = sinks_of(rt.alloc(), room)?;
+    let status = status_of(rt, words, source, &mut sinks)?;
+    Ok(Called {
+        status,
+        out: Vec::from_slice(rt.alloc(), sinks.out.taken())?,
+        err: Vec::from_slice(rt.alloc(), sinks.err.taken())?,
+    })
+}
+
+// Judges what a source gives by a command. What is printed needs little room.
+pub fn judge<R: AllocGlobal + Abort + Threads + Wait + Sync, S: Source>(
+    rt: &R,
+    command: &str,
+    source: &mut S,
+) -> Result<Called, Memory>
+    requires { IsSync R.row }
+{
+    call_over(rt, &[command], source, LINES)
 }
 
 // Runs the words over a source of these bytes, where so many bytes may be printed.
@@ -102,13 +119,19 @@ fn call_with<R: AllocGlobal + Abort + Threads + Wait + Sync>(
 ) -> Result<Called, Memory>
     requires { IsSync R.row }
 {
-    let mut ends = ends_of(rt.alloc(), bytes, room)?;
-    let status = status_of(rt, words, &mut ends)?;
-    Ok(Called {
-        status,
-        out: Vec::from_slice(rt.alloc(), ends.out.taken())?,
-        err: Vec::from_slice(rt.alloc(), ends.err.taken())?,
-    })
+    let mut source = source_of(rt.alloc(), bytes)?;
+    call_over(rt, words, &mut *source, room)
+}
+
+// Runs the words over a source of these bytes. What is printed needs little room.
+pub fn call<R: AllocGlobal + Abort + Threads + Wait + Sync>(
+    rt: &R,
+    words: &[&str],
+    bytes: &[u8],
+) -> Result<Called, Memory>
+    requires { IsSync R.row }
+{
+    call_with(rt, words, bytes, LINES)
 }
 
 // Runs the text of a case by these words.

@@ -1,5 +1,5 @@
 //! Tests of the commands on logs: what is said of the logs of worked texts, of logs that were
-//! changed, and of bytes that are no log.
+//! changed, and of bytes that are no log or too many.
 #![tactic(auto)]
 
 #[cfg(test)]
@@ -9,8 +9,14 @@ mod causes;
 #[cfg(test)]
 mod changed;
 #[cfg(test)]
+mod changes;
+#[cfg(test)]
+mod limit;
+#[cfg(test)]
 mod no_logs;
 #[cfg(test)]
 mod plain;
+#[cfg(test)]
+mod whole;
 #[cfg(test)]
 mod worked;
