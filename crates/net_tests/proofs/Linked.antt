@@ -36,5 +36,5 @@ one_stepped old x o new (loses i y h) = omega arith
 one_stepped old x o new (repeats i y h) = omega arith
 one_stepped old x o new (takes i f t n bytes net out at is r) =
     none_received old.net t bytes net out r
-one_stepped old x o new (drops i f t n bytes at no) = omega arith
+one_stepped old x o new (drops i f t n bytes at other) = omega arith
 one_stepped old x o new (learns i f t n at) = omega arith

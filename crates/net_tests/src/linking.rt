@@ -29,7 +29,10 @@ pub fn make_step(alloc: Global, links: LinkNet, step: &Step) -> Option<(LinkNet,
         drop(links);
         return None;
     }
-    links.step(alloc, step).ok()
+    match links.step(alloc, step) {
+        Ok(stepped) => Some(stepped),
+        Err(_) => None,
+    }
 }
 
 /// Plays a list of few steps.
