@@ -26,14 +26,22 @@ fn budget_of(case: &Case) -> &'static str {
     "100000"
 }
 
+fn no_words(alloc: Global) -> Vec<&'static str> {
+    Vec::new(alloc)
+}
+
 // The words of a case over links, with this loss and the case's budget.
 fn words_over(
     alloc: Global,
     case: &Case,
     loss: &'static str,
 ) -> Result<Vec<&'static str>, AllocError> {
-    let mut words = Vec::new(alloc);
-    words.extend_from_slice(&["lossy", "--loss", loss, "--budget", budget_of(case)])?;
+    let mut words = no_words(alloc);
+    words.push("lossy")?;
+    words.push("--loss")?;
+    words.push(loss)?;
+    words.push("--budget")?;
+    words.push(budget_of(case))?;
     Ok(words)
 }
 
