@@ -131,15 +131,6 @@ queued() {
     printf ' ]\n'
 }
 
-# tour COUNT: an agent that goes round so many sites
-tour() {
-    local i
-    printf 'site s0 [ agent [ k0() => go(s0, k1)'
-    for ((i = 1; i < $1; i++)); do printf ' and k%d() => go(s%d, k%d)' "$i" "$i" $(((i + 1) % $1)); done
-    printf ' : k1() ] : 0 ]\n'
-    for ((i = 1; i < $1; i++)); do printf 'site s%d [ none : 0 ]\n' "$i"; done
-}
-
 events 'an endless reaction' 1000 3000 1000000 <<<'site s [ c(x) => c(x) : c(s) ]' || true
 events 'an endless reaction after 100,000 events' 100000 102000 1000000 <<<'site s [ c(x) => c(x) : c(s) ]' || true
 events 'a ping-pong of two sites' 1000 3000 1000000 <<'TEXT' || true

@@ -53,15 +53,6 @@ beside() {
     done
 }
 
-# tour COUNT: an agent that goes round so many sites
-tour() {
-    local i
-    printf 'site s0 [ agent [ k0() => go(s0, k1)'
-    for ((i = 1; i < $1; i++)); do printf ' and k%d() => go(s%d, k%d)' "$i" "$i" $(((i + 1) % $1)); done
-    printf ' : k1() ] : 0 ]\n'
-    for ((i = 1; i < $1; i++)); do printf 'site s%d [ none : 0 ]\n' "$i"; done
-}
-
 # waves COUNT: one event sends so many packets of one pair at once, each of which then has an event of its own
 waves() {
     local i

@@ -9,3 +9,12 @@ if [ -z "${JOIN_PROGRAM:-}" ]; then
     "$root/join" alone --budget 0 <"$root/examples/first.join" >/dev/null || true
     JOIN_PROGRAM=$root/crates/join_main/out/join_main
 fi
+
+# tour COUNT: an agent that goes round so many sites
+tour() {
+    local i
+    printf 'site s0 [ agent [ k0() => go(s0, k1)'
+    for ((i = 1; i < $1; i++)); do printf ' and k%d() => go(s%d, k%d)' "$i" "$i" $(((i + 1) % $1)); done
+    printf ' : k1() ] : 0 ]\n'
+    for ((i = 1; i < $1; i++)); do printf 'site s%d [ none : 0 ]\n' "$i"; done
+}
