@@ -1,3 +1,4 @@
 pub mod Fills
 pub mod Drops
 pub mod Received
+pub mod Finds
