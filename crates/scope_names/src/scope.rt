@@ -1,10 +1,11 @@
 // One scope: what each spelling stands for.
-ghost use Rattle.std.specs.Prelude.{◌≡◌, ◌++◌, ◌∷◌, [], None, Some, List, ℕ, IfOk, OnOk, OnErr};
+ghost use Rattle.std.specs.Prelude.{◌≡◌, ◌++◌, ◌∷◌, [], None, OnOk, OnErr};
 ghost use Rattle.scope_names.specs.Frames.{in_frame};
+ghost use Rattle.scope_names.specs.inside.Places.{place_of};
 
 use chem_model::Memory;
-use indexmap::IndexMap;
 use std::alloc::Global;
+use std::collections::BTreeMap;
 use std::marker::Model;
 
 /// What a name of a block or of a parameter list is.
@@ -30,9 +31,13 @@ pub struct Entry {
 }
 
 /// The names of one block or one parameter list, in source order.
+///
+/// A name is found in an ordered map: texts choose the names, and no choice makes it slow. The keys
+/// are copies, so that a scope can be lent for less time than the names that it was made of.
 #[derive(Drop)]
 pub struct Scope<'a> {
-    names: IndexMap<&'a [u8], Entry>,
+    entries: Vec<(&'a [u8], Entry)>,
+    places: BTreeMap<Vec<u8>, usize>,
 }
 
 impl<'a> Model for Scope<'a> {
@@ -43,7 +48,11 @@ impl<'a> Model for Scope<'a> {
 
     ghost use Rattle.scope_names.specs.Frames.{spelled};
 
-    ghost view = { λ s. spelled s.names.entries };
+    ghost view = { λ s. spelled s.entries.items };
+
+    ghost use Rattle.scope_names.specs.inside.Places.{KnowsPlaces};
+
+    ghost invariant = { λ s. KnowsPlaces s.places (spelled s.entries.items) };
 }
 
 impl<'a> Scope<'a> {
@@ -52,15 +61,26 @@ impl<'a> Scope<'a> {
         ensures { result ≡ [] }
     {
         Scope {
-            names: IndexMap::new(alloc),
+            entries: Vec::new(alloc),
+            places: BTreeMap::new(alloc),
         }
+    }
+
+    // Where the spelling stands, counted from 0.
+    fn place(&self, name: &[u8]) -> Option<usize>
+        ensures { result ≡ place_of name.now self.now }
+    {
+        self.places.get(name).copied()
     }
 
     /// What the spelling stands for.
     pub fn find(&self, name: &[u8]) -> Option<Entry>
         ensures { result ≡ in_frame name.now self.now }
     {
-        self.names.get(name).copied()
+        match self.place(name) {
+            Some(place) => Some(self.entries[place].1),
+            None => None,
+        }
     }
 
     /// Adds a spelling that isn't there. It goes last.
@@ -69,7 +89,11 @@ impl<'a> Scope<'a> {
         ensures ok { OnOk result (self.new ≡ self.old ++ (name.now, entry) ∷ []) }
         ensures err { OnErr result (self.new ≡ self.old) }
     {
-        self.names.insert(name, entry)?;
+        self.entries.reserve(1)?;
+        let key = Vec::from_slice(*self.entries.allocator(), name)?;
+        let place = self.entries.len();
+        self.places.insert(key, place)?;
+        self.entries.push_reserved((name, entry));
         Ok(())
     }
 }

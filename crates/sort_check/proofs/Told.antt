@@ -3,9 +3,12 @@ use Rattle.std.proofs.Common.{◌≡◌, ℕ, zero, suc, ◌+◌, ◌<◌, List,
 use Rattle.std.proofs.Common.{true, false, cond, drop, get_or, refl, sym, ap, ◌∙◌, arith, length}
 use Rattle.std.specs.Str.{bytes_eq}
 use Rattle.std.specs.Map.{lookup}
+use Rattle.std.specs.Ordering.{nat_cmp}
+use Rattle.std.specs.Cmp.Lexicographic.{slice_cmp}
+use Rattle.std.specs.BTreeMap.{BTreeMap, is_at, UpdatesBy}
+use Rattle.std.proofs.lemmas.Map.Text.{is_eq-slice_cmp, btree_map_updates_str}
 use Rattle.std.proofs.lemmas.Slice.Eq.{bytes_eq-Decides}
 use denote.Ref.{Bor}
-use Rattle.indexmap.specs.IndexMap.{insert_entry}
 use Rattle.sort_laws.specs.declared.sorts.SortArg.{SortArg}
 use Rattle.sort_laws.specs.declared.sorts.SortArg.TheVariants as arg
 use Rattle.sort_laws.specs.declared.sorts.SortUse.{SortUse}
@@ -16,75 +19,55 @@ abbrev pub named : Option ℕ → Option SortArg
 named None = None
 named (Some i) = Some (arg.Named i)
 
+-- read by its bytes
 pub found : (text : List ℕ) (es : List (Bor (List ℕ) × ℕ))
-    → named (lookup (λ k. bytes_eq text k.now) es) ≡ in_map (spelled es) text
+    → named (lookup (is_at (λ k. slice_cmp nat_cmp text k.now)) es) ≡ in_map (spelled es) text
 found text [] = refl
-found text (e ∷ es) = go (bytes_eq text e.0.now) (found text es)
+found text (e ∷ es) =
+    ap (λ b. named (cond b (Some e.1) (lookup (is_at (λ k. slice_cmp nat_cmp text k.now)) es)))
+    (is_eq-slice_cmp text e.0.now) ∙ go (bytes_eq text e.0.now) (found text es)
   where
-    go : (b : Bool) → named (lookup (λ k. bytes_eq text k.now) es) ≡ in_map (spelled es) text
-        → named (cond b (Some e.1) (lookup (λ k. bytes_eq text k.now) es))
+    go : (b : Bool)
+        → named (lookup (is_at (λ k. slice_cmp nat_cmp text k.now)) es) ≡ in_map (spelled es) text
+        → named (cond b (Some e.1) (lookup (is_at (λ k. slice_cmp nat_cmp text k.now)) es))
         ≡ cond b (Some (arg.Named e.1)) (in_map (spelled es) text)
     go true ih = refl
     go false ih = ih
 
-abbrev same_key : Bor (List ℕ) → Bor (List ℕ) → Bool
-same_key x y = bytes_eq x.now y.now
-
-pub put_in : (es : List (Bor (List ℕ) × ℕ)) (k : Bor (List ℕ)) (v : ℕ) (text : List ℕ)
-    → in_map (spelled (insert_entry same_key es k v)) text
-    ≡ cond (bytes_eq text k.now) (Some (arg.Named v)) (in_map (spelled es) text)
-put_in [] k v text = refl
-put_in (e ∷ es) k v text = go (bytes_eq k.now e.0.now) refl (put_in es k v text)
+same_bytes : (xs ys : List ℕ) → bytes_eq xs ys ≡ bytes_eq ys xs
+same_bytes xs ys = go (bytes_eq xs ys) refl (bytes_eq ys xs) refl
   where
-    rest : Option SortArg
-    rest = in_map (spelled es) text
+    go : (u : Bool) → bytes_eq xs ys ≡ u → (v : Bool) → bytes_eq ys xs ≡ v → u ≡ v
+    go true c true d = refl
+    go true c false d =
+        let clash : bytes_eq ys xs ≡ true =
+        (bytes_eq-Decides ys xs).1 (sym ((bytes_eq-Decides xs ys).0 c)) in
+        cc
+    go false c true d =
+        let clash : bytes_eq xs ys ≡ true =
+        (bytes_eq-Decides xs ys).1 (sym ((bytes_eq-Decides ys xs).0 d)) in
+        cc
+    go false c false d = refl
 
-    here : Option SortArg
-    here = Some (arg.Named v)
+named_if : (b : Bool) (sort : ℕ) (o : Option ℕ)
+    → named (cond b (Some sort) o) ≡ cond b (Some (arg.Named sort)) (named o)
+named_if true sort o = refl
+named_if false sort o = refl
 
-    old : Option SortArg
-    old = Some (arg.Named e.1)
-
-    twice : (b : Bool)
-        → cond b here (in_map (spelled es) text)
-        ≡ cond b here (cond b old (in_map (spelled es) text))
-    twice true = refl
-    twice false = refl
-
-    apart : (b c : Bool) → bytes_eq text e.0.now ≡ b → bytes_eq text k.now ≡ c
-        → bytes_eq k.now e.0.now ≡ false
-        → cond b old (cond c here (in_map (spelled es) text))
-        ≡ cond c here (cond b old (in_map (spelled es) text))
-    apart true true p q d =
-        let equal : k.now ≡ e.0.now =
-        sym ((bytes_eq-Decides text k.now).0 q) ∙ (bytes_eq-Decides text e.0.now).0 p in
-        let clash : true ≡ false = sym ((bytes_eq-Decides k.now e.0.now).1 equal) ∙ d in cc
-    apart true false p q d = refl
-    apart false true p q d = refl
-    apart false false p q d = refl
-
-    go : (u : Bool) → bytes_eq k.now e.0.now ≡ u
-        → in_map (spelled (insert_entry same_key es k v)) text
-        ≡ cond (bytes_eq text k.now) here (in_map (spelled es) text)
-        → in_map (spelled (cond u ((e.0, v) ∷ es) (e ∷ insert_entry same_key es k v))) text
-        ≡ cond (bytes_eq text k.now) here
-        (cond (bytes_eq text e.0.now) old (in_map (spelled es) text))
-    go true d ih =
-        let equal : k.now ≡ e.0.now = (bytes_eq-Decides k.now e.0.now).0 d in
-        ap (λ b. cond b here (in_map (spelled es) text)) (ap (bytes_eq text) (sym equal))
-        ∙ twice (bytes_eq text k.now)
-        ∙ ap (λ b. cond (bytes_eq text k.now) here (cond b old (in_map (spelled es) text)))
-        (ap (bytes_eq text) equal)
-    go false d ih = ap (cond (bytes_eq text e.0.now) old) ih
-        ∙ apart (bytes_eq text e.0.now) (bytes_eq text k.now) refl refl d
-
+-- a line more
 pub put_line :
-    (es after : List (Bor (List ℕ) × ℕ)) (map : List (List ℕ × ℕ)) (k : Bor (List ℕ))
-    (line : SortUse) → spelled es ≡ map → k.now ≡ line.spell
-    → after ≡ insert_entry same_key es k line.sort → Overrides map line (spelled after)
-put_line es after map k line is spell new text =
-    ap (λ l. in_map (spelled l) text) new ∙ put_in es k line.sort text
-    ∙ (λ j. cond (bytes_eq text (spell j)) (Some (arg.Named line.sort)) (in_map (is j) text))
+    (before after : BTreeMap (Bor (List ℕ)) ℕ) (map : List (List ℕ × ℕ)) (k : Bor (List ℕ))
+    (line : SortUse) → spelled before.entries ≡ map → k.now ≡ line.spell
+    → UpdatesBy (λ x y. slice_cmp nat_cmp x.now y.now) (λ x. slice_cmp nat_cmp k.now x.now) before
+    after (Some line.sort) → Overrides map line (spelled after.entries)
+put_line before after map k line is spell updates text =
+    sym (found text after.entries)
+    ∙ ap named (btree_map_updates_str k.now before after (Some line.sort) updates text)
+    ∙ named_if (bytes_eq k.now text) line.sort
+    (lookup (is_at (λ x. slice_cmp nat_cmp text x.now)) before.entries)
+    ∙ (λ j. cond ((same_bytes k.now text ∙ ap (bytes_eq text) spell) j)
+    (Some (arg.Named line.sort))
+    ((found text before.entries ∙ ap (λ m. in_map m text) is) j))
 
 drop_line : (lines : List SortUse) (left : ℕ) (line : SortUse) → left < length lines
     → line ≡ get_or lines left line → drop left lines ≡ line ∷ drop (suc left) lines

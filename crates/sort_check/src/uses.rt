@@ -3,15 +3,16 @@ ghost use Rattle.std.specs.Prelude.{◌≡◌, [], IfOk, OnOk};
 ghost use Rattle.sort_check.specs.inside.Told.{in_map, Overrides, TellsAs};
 
 use chem_model::Memory;
-use indexmap::IndexMap;
 use sort_laws::{SortArg, SortUse};
 use std::alloc::Global;
+use std::collections::BTreeMap;
 use std::marker::Model;
 
-// The sorts of spellings, each found by its bytes.
+// The sorts of spellings, each found by its bytes in an ordered map: texts choose the spellings,
+// and no choice makes it slow.
 #[derive(Drop)]
 pub struct Uses<'a> {
-    sorts: IndexMap<&'a [u8], u32>,
+    sorts: BTreeMap<&'a [u8], u32>,
 }
 
 impl<'a> Model for Uses<'a> {
@@ -29,7 +30,7 @@ impl<'a> Uses<'a> {
         ensures { result ≡ [] }
     {
         Uses {
-            sorts: IndexMap::new(alloc),
+            sorts: BTreeMap::new(alloc),
         }
     }
 
