@@ -22,7 +22,6 @@ use Rattle.router.specs.Delivering.{home_at, can_deliver}
 use Rattle.net_core.specs.declared.parts.Parts.{Parts}
 use Rattle.net_core.specs.Parts.{joined, without, message_in, carried, all_carried, IsMessageFlight}
 use Rattle.net_core.specs.Parts.{net_of}
-use Rattle.net_core.specs.inside.Pieces.{IsPlace}
 use Rattle.net_core.specs.Whole.{AllFit, AreFlying, IsWhole, IsRunning}
 use Rattle.net_core.specs.Acting.{Delivers, delivered}
 use Rattle.net_core.specs.inside.Handing.{AreAsBefore}
@@ -34,7 +33,7 @@ use Rattle.net_core.proofs.Carrying.{carried_append, carried_without, carried_at
 use Rattle.net_core.proofs.Deliverable.{may_be_delivered}
 use Rattle.net_core.proofs.Fitting.{fit_bare, fits_at, all_fit_set, set_same}
 use Rattle.net_core.proofs.Leading.{get_some}
-use Rattle.net_core.proofs.Members.{without_length}
+use Rattle.net_core.proofs.Members.{without_length, get_is}
 use Rattle.net_core.proofs.Stepping.{running_on}
 
 -- networks of equal fields
@@ -65,12 +64,12 @@ below_some (y ∷ xs) (suc i) x e = omega (arith, below_some xs i x e)
 pub as_before_net : (seen : List ℕ) (old new : Parts) → AreAsBefore old new
     → net_of seen new ≡ net_of seen old
 as_before_net seen old new h = same_net (net_of seen new) (net_of seen old) h.version refl
-    h.sites h.tree (ap joined h.trace) (ap (λ fs. all_carried (joined fs)) h.flights)
+    h.sites h.tree (ap joined h.trace) (ap all_carried h.flights)
 
 pub as_before_flying : (old new : Parts) → AreAsBefore old new → AreFlying old → AreFlying new
 as_before_flying old new h flying = record {
-  spelled = subst (λ fs. Each IsMessageFlight (joined fs)) (sym h.flights) flying.spelled;
-  counted = h.under_way ∙ flying.counted ∙ ap (λ fs. length (joined fs)) (sym h.flights);
+  spelled = subst (Each IsMessageFlight) (sym h.flights) flying.spelled;
+  counted = h.under_way ∙ flying.counted ∙ ap length (sym h.flights);
   few = omega (arith, h.under_way, flying.few);
 }
 
@@ -129,25 +128,25 @@ module _ (t : Tree) (sites : List Site) (i : ℕ) (bytes : List ℕ) (d new : Si
 -- ---- that it may be delivered
 
 pub flight_spelled : (p : Parts) (f : ℕ) (flight : Flight) → AreFlying p
-    → slice_get (joined p.flights.items) f ≡ Some flight → IsMessageFlight flight
+    → slice_get p.flights.items f ≡ Some flight → IsMessageFlight flight
 flight_spelled p f flight flying at =
-    each_get IsMessageFlight (joined p.flights.items) f flight at flying.spelled
+    each_get IsMessageFlight p.flights.items f flight at flying.spelled
 
 pub target_below : (c : CodeParts) (p : Parts) (events f : ℕ) (flight : Flight) → IsWhole c p events
-    → slice_get (joined p.flights.items) f ≡ Some flight → flight.target < length p.sites.items
+    → slice_get p.flights.items f ≡ Some flight → flight.target < length p.sites.items
 target_below c p events f flight h at =
     let net = net_of c.seen p in
     (each_get (IsOnItsWay (length p.sites.items)) net.packets f (carried flight)
-    (carried_at (joined p.flights.items) f flight at) h.running.some.runs.keeps.packets).1
+    (carried_at p.flights.items f flight at) h.running.some.runs.keeps.packets).1
 
 pub flight_may : (c : CodeParts) (p : Parts) (events f : ℕ) (flight : Flight) (s : Site)
-    → IsWhole c p events → slice_get (joined p.flights.items) f ≡ Some flight
+    → IsWhole c p events → slice_get p.flights.items f ≡ Some flight
     → slice_get p.sites.items flight.target ≡ Some s
     → can_deliver p.tree s (message_in flight.bytes) ≡ true
 flight_may c p events f flight s h at here =
     let net = net_of c.seen p in
     let some = h.running.some in
-    let flies = carried_at (joined p.flights.items) f flight at in
+    let flies = carried_at p.flights.items f flight at in
     may_be_delivered (rules_of_group some.program) net some.solution some.stands f (carried flight)
     s flies here
     (each_get (IsOnItsWay (length p.sites.items)) net.packets f (carried flight) flies
@@ -168,7 +167,7 @@ module _ (c : CodeParts) (old new : Parts) (fs : List Flight) (f : ℕ) (flight 
     old.sites.items new.sites.items) (goes : GoesOn flight.bytes on more)
     (version : new.version ≡ old.version) (tree : new.tree ≡ old.tree)
     (trace : new.trace.items ≡ old.trace.items)
-    (flights : joined new.flights.items ≡ without f fs ++ more) where
+    (flights : new.flights.items ≡ without f fs ++ more) where
   abbrev was : List ℕ → Net
   was seen = with_packets (all_carried fs) (net_of seen old)
 
@@ -182,7 +181,7 @@ module _ (c : CodeParts) (old new : Parts) (fs : List Flight) (f : ℕ) (flight 
   at_home = ap (λ (i : ℕ). home_or (root_of i) msg.on) number
 
   packets :
-      all_carried (joined new.flights.items) ≡ without_packet f (all_carried fs) ++ all_carried more
+      all_carried new.flights.items ≡ without_packet f (all_carried fs) ++ all_carried more
   packets = ap all_carried flights ∙ carried_append (without f fs) more
       ∙ ap (λ ps. ps ++ all_carried more) (carried_without fs f)
 
@@ -273,23 +272,11 @@ module _ (c : CodeParts) (old new : Parts) (fs : List Flight) (f : ℕ) (flight 
 
 -- ---- for the code
 
-pub flight_found : (ps qs rs ss : List (List Flight)) (f i j : ℕ) (x : Flight) → qs ≡ ps → rs ≡ qs
-    → ss ≡ qs → IsPlace rs f i j
-    → ((place : ℕ) → IsPlace ss place i j → slice_get (joined ss) place ≡ Some x)
-    → slice_get (joined ps) f ≡ Some x
-flight_found ps qs rs ss f i j x kept first second at is =
-    let same : ss ≡ ps = second ∙ kept in
-    let here : IsPlace ss f i j =
-    subst (λ (us : List (List Flight)). IsPlace us f i j) (first ∙ sym second) at in
-    ap (λ (us : List (List Flight)). slice_get (joined us) f) (sym same) ∙ is f here
-
-pub flights_left : (ps qs rs news : List (List Flight)) (f i j : ℕ) (more : List Flight) → qs ≡ ps
-    → rs ≡ qs → IsPlace rs f i j
-    → ((place : ℕ) → IsPlace qs place i j → joined news ≡ without place (joined qs) ++ more)
-    → joined news ≡ without f (joined ps) ++ more
-flights_left ps qs rs news f i j more kept first at is =
-    let here : IsPlace qs f i j = subst (λ (us : List (List Flight)). IsPlace us f i j) first at in
-    is f here ∙ ap (λ (us : List (List Flight)). without f (joined us) ++ more) kept
+pub flight_found : (p : Parts) (f : ℕ) (x : Flight) → AreFlying p → f < p.under_way
+    → x ≡ slice_index_or p.flights.items f x → slice_get p.flights.items f ≡ Some x
+flight_found p f x flying low is =
+    get_is p.flights.items f x (omega (arith, low, flying.counted))
+    ∙ ap (λ (y : Flight). Some y) (sym is)
 
 pub brought_in :
     (t : Tree) (i : ℕ) (bytes text : List ℕ) (s : Site) (more : List Flight)

@@ -17,7 +17,7 @@ use Rattle.net_laws.proofs.Sites.{get_below}
 use Rattle.net_core.specs.declared.parts.Parts.{Parts}
 use Rattle.net_core.specs.inside.AtSites.{MayReactAt}
 use Rattle.net_core.specs.Choosing.{MayReact, MayDeliver, Allows, request_of}
-use Rattle.net_core.specs.Parts.{joined, all_carried, net_of}
+use Rattle.net_core.specs.Parts.{all_carried, net_of}
 use Rattle.net_core.specs.inside.Searched.{meets, IsMet}
 use Rattle.net_core.specs.Acting.{Reacts, Delivers, Halts, Detects, Moves}
 use Rattle.net_core.specs.Acts.{Acts}
@@ -149,7 +149,7 @@ pub may_deliver : (c : CodeParts) (p : Parts) (f : ℕ) → AreFlying p → MayD
 may_deliver c p f flying may =
     omega (
       arith,
-      get_below (all_carried (joined p.flights.items)) f may.packet may.packet_is,
-      carried_length (joined p.flights.items),
+      get_below (all_carried p.flights.items) f may.packet may.packet_is,
+      carried_length p.flights.items,
       flying.counted,
     )

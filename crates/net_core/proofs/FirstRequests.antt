@@ -42,14 +42,14 @@ use Rattle.net_core.proofs.SiteReactions.{below_or, one_member, alive_bare, dead
 
 -- ---- the order of ids
 
-after_not_before : (a b : AtomId) → precedes a b ≡ true → precedes b a ≡ false
+pub after_not_before : (a b : AtomId) → precedes a b ≡ true → precedes b a ≡ false
 after_not_before a b e = pairs a.site a.k b.site b.k e
   where
     pairs : (s k t j : ℕ) → nat_lt s t || ((s == t) && nat_lt k j) ≡ true
         → nat_lt t s || ((t == s) && nat_lt j k) ≡ false
     pairs s k t j e = grind (arith, nat_tests)
 
-not_itself : (a : AtomId) → precedes a a ≡ false
+pub not_itself : (a : AtomId) → precedes a a ≡ false
 not_itself a = pairs a.site a.k
   where
     pairs : (s k : ℕ) → nat_lt s s || ((s == s) && nat_lt k k) ≡ false
@@ -72,7 +72,8 @@ not_before a b c e f = pairs a.site a.k b.site b.k c.site c.k e f
     pairs s k t j u i e f = grind (arith, nat_tests)
 
 -- what doesn't come before a greater one doesn't before a lesser one
-not_after : (a b c : AtomId) → precedes b c ≡ false → precedes a b ≡ false → precedes a c ≡ false
+pub not_after : (a b c : AtomId) → precedes b c ≡ false → precedes a b ≡ false
+    → precedes a c ≡ false
 not_after a b c e f = pairs a.site a.k b.site b.k c.site c.k e f
   where
     pairs : (s k t j u i : ℕ) → nat_lt t u || ((t == u) && nat_lt j i) ≡ false

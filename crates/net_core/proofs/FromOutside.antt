@@ -17,7 +17,7 @@ use Rattle.router.specs.Delivering.{can_deliver}
 use Rattle.net_core.specs.declared.parts.Parts.{Parts}
 use Rattle.net_core.specs.declared.senders.Run.{Run}
 use Rattle.net_core.specs.Acting.{Delivers}
-use Rattle.net_core.specs.Parts.{joined, without, message_in, carried, all_carried, IsMessageText}
+use Rattle.net_core.specs.Parts.{without, message_in, carried, all_carried, IsMessageText}
 use Rattle.net_core.specs.Parts.{IsMessageFlight, net_of}
 use Rattle.net_core.specs.Playing.{deliver}
 use Rattle.net_core.specs.Received.{flight_to, with_last, HasReceived}
@@ -68,14 +68,14 @@ module _ (c : CodeParts) (old new : Parts) (site : ℕ) (bytes : List ℕ) (even
     (goes : GoesOn bytes on more)
     (version : new.version ≡ old.version) (tree : new.tree ≡ old.tree)
     (trace : new.trace.items ≡ old.trace.items)
-    (flights : joined new.flights.items ≡ joined old.flights.items ++ more)
+    (flights : new.flights.items ≡ old.flights.items ++ more)
     (fit : AllFit c new.tree new.sites.items) (count : new.under_way ≡ old.under_way + length more)
     (few : new.under_way < 2 ^ 32) where
   abbrev flight : Flight
   flight = flight_to site bytes
 
   abbrev olds : List Flight
-  olds = joined old.flights.items
+  olds = old.flights.items
 
   abbrev all : List Flight
   all = olds ++ flight ∷ []
@@ -102,7 +102,7 @@ module _ (c : CodeParts) (old new : Parts) (site : ℕ) (bytes : List ℕ) (even
   number : s.number ≡ site
   number = (some.stands.hosts site s here).number
 
-  left : joined new.flights.items ≡ without (length olds) all ++ more
+  left : new.flights.items ≡ without (length olds) all ++ more
   left = flights ∙ ap (λ (fs : List Flight). fs ++ more) (sym (without_last_flight olds flight))
 
   pub received : IsReceived c old site bytes events new
@@ -136,8 +136,8 @@ received_from c old new was mid later site bytes events count whole done same mo
       arith,
       whole.whole.flying.counted,
       done.whole.flying.counted,
-      carried_length (joined old.flights.items),
-      carried_length (joined new.flights.items),
+      carried_length old.flights.items,
+      carried_length new.flights.items,
     ) in
     let froms : spread later ≡ spread was ++ replicate (now - before) site =
     noted ∙ ap (λ (rs : List Run). spread rs ++ replicate count site) same

@@ -52,7 +52,7 @@ pub moves_net : (seen : List ℕ) (old new : Parts) → new.version ≡ old.vers
     → (moves : MovesAt seen old.tree new.tree i a s old.sites.items new.sites.items e)
     → moves.moves.target.site ≡ i
     → joined new.trace.items ≡ joined old.trace.items ++ e.outs
-    → joined new.flights.items ≡ joined old.flights.items ++ e.sends
+    → new.flights.items ≡ old.flights.items ++ e.sends
     → Moves (net_of seen old) a (net_of seen new)
 moves_net seen old new version i a s e at number can moves here trace flights =
     let d = moves.moves in
@@ -88,7 +88,7 @@ pub crosses_net : (seen : List ℕ) (old new : Parts) → new.version ≡ old.ve
     → (moves : CrossesAt seen old.tree new.tree i j a s u old.sites.items new.sites.items e)
     → moves.moves.target.site ≡ j
     → joined new.trace.items ≡ joined old.trace.items ++ e.outs
-    → joined new.flights.items ≡ joined old.flights.items ++ e.sends
+    → new.flights.items ≡ old.flights.items ++ e.sends
     → Moves (net_of seen old) a (net_of seen new)
 crosses_net seen old new version i j a s u e at into away number can moves there trace flights =
     let d = moves.moves in
@@ -123,8 +123,8 @@ crosses_net seen old new version i j a s u e at into away number can moves there
     ∙ ap (slice_set (slice_set old.sites.items i (remove q.loc (drop_request a s))) j) answers.site)
     tree
     (trace ∙ ap (λ (os : List Out). joined old.trace.items ++ os) answers.outs)
-    (ap all_carried flights ∙ carried_append (joined old.flights.items) e.sends
-    ∙ ap (λ (ps : List Addressed). all_carried (joined old.flights.items) ++ ps)
+    (ap all_carried flights ∙ carried_append old.flights.items e.sends
+    ∙ ap (λ (ps : List Addressed). all_carried old.flights.items ++ ps)
     (all_carry o.sends e.sends answers.sends).0) in
     leaves (record {
       go = go;

@@ -149,7 +149,7 @@ pub outcome_net : (seen : List ℕ) (old new : Parts) → new.version ≡ old.ve
     (e : Effects) → new.sites.items ≡ slice_set old.sites.items i after
     → Answers o outs births after e → bare new.tree ≡ with_births t i births
     → joined new.trace.items ≡ joined old.trace.items ++ e.outs
-    → joined new.flights.items ≡ joined old.flights.items ++ e.sends
+    → new.flights.items ≡ old.flights.items ++ e.sends
     → net_of seen new ≡ with_outcome (record (net_of seen old) { tree = t }) i o outs births
 outcome_net seen old new version i t o outs births after e sites answers tree trace flights =
     same_net (net_of seen new)
@@ -157,8 +157,8 @@ outcome_net seen old new version i t o outs births after e sites answers tree tr
     (sites ∙ ap (slice_set old.sites.items i) answers.site)
     tree
     (trace ∙ ap (λ (os : List Out). joined old.trace.items ++ os) answers.outs)
-    (ap all_carried flights ∙ carried_append (joined old.flights.items) e.sends
-    ∙ ap (λ (ps : List Addressed). all_carried (joined old.flights.items) ++ ps)
+    (ap all_carried flights ∙ carried_append old.flights.items e.sends
+    ∙ ap (λ (ps : List Addressed). all_carried old.flights.items ++ ps)
     (all_carry o.sends e.sends answers.sends).0)
 
 -- ---- halts
@@ -190,7 +190,7 @@ halts_net seen old new version i a s at can halts trace flights =
           (halts.sites ∙ ap (slice_set old.sites.items i) halts.halts.site)
           (ap bare halts.halts.tree)
           (ap joined trace)
-          (ap (λ fs. all_carried (joined fs)) flights);
+          (ap all_carried flights);
     }
 
 -- ---- detections
@@ -204,7 +204,7 @@ pub detects_net : (seen : List ℕ) (old new : Parts) → new.version ≡ old.ve
     → s.number ≡ i → is_some (dead_for old.tree a s) ≡ true
     → DetectsAt seen old.tree i a s old.sites.items new.sites.items e
     → bare new.tree ≡ bare old.tree → joined new.trace.items ≡ joined old.trace.items ++ e.outs
-    → joined new.flights.items ≡ joined old.flights.items ++ e.sends
+    → new.flights.items ≡ old.flights.items ++ e.sends
     → Detects (net_of seen old) a (net_of seen new)
 detects_net seen old new version i a s e at number dead detects tree trace flights =
     let d = detects.detects in
@@ -240,7 +240,7 @@ pub event_whole : (c : CodeParts) (old new : Parts) (e : Event) (events : ℕ) �
     → events < 2 ^ 32 → Does c (net_of c.seen old) (Some e) (net_of c.seen new)
     → AllStayFit c (bare new.tree) new.sites.items → length new.sites.items ≡ length old.sites.items
     → (more : List Flight) → Each IsMessageFlight more
-    → joined new.flights.items ≡ joined old.flights.items ++ more
+    → new.flights.items ≡ old.flights.items ++ more
     → new.under_way ≡ old.under_way + length more → new.under_way < 2 ^ 32
     → IsWhole c new (events + 1)
 event_whole c old new e events h few does fit many more spelled flights count low = record {
@@ -248,13 +248,13 @@ event_whole c old new e events h few does fit many more spelled flights count lo
       event_running c (net_of c.seen old) (net_of c.seen new) e events h.running does fit many few;
   flying = record {
     spelled = subst (Each IsMessageFlight) (sym flights)
-        (Each-append IsMessageFlight (joined old.flights.items) more h.flying.spelled spelled);
+        (Each-append IsMessageFlight old.flights.items more h.flying.spelled spelled);
     counted = omega (
       arith,
       count,
       h.flying.counted,
       ap length flights,
-      length-append (joined old.flights.items) more,
+      length-append old.flights.items more,
     );
     few = low;
   };

@@ -7,7 +7,7 @@ pub mod Enabling
 pub mod Rising
 pub mod Members
 pub mod Spreads
-pub mod Turning
+pub mod Pairs
 pub mod Carrying
 pub mod Deliverable
 pub mod PatternChannels

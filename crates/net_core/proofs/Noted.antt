@@ -31,7 +31,7 @@ use Rattle.net_core.specs.declared.senders.Run.{Run}
 use Rattle.net_core.specs.Acting.{stays, leaves}
 use Rattle.net_core.specs.Acts.{Acts}
 use Rattle.net_core.specs.Acts as acts
-use Rattle.net_core.specs.Parts.{joined, without, net_of}
+use Rattle.net_core.specs.Parts.{without, net_of}
 use Rattle.net_core.specs.Senders.{IsSentBy, kept}
 use Rattle.net_core.specs.Senders as senders
 use Rattle.net_core.specs.Whole.{IsWhole, IsNetWhole}
@@ -122,10 +122,10 @@ module _ (c : CodeParts) (old new : Parts) (x : Choice) (o : Option Event) (even
   now = (net_of c.seen new).packets
 
   counted_old : length (spread was) ≡ length before
-  counted_old = sent ∙ whole.flying.counted ∙ sym (carried_length (joined old.flights.items))
+  counted_old = sent ∙ whole.flying.counted ∙ sym (carried_length old.flights.items)
 
   counted_new : new.under_way ≡ length now
-  counted_new = after.flying.counted ∙ sym (carried_length (joined new.flights.items))
+  counted_new = after.flying.counted ∙ sym (carried_length new.flights.items)
 
   left : length (kept x (spread was)) ≡ length (kept x before)
   left = kept_alike x (spread was) before counted_old
@@ -190,8 +190,8 @@ unmade_whole c old new was mid events same net still h =
         after.flying.counted,
         h.whole.flying.counted,
         ap (λ (n : Net). length n.packets) net,
-        carried_length (joined old.flights.items),
-        carried_length (joined new.flights.items),
+        carried_length old.flights.items,
+        carried_length new.flights.items,
       );
     }
 

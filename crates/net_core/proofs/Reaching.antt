@@ -195,7 +195,7 @@ module _ (c : CodeParts) (kept : IsCode c) (old new : Parts) (some : RunsSome c 
   pub reacts_net : new.version ≡ old.version
       → bare new.tree ≡ with_births (bare old.tree) i e.births
       → joined new.trace.items ≡ joined old.trace.items ++ e.outs
-      → joined new.flights.items ≡ joined old.flights.items ++ e.sends
+      → new.flights.items ≡ old.flights.items ++ e.sends
       → Reacts c (net_of c.seen old) i p.group p.guard ev (net_of c.seen new)
   reacts_net version tree trace flights = record {
     by = by_guard c kept (net_of c.seen old) some i s p x at (fires_bare c old.tree s p x fires);

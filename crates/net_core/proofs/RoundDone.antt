@@ -295,18 +295,18 @@ fit_done c t most sites h = record {
 -- each site can have its turn
 pub can_all : (c : CodeParts) (old : Parts) (quota events : ℕ)
     → events + quota * length old.sites.items < 2 ^ 32 - 1 → IsWhole c old events
-    → All (CanWork c old.tree (joined old.flights.items) quota) (map slot_of old.sites.items)
+    → All (CanWork c old.tree old.flights.items quota) (map slot_of old.sites.items)
 can_all c old quota events few whole = go old.sites.items refl
   where
     go : (sites : List Site) → old.sites.items ≡ sites
-        → All (CanWork c old.tree (joined old.flights.items) quota) (map slot_of sites)
-    go [] e = each_all (CanWork c old.tree (joined old.flights.items) quota) [] tt
+        → All (CanWork c old.tree old.flights.items quota) (map slot_of sites)
+    go [] e = each_all (CanWork c old.tree old.flights.items quota) [] tt
     go (s ∷ ss) e =
         let some : 0 < length old.sites.items = omega (arith, ap length e) in
         let less = one_of_all quota (length old.sites.items) some in
         let net = net_of c.seen old in
-        each_all (CanWork c old.tree (joined old.flights.items) quota) (map slot_of (s ∷ ss))
-        (all_can c old.tree (joined old.flights.items) quota net events whole.running refl refl
+        each_all (CanWork c old.tree old.flights.items quota) (map slot_of (s ∷ ss))
+        (all_can c old.tree old.flights.items quota net events whole.running refl refl
         (omega arith) whole.flying.spelled 0 (s ∷ ss)
         (λ j u at. ap (λ us. slice_get us (0 + j)) e ∙ from_first j u at))
       where
@@ -315,16 +315,16 @@ can_all c old quota events few whole = go old.sites.items refl
         from_first j u at = let same : 0 + j ≡ j = omega arith in ap (slice_get (s ∷ ss)) same ∙ at
 
 module _ (c : CodeParts) (old new : Parts) (quota : ℕ) (es : List Event) (done : List Slot)
-    (served : Pairwise (IsServed c old.tree (joined old.flights.items) quota)
+    (served : Pairwise (IsServed c old.tree old.flights.items quota)
     (map slot_of old.sites.items) done)
     (worked : Each HasWork done) (version : new.version ≡ old.version)
     (sites : new.sites.items ≡ sites_of done) (tree : bare new.tree ≡ bare old.tree)
     (trace : joined new.trace.items ≡ joined old.trace.items ++ outs_of done)
-    (flights : joined new.flights.items ≡ flights_of done)
+    (flights : new.flights.items ≡ flights_of done)
     (count : new.under_way ≡ length (flights_of done)) (few_flights : new.under_way < 2 ^ 32)
     (events_are : es ≡ events_of done) where
   abbrev fs : List Flight
-  fs = joined old.flights.items
+  fs = old.flights.items
 
   abbrev net : Net
   net = net_of c.seen old

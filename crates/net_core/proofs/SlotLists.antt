@@ -28,12 +28,6 @@ module _ {X : Type 0} (R : X → X → Type 0) where
   pairwise (x ∷ xs) (y ∷ ys) e h =
       (h 0 x (omega arith), pairwise xs ys (omega arith) (λ i d lt. h (suc i) d (omega arith)))
 
-pub joined_more : {X : Type 0} (xss : List (List X)) (xs : List X)
-    → joined (xss ++ xs ∷ []) ≡ joined xss ++ xs
-joined_more [] xs = append_nil xs
-joined_more (ys ∷ xss) xs =
-    ap (λ zs. ys ++ zs) (joined_more xss xs) ∙ sym (append_assoc ys (joined xss) xs)
-
 pub slots_more : (ss : List Site) (s : Site)
     → map slot_of (ss ++ s ∷ []) ≡ map slot_of ss ++ slot_of s ∷ []
 slots_more [] s = refl
@@ -111,8 +105,8 @@ more_back ss rs old mid new es fs gs a b = record {
       ∙ append_assoc (joined old.trace.items) (outs_of ss) (outs_of rs)
       ∙ ap (λ xs. joined old.trace.items ++ xs) (sym (outs_join ss rs));
   flights = b.flights ∙ ap (λ xs. xs ++ flights_of rs) a.flights
-      ∙ append_assoc (joined old.flights.items) (flights_of ss) (flights_of rs)
-      ∙ ap (λ xs. joined old.flights.items ++ xs) (sym (flights_join ss rs));
+      ∙ append_assoc old.flights.items (flights_of ss) (flights_of rs)
+      ∙ ap (λ xs. old.flights.items ++ xs) (sym (flights_join ss rs));
   count = omega (
     arith,
     a.count,
@@ -148,8 +142,8 @@ taken_back s w is old mid new es fs version sites tree trace flights under t =
       tree = t.tree ∙ tree;
       trace = t.trace ∙ ap (λ v. joined v.items ++ w.made.outs) trace
           ∙ ap (λ xs. joined old.trace.items ++ xs) (sym outs_are);
-      flights = t.flights ∙ ap (λ v. joined v.items ++ (w.on ++ w.made.sends)) flights
-          ∙ ap (λ xs. joined old.flights.items ++ xs) (sym flights_are);
+      flights = t.flights ∙ ap (λ v. v.items ++ (w.on ++ w.made.sends)) flights
+          ∙ ap (λ xs. old.flights.items ++ xs) (sym flights_are);
       count = t.count ∙ ap (λ n. n + length (w.on ++ w.made.sends)) under
           ∙ ap (λ (xs : List Flight). old.under_way + length xs) (sym flights_are);
       few = few;

@@ -1,6 +1,6 @@
 -- Runs of packets of one site: one run more, the run of a packet, and one packet less.
 use Rattle.std.proofs.Common.{◌≡◌, ℕ, zero, suc, ◌+◌, ◌-◌, ◌<◌, ◌≤◌, List, [], ◌∷◌, ◌++◌, length}
-use Rattle.std.proofs.Common.{take, drop, replicate, Some, slice_get, get_or, refl, sym, ap, ◌∙◌}
+use Rattle.std.proofs.Common.{take, replicate, Some, slice_get, get_or, refl, sym, ap, ◌∙◌}
 use Rattle.std.proofs.Common.{arith}
 use Rattle.std.specs.Prelude.{slice_set}
 use Rattle.std.proofs.lemmas.List.{length-replicate}
@@ -12,7 +12,7 @@ use Rattle.net_core.specs.Senders.{kept}
 use Rattle.net_core.specs.inside.Pieces.{IsPlace}
 use Rattle.net_core.specs.inside.Runs.{in_runs, spread}
 use Rattle.net_core.proofs.Members.{joined_more, joined_without, joined_further, without_length}
-use Rattle.net_core.proofs.Members.{cut_out, kept_out, get_is, get_set, low_some, place_none}
+use Rattle.net_core.proofs.Members.{kept_out, get_is, get_set, low_some, place_none}
 
 -- ---- runs as pieces
 
@@ -113,9 +113,8 @@ module _ (runs : List Run) (place i j : ℕ) (at : IsPlace (in_runs runs) place 
   pub below_count : j < r.count
   below_count = omega (arith, at.below, ap length members_are, length-replicate r.count r.from)
 
-  left : replicate (r.count - 1) r.from ≡ take j at.members ++ drop (j + 1) at.members
+  left : replicate (r.count - 1) r.from ≡ without j at.members
   left = one_less r.count j r.from below_count ∙ ap (without j) (sym members_are)
-      ∙ sym (cut_out at.members j at.below)
 
   pub lowered :
       spread (slice_set runs i (record { from = r.from; count = r.count - 1 }))
@@ -124,14 +123,14 @@ module _ (runs : List Run) (place i j : ℕ) (at : IsPlace (in_runs runs) place 
       ∙ kept_out (in_runs runs) place i j at (replicate (r.count - 1) r.from) left
 
   -- the run goes where it had one packet alone
-  pub emptied : r.count ≡ 1 → (new : List Run) → new ≡ take i runs ++ drop (i + 1) runs
+  pub emptied : r.count ≡ 1 → (new : List Run) → new ≡ without i runs
       → spread new ≡ without place (spread runs)
   emptied one new cut =
       let none : replicate (r.count - 1) r.from ≡ [] =
       ap (λ (n : ℕ). replicate (n - 1) r.from) one in
       let empty : slice_get (slice_set (in_runs runs) i []) i ≡ Some [] =
       get_set (in_runs runs) i [] (low_some (in_runs runs) i at.members at.is) in
-      ap spread (cut ∙ cut_out runs i low)
+      ap spread cut
       ∙ ap joined (runs_without runs i ∙ sym (without_set (in_runs runs) i))
       ∙ joined_without (slice_set (in_runs runs) i []) i empty
       ∙ kept_out (in_runs runs) place i j at [] (sym none ∙ left)

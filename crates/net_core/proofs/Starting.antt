@@ -217,7 +217,7 @@ module _ (version : ℕ) (c : CodeParts) (kept : IsCode c) (n : ℕ) (old : Part
       (sites : new.sites.items ≡ old.sites.items ++ s ∷ [])
       (tree : new.tree ≡ with_births t n e.births)
       (trace : joined new.trace.items ≡ joined old.trace.items ++ e.outs)
-      (flights : joined new.flights.items ≡ joined old.flights.items ++ e.sends)
+      (flights : new.flights.items ≡ old.flights.items ++ e.sends)
       (under : new.under_way ≡ old.under_way + length e.sends) (few : new.under_way < 2 ^ 32) where
     bare_tree : bare new.tree ≡ bare (with_births old.tree n e.births)
     bare_tree = ap bare tree ∙ sym (births_bare t n e.births)
@@ -234,8 +234,8 @@ module _ (version : ℕ) (c : CodeParts) (kept : IsCode c) (n : ℕ) (old : Part
         (bare_tree ∙ sym (births_bare old.tree n e.births)
         ∙ ap (with_births (bare old.tree) n) (opens.births ∙ sym (not_in_bare old.tree a.births)))
         (trace ∙ ap (λ (os : List Out). joined old.trace.items ++ os) opens.outs)
-        (ap all_carried flights ∙ carried_append (joined old.flights.items) e.sends
-        ∙ ap (λ (ps : List Addressed). all_carried (joined old.flights.items) ++ ps)
+        (ap all_carried flights ∙ carried_append old.flights.items e.sends
+        ∙ ap (λ (ps : List Addressed). all_carried old.flights.items ++ ps)
         ((all_carry (opened_by c old.tree n site).sends e.sends opens.sends).0
         ∙ ap (λ (x : Outcome). x.sends) (sym o)))
 
@@ -296,10 +296,10 @@ module _ (version : ℕ) (c : CodeParts) (kept : IsCode c) (n : ℕ) (old : Part
       fit = fit_after;
       flying = record {
         spelled = subst (Each IsMessageFlight) (sym flights)
-            (Each-append IsMessageFlight (joined old.flights.items) e.sends upto.flying.spelled
+            (Each-append IsMessageFlight old.flights.items e.sends upto.flying.spelled
             (all_carry (opened_by c old.tree n site).sends e.sends opens.sends).1);
         counted = under ∙ ap (λ k. k + length e.sends) upto.flying.counted
-            ∙ sym (ap length flights ∙ length-append (joined old.flights.items) e.sends);
+            ∙ sym (ap length flights ∙ length-append old.flights.items e.sends);
         few = few;
       };
     }
@@ -535,7 +535,7 @@ first_alone q c is l h = go (spot (unmarked_roots (length c.sites)) l) refl (amo
 
 pub none_opened : (q : ProgramTerms) (c : CodeParts) → IsProgram q → IsCode c → IsCodeOf q c
     → (p : Parts) → p.version ≡ q.version → bare p.tree ≡ first c → p.sites.items ≡ []
-    → joined p.trace.items ≡ [] → joined p.flights.items ≡ [] → p.under_way ≡ 0
+    → joined p.trace.items ≡ [] → p.flights.items ≡ [] → p.under_way ≡ 0
     → IsUpTo p.version c 0 p
 none_opened q c ok kept is p version tree sites trace flights under = record {
   rest = ap (all_opened c 0 c.sites) own;
@@ -566,7 +566,7 @@ none_opened q c ok kept is p version tree sites trace flights under = record {
     at l = ap (λ (t : Tree). spot t l) tree
 
 pub none_sent : (c : CodeParts) (p : Parts) → bare p.tree ≡ first c → p.sites.items ≡ []
-    → joined p.trace.items ≡ [] → joined p.flights.items ≡ [] → p.under_way ≡ 0
+    → joined p.trace.items ≡ [] → p.flights.items ≡ [] → p.under_way ≡ 0
     → (senders : List Run) → senders ≡ [] → AreSentUpTo p.version c 0 p senders
 none_sent c p tree sites trace flights under senders none =
     let own = same_net (net_of c.seen p) (unopened p.version c) refl refl sites tree trace

@@ -1,12 +1,10 @@
 -- Packets are taken away from a network that runs code, or put in another order.
-use Rattle.std.proofs.Common.{◌≡◌, ℕ, List, [], ◌∷◌, ◌++◌, map, length, refl, sym, ap, subst, ◌∙◌}
+use Rattle.std.proofs.Common.{◌≡◌, ℕ, List, [], ◌∷◌, ◌++◌, length, refl, sym, ap, subst, ◌∙◌}
 use Rattle.std.proofs.Common.{arith}
-use Rattle.std.specs.Prelude.{reverse}
 use Rattle.chem_laws.proofs.Lists.{append_nil}
 use Rattle.chem_model.specs.Each.{Each}
 use Rattle.chem_model.specs.declared.numbered.NumberedAtom.{NumberedAtom}
 use Rattle.chem_model.specs.ProgramFacts.{ProgramTerms}
-use Rattle.wire_packet.specs.declared.packet.Flight.{Flight}
 use Rattle.env_store.specs.CodeParts.{CodeParts}
 use Rattle.env_store.specs.Laws.{rules_of_group}
 use Rattle.loc_tree.specs.Tree.{bare}
@@ -15,15 +13,14 @@ use Rattle.net_laws.specs.Opened.{RunsCode}
 use Rattle.net_core.specs.UnderWay.{with_packets}
 use Rattle.net_core.proofs.Fewer.{some_stand, stands_alike}
 use Rattle.net_core.specs.declared.parts.Parts.{Parts}
-use Rattle.net_core.specs.declared.drained.FlightFrom.{FlightFrom}
 use Rattle.net_core.specs.declared.senders.Run.{Run}
 use Rattle.net_core.specs.Drained.{AreHandedOut}
-use Rattle.net_core.specs.Parts.{joined, net_of, carried, all_carried, IsMessageFlight}
+use Rattle.net_core.specs.Parts.{joined, net_of, all_carried, IsMessageFlight}
 use Rattle.net_core.specs.Whole.{RunsSome, IsRunning, IsWhole, IsNetWhole}
 use Rattle.net_core.specs.inside.Pairing.{paired}
 use Rattle.net_core.specs.inside.Runs.{spread}
 use Rattle.net_core.proofs.Deliveries.{same_net}
-use Rattle.net_core.proofs.Turning.{turned_back, paired_carried, paired_froms, paired_spelled}
+use Rattle.net_core.proofs.Pairs.{paired_carried, paired_froms, paired_spelled}
 
 runs_with : (p : ProgramTerms) (c : CodeParts) (net : Net) (qs : List Addressed) → RunsCode p c net
     → Each (IsOnItsWay (length net.sites)) qs → RunsCode p c (with_packets qs net)
@@ -81,7 +78,7 @@ pub drained_net : (seen : List ℕ) (old new : Parts) → AreDrained old new
     → net_of seen new ≡ with_packets [] (net_of seen old)
 drained_net seen old new d =
     same_net (net_of seen new) (with_packets [] (net_of seen old)) d.version refl d.sites d.tree
-    (ap joined d.trace) (ap (λ (fs : List (List Flight)). all_carried (joined fs)) d.flights)
+    (ap joined d.trace) (ap all_carried d.flights)
 
 drained_running : (c : CodeParts) (net : Net) (events : ℕ) → IsRunning c net events
     → IsRunning c (with_packets [] net) events
@@ -102,32 +99,28 @@ drained_whole c old new events d h = record {
       (drained_running c (net_of c.seen old) events h.running);
   flying = record {
     spelled =
-        subst (λ (fs : List (List Flight)). Each IsMessageFlight (joined fs)) (sym d.flights) tt;
-    counted = d.under_way ∙ ap (λ (fs : List (List Flight)). length (joined fs)) (sym d.flights);
+        subst (Each IsMessageFlight) (sym d.flights) tt;
+    counted = d.under_way ∙ ap length (sym d.flights);
     few = omega (arith, d.under_way);
   };
 }
 
--- they are handed out, turned round
+-- they are handed out
 pub are_handed_out :
-    (c : CodeParts) (old new : Parts) (was now : List Run) (events : ℕ) (gs : List Flight)
-    (ms : List ℕ) → IsNetWhole c old was events → AreDrained old new → now ≡ []
-    → gs ≡ reverse (joined old.flights.items) → ms ≡ reverse (spread was)
+    (c : CodeParts) (old new : Parts) (was now : List Run) (events : ℕ)
+    → IsNetWhole c old was events → AreDrained old new → now ≡ []
     → AreHandedOut
     (record { code = c; net = net_of c.seen old; froms = spread was; events = events })
-    (reverse (paired gs ms))
+    (paired old.flights.items (spread was))
     (record { code = c; net = net_of c.seen new; froms = spread now; events = events })
-are_handed_out c old new was now events gs ms h drained none a b =
-    let fs = joined old.flights.items in
+are_handed_out c old new was now events h drained none =
+    let fs = old.flights.items in
     let ns = spread was in
     let many : length fs ≡ length ns = omega (arith, h.sent, h.whole.flying.counted) in
-    let handed : reverse (paired gs ms) ≡ paired fs ns = turned_back fs gs ns ms a b many in
     record {
-      carried_are =
-          ap (map (λ (x : FlightFrom). carried x.flight)) handed ∙ paired_carried fs ns many;
-      froms_are = ap (map (λ (x : FlightFrom). x.from)) handed ∙ paired_froms fs ns many;
-      spelled = subst (Each (λ (x : FlightFrom). IsMessageFlight x.flight)) (sym handed)
-          (paired_spelled fs ns h.whole.flying.spelled);
+      carried_are = paired_carried fs ns many;
+      froms_are = paired_froms fs ns many;
+      spelled = paired_spelled fs ns h.whole.flying.spelled;
       left = λ i. record {
         code = c;
         net = drained_net c.seen old new drained i;

@@ -60,5 +60,5 @@ net_of seen p = record {
   sites = p.sites.items;
   tree = bare p.tree;
   trace = joined p.trace.items;
-  packets = all_carried (joined p.flights.items);
+  packets = all_carried p.flights.items;
 }

@@ -16,7 +16,7 @@ use Rattle.site_solution.specs.InCode.{is_in_code}
 use Rattle.site_solution.specs.Draws.{CanDraw}
 use Rattle.net_core.specs.declared.parts.Parts.{Parts}
 use Rattle.net_core.specs.declared.senders.Run.{Run}
-use Rattle.net_core.specs.Parts.{joined, net_of, IsMessageFlight}
+use Rattle.net_core.specs.Parts.{net_of, IsMessageFlight}
 use Rattle.net_core.specs.Rising.{AllMade}
 use Rattle.net_core.specs.inside.Runs.{spread}
 
@@ -53,8 +53,8 @@ pub record IsRunning (c : CodeParts) (net : Net) (events : ℕ) : Type 0 where
 
 -- each packet under way is the spelling of a message, and there are so many, fewer than 2^32
 pub record AreFlying (p : Parts) : Type 0 where
-  pub spelled : Each IsMessageFlight (joined p.flights.items)
-  pub counted : p.under_way ≡ length (joined p.flights.items)
+  pub spelled : Each IsMessageFlight p.flights.items
+  pub counted : p.under_way ≡ length p.flights.items
   pub few : p.under_way < 2 ^ 32
 
 pub record IsWhole (c : CodeParts) (p : Parts) (events : ℕ) : Type 0 where

@@ -34,6 +34,7 @@ use env_store::Code;
 use loc_tree::LocTree;
 use site_solution::Site;
 use std::alloc::Global;
+use std::collections::VecDeque;
 use wire_packet::Ask;
 
 // The location to which a request to go leads.
@@ -201,7 +202,7 @@ fn make(
 fn make_noted(
     alloc: Global,
     parts: &mut Parts,
-    senders: &mut Vec<Run>,
+    senders: &mut VecDeque<Run>,
     code: &Code,
     choice: &Choice,
 ) -> Result<Option<Event>, Memory>

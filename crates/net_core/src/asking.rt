@@ -1,38 +1,13 @@
 // The requests of all sites, in the order of their ids, and the choices that meet them.
-ghost use Rattle.std.specs.Prelude.{◌≡◌, ◌<◌, ◌≤◌, length, slice_get, Some, IfOk, OnOk};
-ghost use Rattle.net_laws.specs.Holding.{with_request};
+ghost use Rattle.std.specs.Prelude.{◌≡◌, ◌<◌, ◌++◌, [], length, slice_get, Some, IfOk, OnOk};
 ghost use Rattle.net_core.specs.Asking.{in_order, requests_of, choices_for};
-ghost use Rattle.net_core.specs.inside.Searched.{place_for};
 
 use crate::choice::Choices;
-use crate::searching::{choice_for, comes_before};
-use chem_model::{AtomId, Items, Memory};
+use crate::searching::choice_for;
+use chem_model::{Items, Memory};
 use site_solution::{Site, site_is_kept};
 use std::alloc::Global;
 use wire_packet::Request;
-
-// How many of the first requests have an id that precedes this one.
-fn place_for(requests: &[Request], id: AtomId) -> usize
-    ensures place { result ≡ place_for id requests.now }
-    ensures within { result ≤ length requests.now }
-{
-    for place in 0..requests.len() {
-        let request = &requests[place];
-        if !comes_before(request.id, id) {
-            return place;
-        }
-    }
-    requests.len()
-}
-
-// Puts a request in its place.
-fn add_request(requests: &mut Vec<Request>, request: Request) -> Result<(), Memory>
-    ensures { OnOk result (requests.new.items ≡ with_request request requests.old.items) }
-{
-    let place = place_for(requests.as_slice(), request.id);
-    requests.insert(place, request)?;
-    Ok(())
-}
 
 // How many requests a site has.
 fn count_requests(site: &Site) -> u32
@@ -57,16 +32,22 @@ fn request_there(site: &Site, place: u32) -> Request
     }
 }
 
-// Puts the requests of a site in their places.
+// Adds the requests of a site behind others.
 fn add_requests(requests: &mut Vec<Request>, site: &Site) -> Result<(), Memory>
-    ensures { OnOk result (requests.new.items
-        ≡ in_order site.now.requests requests.old.items) }
+    ensures { OnOk result (requests.new.items ≡ requests.old.items ++ site.now.requests) }
 {
-    let mut left = count_requests(site);
-    while left > 0 {
-        left -= 1;
-        add_request(requests, request_there(site, left))?;
+    for place in 0..count_requests(site) {
+        requests.push(request_there(site, place))?;
     }
+    Ok(())
+}
+
+// Puts requests in the order of their ids. Where they stand so already, it takes no longer than to
+// read them.
+fn put_in_order(requests: &mut Vec<Request>) -> Result<(), Memory>
+    ensures { OnOk result (requests.new.items ≡ in_order requests.old.items []) }
+{
+    requests.sort_by_key(|request| (request.id.site, request.id.k))?;
     Ok(())
 }
 
@@ -75,11 +56,10 @@ fn all_requests(alloc: Global, sites: &[Site]) -> Result<Vec<Request>, Memory>
     ensures { IfOk result (λ requests. requests.items ≡ requests_of sites.now) }
 {
     let mut requests = Vec::new(alloc);
-    let mut left = sites.len();
-    while left > 0 {
-        left -= 1;
-        add_requests(&mut requests, &sites[left])?;
+    for site in sites {
+        add_requests(&mut requests, site)?;
     }
+    put_in_order(&mut requests)?;
     Ok(requests)
 }
 

@@ -1,6 +1,6 @@
 // Deliveries of packets that are under way.
 ghost use Rattle.std.specs.Prelude.{◌≡◌, ℕ, ◌<◌, ◌≤◌, ◌++◌, List, Some, length, slice_get};
-ghost use Rattle.std.specs.Prelude.{vec_len, vec_capacity, true, IfOk, OnOk, OnErr, IsSome};
+ghost use Rattle.std.specs.Prelude.{true, IfOk, OnOk, OnErr, IsSome};
 ghost use Rattle.wire_packet.specs.MessageFacts.{MessageParts};
 ghost use Rattle.wire_packet.specs.declared.parcel.Packet.TheVariants as sent;
 ghost use Rattle.env_store.specs.CodeParts.{CodeParts};
@@ -8,21 +8,21 @@ ghost use Rattle.net_laws.specs.Site.{Site as site_seen};
 ghost use Rattle.router.specs.Delivering.{can_deliver};
 ghost use Rattle.net_core.specs.declared.choice.Choice.TheVariants as choices;
 ghost use Rattle.net_core.specs.Acting.{Delivers};
-ghost use Rattle.net_core.specs.Parts.{joined, without, message_in, IsMessageText, net_of};
+ghost use Rattle.net_core.specs.Parts.{without, message_in, IsMessageText, net_of};
 ghost use Rattle.net_core.specs.Senders.{IsSentBy};
-ghost use Rattle.net_core.specs.inside.Pieces.{IsPlace};
 ghost use Rattle.net_core.specs.Whole.{AllFit, IsWhole};
 ghost use Rattle.net_core.specs.inside.Alone.{IsReadyForCalls};
 ghost use Rattle.net_core.specs.inside.Delivering.{IsBroughtTo, GoesOn, IsTextBrought};
 ghost use Rattle.net_core.specs.inside.Delivering.{IsTextBroughtAt};
 
+use crate::handing::add_last;
 use crate::parts::Parts;
-use crate::pieces::{add_piece, member_at, place_of, take_out};
 use chem_model::{Items, Memory};
 use loc_tree::LocTree;
 use router::{Delivery, deliver};
 use site_solution::Site;
 use std::alloc::Global;
+use std::collections::VecDeque;
 use wire_packet::{DecodeEnd, Flight, Flights, Msg, Packet, decode};
 
 // The message of a packet that is one.
@@ -119,15 +119,14 @@ pub(crate) fn bring_to_target(
     bring_text(alloc, site, tree, bytes)
 }
 
-// Takes a flight out, and adds others behind all.
-fn replace(flights: &mut Vec<Flights>, piece: usize, index: usize, more: Flights)
-    requires place { (place : ℕ) × IsPlace flights.old.items place piece index }
-    requires room { vec_len flights.old < vec_capacity flights.old }
-    ensures { (place : ℕ) → IsPlace flights.old.items place piece index
-        → joined flights.new.items ≡ without place (joined flights.old.items) ++ more }
+// Takes a flight out, and adds what goes on behind all others. It takes no memory.
+fn replace(flights: &mut VecDeque<Flight>, place: usize, more: Flights)
+    requires place { place < length flights.old.items }
+    requires few { length more ≤ 1 }
+    ensures { flights.new.items ≡ without place flights.old.items ++ more }
 {
-    take_out(flights, piece, index);
-    add_piece(flights, more);
+    let _gone = flights.remove(place);
+    add_last(flights, more);
 }
 
 // Delivers the packet with this index: it is put at its home, or goes on, behind all others, to the
@@ -145,14 +144,13 @@ pub(crate) fn deliver_flight(alloc: Global, parts: &mut Parts, flight: u32) -> R
     ensures err { OnErr result ((seen : List ℕ)
         → net_of seen parts.new ≡ net_of seen parts.old) }
 {
-    parts.flights.reserve(1)?;
-    let (piece, index) = place_of(parts.flights.as_slice(), flight as usize);
-    let found = member_at(parts.flights.as_slice(), piece, index);
+    let place = flight as usize;
+    let found = &parts.flights[place];
     let target = found.target;
     let bytes = found.bytes.as_slice();
     let more = bring_to_target(alloc, &mut parts.sites, &parts.tree, target, bytes)?;
     let count = more.len() as u32;
-    replace(&mut parts.flights, piece, index, more);
+    replace(&mut parts.flights, place, more);
     parts.under_way = parts.under_way - 1 + count;
     Ok(target)
 }

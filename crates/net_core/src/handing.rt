@@ -1,18 +1,17 @@
 // What an event hands out: births, observables and packets. First all the memory that they take,
 // and then what takes none.
-ghost use Rattle.std.specs.Prelude.{◌≡◌, ◌+◌, ◌<◌, ◌≤◌, ◌^◌, ◌++◌, length, vec_len, vec_capacity};
-ghost use Rattle.std.specs.Prelude.{OnOk, OnErr};
+ghost use Rattle.std.specs.Prelude.{◌≡◌, ◌+◌, ◌<◌, ◌≤◌, ◌^◌, ◌++◌, length, OnOk, OnErr};
+ghost use Rattle.std.specs.VecDeque.{deque_len, deque_capacity};
 ghost use Rattle.net_laws.specs.Net.{with_births};
 ghost use Rattle.net_laws.specs.Opened.{AreNew};
-ghost use Rattle.net_core.specs.Parts.{joined};
 ghost use Rattle.net_core.specs.inside.Handing.{AreAsBefore, HaveRoom};
 
 use crate::parts::Parts;
-use crate::pieces::add_piece;
 use chem_model::{Loc, Memory, Outs};
 use loc_tree::LocTree;
 use std::alloc::Global;
-use wire_packet::Flights;
+use std::collections::VecDeque;
+use wire_packet::{Flight, Flights};
 
 // Makes room for what an event hands out: so many births, and at most so many packets.
 pub(crate) fn make_room(
@@ -28,7 +27,7 @@ pub(crate) fn make_room(
         return Err(Memory);
     }
     parts.trace.reserve(1)?;
-    parts.flights.reserve(1)?;
+    parts.flights.reserve(sends as usize)?;
     parts.tree.reserve(alloc, births)?;
     Ok(())
 }
@@ -45,13 +44,22 @@ pub(crate) fn add_births(tree: &mut LocTree, births: &[Loc], site: u32)
     }
 }
 
+// Packets go behind all others, where there is room for them. It takes no memory.
+pub(crate) fn add_last(flights: &mut VecDeque<Flight>, more: Flights)
+    requires { deque_len flights.old + length more ≤ deque_capacity flights.old }
+    ensures { flights.new.items ≡ flights.old.items ++ more }
+{
+    let mut last = VecDeque::from_vec(more.into_vec());
+    let _ = flights.append(&mut last);
+}
+
 // Packets go behind those that are under way. It takes no memory.
-pub(crate) fn add_flights(flights: &mut Vec<Flights>, under_way: &mut u32, more: Flights)
-    requires room { vec_len flights.old < vec_capacity flights.old }
-    requires few { under_way.old + length more < 2 ^ 32 }
-    ensures flights { joined flights.new.items ≡ joined flights.old.items ++ more }
+pub(crate) fn add_flights(flights: &mut VecDeque<Flight>, under_way: &mut u32, more: Flights)
+    requires { (deque_len flights.old + length more ≤ deque_capacity flights.old)
+        × (under_way.old + length more < 2 ^ 32) }
+    ensures flights { flights.new.items ≡ flights.old.items ++ more }
     ensures count { under_way.new ≡ under_way.old + length more }
 {
     *under_way += more.len() as u32;
-    add_piece(flights, more);
+    add_last(flights, more);
 }

@@ -18,6 +18,7 @@ use crate::tracing::copy_all;
 use chem_model::{Memory, Outs};
 use env_store::Code;
 use std::alloc::Global;
+use std::collections::VecDeque;
 use std::marker::Model;
 
 /// A network of sites that run the code of a program: what contracts see of it is the code, the
@@ -33,7 +34,7 @@ use std::marker::Model;
 pub struct Net {
     pub(crate) code: Code,
     pub(crate) parts: Parts,
-    pub(crate) senders: Vec<Run>,
+    pub(crate) senders: VecDeque<Run>,
     pub(crate) events: u32,
 }
 

@@ -22,6 +22,7 @@ use env_store::Code;
 use reducer::{first_tree, opening};
 use site_solution::Effects;
 use std::alloc::Global;
+use std::collections::VecDeque;
 
 // Hands out what the opening of the site with this number leaves: its births, its observables and
 // its packets.
@@ -50,7 +51,7 @@ fn hand_out(alloc: Global, parts: &mut Parts, effects: Effects, number: u32) -> 
 fn open_site(
     alloc: Global,
     parts: &mut Parts,
-    senders: &mut Vec<Run>,
+    senders: &mut VecDeque<Run>,
     code: &Code,
     number: u32,
 ) -> Result<(), Memory>
@@ -82,7 +83,7 @@ fn open_site(
 fn open_each(
     alloc: Global,
     parts: &mut Parts,
-    senders: &mut Vec<Run>,
+    senders: &mut VecDeque<Run>,
     code: &Code,
 ) -> Result<(), Memory>
     requires program { IsOfProgram code.now }
@@ -105,7 +106,7 @@ fn open_all(
     alloc: Global,
     version: u32,
     code: &Code,
-    senders: &mut Vec<Run>,
+    senders: &mut VecDeque<Run>,
 ) -> Result<Parts, Memory>
     requires program { (p : ProgramTerms) × IsProgram p × IsCodeOf p code.now
         × (version ≡ p.version) }
@@ -122,7 +123,7 @@ fn open_all(
         sites: Vec::new(alloc),
         tree,
         trace: Vec::new(alloc),
-        flights: Vec::new(alloc),
+        flights: VecDeque::new(alloc),
         under_way: 0,
     };
     match open_each(alloc, &mut parts, senders, code) {
@@ -151,7 +152,7 @@ impl Net {
     {
         let _tops = &program.tops;
         let _known = &code.tops;
-        let mut senders = Vec::new(alloc);
+        let mut senders = VecDeque::new(alloc);
         let parts = open_all(alloc, program.version, code, &mut senders)?;
         match code.copy(alloc) {
             Ok(code) => Ok(Net {

@@ -14,6 +14,7 @@ use crate::parts::Parts;
 use crate::senders::{Run, add_run};
 use chem_model::Memory;
 use std::alloc::Global;
+use std::collections::VecDeque;
 
 // A packet is brought to its site: its message is put there, or it goes behind those under way. The
 // answer is how many go on. Where there is no memory, nothing changes.
@@ -42,7 +43,7 @@ fn receive_text(alloc: Global, parts: &mut Parts, site: u32, bytes: &[u8]) -> Re
 fn receive_noted(
     alloc: Global,
     parts: &mut Parts,
-    senders: &mut Vec<Run>,
+    senders: &mut VecDeque<Run>,
     site: u32,
     bytes: &[u8],
 ) -> Result<(), Memory>

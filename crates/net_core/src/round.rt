@@ -7,10 +7,11 @@ ghost use Rattle.net_core.specs.Working.{HasWorked};
 use crate::net::Net;
 use crate::parts::Parts;
 use crate::senders::Run;
-use crate::slots::{join_all, lend, slots_of, take_all_back};
+use crate::slots::{lend, slots_of, take_all_back};
 use chem_model::{Items, Journal, Memory};
 use env_store::Code;
 use std::alloc::Global;
+use std::collections::VecDeque;
 use std::mem;
 use std::thread::Threads;
 
@@ -20,7 +21,7 @@ fn round_of<R: Threads + Sync>(
     rt: &R,
     alloc: Global,
     parts: &mut Parts,
-    senders: &mut Vec<Run>,
+    senders: &mut VecDeque<Run>,
     code: &Code,
     workers: u32,
     quota: u32,
@@ -32,8 +33,8 @@ fn round_of<R: Threads + Sync>(
         HasRound code.now quota parts.old parts.new journal) }
     ensures sent { OnOk result (HasSent code.now quota parts.old parts.new senders.new.items) }
 {
-    let flights = mem::replace(&mut parts.flights, Vec::new(alloc));
-    let mail = join_all(alloc, flights)?;
+    let flights = mem::replace(&mut parts.flights, VecDeque::new(alloc));
+    let mail = flights.into_vec();
     let sites = mem::replace(&mut parts.sites, Vec::new(alloc));
     let mut slots = slots_of(alloc, sites)?;
     lend(

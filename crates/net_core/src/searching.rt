@@ -145,7 +145,7 @@ fn least_at(site: &Site, tree: &LocTree, version: u32) -> Option<Request>
     None
 }
 
-pub(crate) fn comes_before(one: AtomId, other: AtomId) -> bool
+fn comes_before(one: AtomId, other: AtomId) -> bool
     ensures { result ≡ precedes one other }
 {
     one.site < other.site || one.site == other.site && one.k < other.k

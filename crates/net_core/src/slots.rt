@@ -1,7 +1,6 @@
 // Sites that are lent to workers, and taken back.
 ghost use Rattle.std.specs.Prelude.{◌≡◌, ◌+◌, ◌<◌, ◌≤◌, ◌^◌, ◌∷◌, [], ◌++◌};
 ghost use Rattle.std.specs.Prelude.{All, map, length, IfOk, OnOk};
-ghost use Rattle.net_core.specs.Parts.{joined};
 ghost use Rattle.net_core.specs.inside.Slots.{CanWork, IsServed, Pairwise, slot_of};
 ghost use Rattle.net_core.specs.inside.Slots.{IsTaken, AreBack, froms_of};
 ghost use Rattle.net_core.specs.inside.Runs.{spread};
@@ -11,11 +10,12 @@ use crate::parts::Parts;
 use crate::pieces::add_piece;
 use crate::senders::{Run, push_run};
 use crate::turn::{Made, Work, take_turn};
-use chem_model::{Items, Journal, Memory};
+use chem_model::{Journal, Memory};
 use env_store::Code;
 use loc_tree::LocTree;
 use site_solution::Site;
 use std::alloc::Global;
+use std::collections::VecDeque;
 use std::thread;
 use std::thread::Threads;
 use wire_packet::{Flight, Flights};
@@ -80,16 +80,16 @@ pub(crate) fn lend<R: Threads + Sync>(
 }
 
 // Packets go behind those that are under way.
-fn send(flights: &mut Vec<Flights>, under_way: &mut u32, more: Flights) -> Result<(), Memory>
-    ensures flights { OnOk result (joined flights.new.items
-        ≡ joined flights.old.items ++ more) }
+fn send(flights: &mut VecDeque<Flight>, under_way: &mut u32, more: Flights) -> Result<(), Memory>
+    ensures flights { OnOk result (flights.new.items ≡ flights.old.items ++ more) }
     ensures count { OnOk result (under_way.new ≡ under_way.old + length more) }
     ensures few { under_way.new < 2 ^ 32 }
 {
-    if more.len() > (u32::MAX - *under_way) as usize {
+    let count = more.len();
+    if count > (u32::MAX - *under_way) as usize {
         return Err(Memory);
     }
-    flights.reserve(1)?;
+    flights.reserve(count)?;
     add_flights(flights, under_way, more);
     Ok(())
 }
@@ -126,7 +126,7 @@ fn take_back(parts: &mut Parts, journal: &mut Journal, slot: Slot) -> Result<(),
 // Takes a site back, and notes that it sent what its turn leaves.
 fn take_noted(
     parts: &mut Parts,
-    senders: &mut Vec<Run>,
+    senders: &mut VecDeque<Run>,
     journal: &mut Journal,
     slot: Slot,
 ) -> Result<(), Memory>
@@ -143,7 +143,7 @@ fn take_noted(
 // Takes all sites back, in order.
 pub(crate) fn take_all_back(
     parts: &mut Parts,
-    senders: &mut Vec<Run>,
+    senders: &mut VecDeque<Run>,
     journal: &mut Journal,
     slots: Vec<Slot>,
 ) -> Result<(), Memory>
@@ -155,15 +155,4 @@ pub(crate) fn take_all_back(
         take_noted(parts, senders, journal, slot)?;
     }
     Ok(())
-}
-
-// The members of all pieces, in one.
-pub(crate) fn join_all(alloc: Global, pieces: Vec<Flights>) -> Result<Flights, Memory>
-    ensures { IfOk result (λ all. all ≡ joined pieces.items) }
-{
-    let mut all = Items::new(alloc);
-    for mut piece in pieces {
-        all.append(&mut piece)?;
-    }
-    Ok(all)
 }

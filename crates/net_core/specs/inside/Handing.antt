@@ -1,6 +1,7 @@
 -- Room for what an event hands out.
 use Rattle.std.specs.Prelude.{◌≡◌, ℕ, ◌+◌, ◌<◌, ◌≤◌, ◌^◌, ◌++◌, length}
 use Rattle.std.specs.Prelude.{vec_len, vec_capacity}
+use Rattle.std.specs.VecDeque.{deque_len, deque_capacity}
 use Rattle.loc_tree.specs.Tree.{Tree, bare}
 use Rattle.net_laws.specs.Net.{with_births}
 use Rattle.site_solution.specs.declared.effects.Effects.{Effects}
@@ -16,11 +17,11 @@ pub record AreAsBefore (old new : Parts) : Type 0 where
   pub flights : new.flights.items ≡ old.flights.items
   pub under_way : new.under_way ≡ old.under_way
 
--- there is room for so many births, for a piece of observables, and for one of so many packets
+-- there is room for so many births, for a piece of observables, and for so many packets
 pub record HaveRoom (p : Parts) (births sends : ℕ) : Type 0 where
   pub spare : births ≤ p.tree.spare
   pub trace : vec_len p.trace < vec_capacity p.trace
-  pub flights : vec_len p.flights < vec_capacity p.flights
+  pub flights : deque_len p.flights + sends ≤ deque_capacity p.flights
   pub numbers : p.under_way + sends < 2 ^ 32
 
 -- the births are at the site with this number, in a tree that got room for them, and the
@@ -32,6 +33,6 @@ pub record HandsOut (n : ℕ) (e : Effects) (old new : Parts) : Type 0 where
   pub sites : new.sites.items ≡ old.sites.items
   pub tree : new.tree ≡ with_births roomy n e.births
   pub trace : joined new.trace.items ≡ joined old.trace.items ++ e.outs
-  pub flights : joined new.flights.items ≡ joined old.flights.items ++ e.sends
+  pub flights : new.flights.items ≡ old.flights.items ++ e.sends
   pub count : new.under_way ≡ old.under_way + length e.sends
   pub few : new.under_way < 2 ^ 32

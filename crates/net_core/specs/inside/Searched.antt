@@ -1,5 +1,5 @@
 -- What a search through the parts of a network finds.
-use Rattle.std.specs.Prelude.{◌≡◌, ℕ, suc, ◌<◌, List, [], ◌∷◌, Bool, true, false, Option, Some}
+use Rattle.std.specs.Prelude.{◌≡◌, ℕ, ◌<◌, List, Bool, true, false, Option, Some}
 use Rattle.std.specs.Prelude.{None, cond, slice_get, is_some}
 use Rattle.chem_model.specs.declared.event.AtomId.{AtomId}
 use Rattle.wire_packet.specs.GroupFacts.{RequestParts}
@@ -49,11 +49,6 @@ choice_for q = choice_by q.ask q.id
 pub record IsMeetable (version : ℕ) (t : Tree) (s : Site) (q : RequestParts) : Type 0 where
   pub here : request_with q.id s.requests ≡ Some q
   pub met : meets version t (choice_for q) s ≡ true
-
--- how many of the first requests have an id that precedes this one
-abbrev pub place_for : AtomId → List RequestParts → ℕ
-place_for a [] = 0
-place_for a (q ∷ qs) = cond (precedes q.id a) (suc (place_for a qs)) 0
 
 -- the one with the least id
 pub record IsLeastAt (version : ℕ) (t : Tree) (s : Site) (q : RequestParts) : Type 0 where

@@ -97,7 +97,7 @@ pub record IsTaken (w : Work) (old : Parts) (before : List Event) (new : Parts)
   pub sites : new.sites.items ≡ old.sites.items
   pub tree : new.tree ≡ old.tree
   pub trace : joined new.trace.items ≡ joined old.trace.items ++ w.made.outs
-  pub flights : joined new.flights.items ≡ joined old.flights.items ++ (w.on ++ w.made.sends)
+  pub flights : new.flights.items ≡ old.flights.items ++ (w.on ++ w.made.sends)
   pub count : new.under_way ≡ old.under_way + length (w.on ++ w.made.sends)
   pub few : old.under_way < 2 ^ 32 → new.under_way < 2 ^ 32
   pub events : after ≡ before ++ w.made.events
@@ -110,7 +110,7 @@ pub record AreBack (slots : List Slot) (old : Parts) (before : List Event) (new 
   pub sites : new.sites.items ≡ old.sites.items ++ sites_of slots
   pub tree : new.tree ≡ old.tree
   pub trace : joined new.trace.items ≡ joined old.trace.items ++ outs_of slots
-  pub flights : joined new.flights.items ≡ joined old.flights.items ++ flights_of slots
+  pub flights : new.flights.items ≡ old.flights.items ++ flights_of slots
   pub count : new.under_way ≡ old.under_way + length (flights_of slots)
   pub few : old.under_way < 2 ^ 32 → new.under_way < 2 ^ 32
   pub events : after ≡ before ++ events_of slots

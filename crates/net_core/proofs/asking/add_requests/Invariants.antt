@@ -1,12 +1,6 @@
-use Rattle.std.proofs.Common.{◌≡◌, ◌≤◌, drop, length}
-use Rattle.net_core.specs.Asking.{in_order}
+use Rattle.std.proofs.Common.{◌≡◌, ◌++◌, drop}
 use Rattle.net_core.proofs.asking.add_requests.Given as goal
 
-abbrev pub invariant-loop-left : goal.invariant-loop-left
-invariant-loop-left l = record {
-  within : l.left ≤ length l.site.requests;
-  is : l.requests.items ≡ in_order (drop l.left l.site.requests) l.initial.requests.items;
-}
-
-abbrev pub decreases-loop-left : goal.decreases-loop-left
-decreases-loop-left l = l.left
+abbrev pub invariant-loop-place : goal.invariant-loop-place
+invariant-loop-place l = l.requests.items ++ drop l.place l.site.requests
+    ≡ l.initial.requests.items ++ l.site.requests

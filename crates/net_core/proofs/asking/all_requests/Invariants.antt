@@ -1,12 +1,7 @@
-use Rattle.std.proofs.Common.{◌≡◌, ◌≤◌, drop, length}
-use Rattle.net_core.specs.Asking.{requests_of}
+use Rattle.std.proofs.Common.{◌≡◌, ◌++◌, drop}
+use Rattle.net_core.proofs.Requests.{listed}
 use Rattle.net_core.proofs.asking.all_requests.Given as goal
 
-abbrev pub invariant-loop-left : goal.invariant-loop-left
-invariant-loop-left l = record {
-  within : l.left ≤ length l.sites;
-  is : l.requests.items ≡ requests_of (drop l.left l.sites);
-}
-
-abbrev pub decreases-loop-left : goal.decreases-loop-left
-decreases-loop-left l = l.left
+abbrev pub invariant-loop-site : goal.invariant-loop-site
+invariant-loop-site l =
+    l.requests.items ++ listed (drop l.site-index l.sites) ≡ listed l.sites

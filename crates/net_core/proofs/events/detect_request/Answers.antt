@@ -36,8 +36,8 @@ detect_at-requires-clause-fit c =
           (fit_full code mid.tree mid.sites.items whole.running.fit),
     )
 
-pub add_flights-requires-clause-few : goal.add_flights-requires-clause-few
-add_flights-requires-clause-few c =
+pub add_flights-requires : goal.add_flights-requires
+add_flights-requires c =
     let mid = c.make_room.new.parts in
     let same = c.in_ok-make_room.ensures.same in
     let s = c.requires.may.site in
@@ -55,8 +55,8 @@ add_flights-requires-clause-few c =
     let few : length o.sends ≤ 1 =
     continuation_few mid.tree c.args.counts.now s.number d.asked.loc s.made d.cont
     (drop_request c.args.atom.now s) in
-    let room : mid.under_way + 1 < 2 ^ 32 = c.in_ok-make_room.ensures.room.numbers in
-    omega (arith, long, few, room)
+    let room = c.in_ok-make_room.ensures.room in
+    (omega (arith, long, few, room.flights), omega (arith, long, few, room.numbers))
 
 pub returns-clause-detects : goal.returns-clause-detects
 returns-clause-detects c =

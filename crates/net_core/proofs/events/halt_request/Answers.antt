@@ -9,7 +9,7 @@ use Rattle.net_laws.specs.Site.{Site}
 use Rattle.net_core.specs.declared.parts.Parts.{Parts}
 use Rattle.net_core.specs.Acting.{Halts}
 use Rattle.net_core.specs.inside.AtSites.{HaltsAt}
-use Rattle.net_core.specs.Parts.{joined, net_of}
+use Rattle.net_core.specs.Parts.{net_of}
 use Rattle.net_core.specs.Playing.{halt}
 use Rattle.net_core.specs.Whole.{AllFit}
 use Rattle.net_core.proofs.Deliveries.{set_length}
@@ -81,5 +81,5 @@ returns-clause-whole c = λ code events few whole.
     (halt c.args.atom.now _ made)
     (fit_stays code (bare new.tree) new.sites.items (fit_bare code new.tree new.sites.items after))
     (ap length halts.sites ∙ set_length old.sites.items c.args.number halts.after)
-    [] tt (sym (append_nil (joined old.flights.items))) (omega arith)
+    [] tt (sym (append_nil old.flights.items)) (omega arith)
     (omega (arith, whole.flying.few))

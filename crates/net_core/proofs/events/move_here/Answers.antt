@@ -56,8 +56,8 @@ move_at-requires-clause-fit c =
           (fit_full code mid.tree mid.sites.items before.running.fit),
     )
 
-pub add_flights-requires-clause-few : goal.add_flights-requires-clause-few
-add_flights-requires-clause-few c =
+pub add_flights-requires : goal.add_flights-requires
+add_flights-requires c =
     let old = c.args.parts.now in
     let mid = c.make_room.new.parts in
     let same = c.in_ok-make_room.ensures.same in
@@ -97,8 +97,8 @@ add_flights-requires-clause-few c =
     let one : length o.sends ≤ 1 =
     continuation_few mid.tree c.args.counts.now s.number d.asked.loc s.made d.cont
     (drop_request a s) in
-    let room : mid.under_way + 1 < 2 ^ 32 = c.in_ok-make_room.ensures.room.numbers in
-    omega (arith, long, one, room)
+    let room = c.in_ok-make_room.ensures.room in
+    (omega (arith, long, one, room.flights), omega (arith, long, one, room.numbers))
 
 pub returns-clause-moves : goal.returns-clause-moves
 returns-clause-moves c =

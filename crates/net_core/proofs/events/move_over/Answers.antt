@@ -78,8 +78,8 @@ cross-requires-clause-numbered c =
     λ j s at. are_numbered code (net_of code.seen mid) before.running.some j s
     (ap (λ (us : List Site). slice_get us j) (sym c.deref_mut.ensures.value) ∙ at)
 
-pub add_flights-requires-clause-few : goal.add_flights-requires-clause-few
-add_flights-requires-clause-few c =
+pub add_flights-requires : goal.add_flights-requires
+add_flights-requires c =
     let code = c.args.code.now in
     let old = c.args.parts.now in
     let mid = c.make_room.new.parts in
@@ -128,8 +128,8 @@ add_flights-requires-clause-few c =
     let one : length o.sends ≤ 1 =
     moved_few c.cross.new.tree (is_alive mid.tree d.target)
     code.seen u.number d.asked.loc u.made d.cont load in
-    let room : mid.under_way + 1 < 2 ^ 32 = c.in_ok-make_room.ensures.room.numbers in
-    omega (arith, long, one, room)
+    let room = c.in_ok-make_room.ensures.room in
+    (omega (arith, long, one, room.flights), omega (arith, long, one, room.numbers))
 
 pub returns-clause-moves : goal.returns-clause-moves
 returns-clause-moves c =

@@ -149,8 +149,8 @@ add_births-requires-clause-site c =
     c.deref_mut.ensures.value (c.in_ok-event.ensures.ok s x there picks) in
     root_below code (net_of code.seen mid) i s before.running.some here
 
-pub add_flights-requires-clause-few : goal.add_flights-requires-clause-few
-add_flights-requires-clause-few c =
+pub add_flights-requires : goal.add_flights-requires
+add_flights-requires c =
     let code = c.args.code.now in
     let old = c.args.parts.now in
     let mid = c.make_room.new.parts in
@@ -187,7 +187,10 @@ add_flights-requires-clause-few c =
     sends_counted code before.running.code (net_of code.seen mid) before.running.some i s p x here
     full coded mid.tree in
     let long : length e.sends ≡ length o.sends = flights_long o.sends e.sends does.reacts.sends in
-    omega (arith, few, long, weights.1, c.in_ok-make_room.ensures.room.numbers)
+    let room = c.in_ok-make_room.ensures.room in (
+      omega (arith, few, long, weights.1, room.flights),
+      omega (arith, few, long, weights.1, room.numbers),
+    )
 
 pub returns-clause-reacts : goal.returns-clause-reacts
 returns-clause-reacts c =

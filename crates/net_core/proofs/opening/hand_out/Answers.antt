@@ -17,6 +17,12 @@ add_births-requires-clause-new c =
     (new_full t n c.args.effects.births (subst (λ (u : Tree). AreNew u n c.args.effects.births)
     (sym c.make_room.ensures.same.tree) c.requires.new))
 
+pub add_flights-requires : goal.add_flights-requires
+add_flights-requires c =
+    let room = c.in-Ok.ensures.room in
+    let many = c.len-sends.ensures.count in
+    (omega (arith, many, room.flights), omega (arith, many, room.numbers))
+
 pub returns-in-Ok : goal.returns-in-Ok
 returns-in-Ok c =
     let e = c.args.effects in
@@ -33,7 +39,7 @@ returns-in-Ok c =
           ∙ ap (λ (ls : List Loc). with_births t c.args.number ls) c.as_slice.ensures.members;
       trace = c.add_piece.ensures ∙ ap (λ (os : List (List Out)). joined os ++ e.outs) same.trace;
       flights = c.add_flights.ensures.flights
-          ∙ ap (λ (fs : List (List Flight)). joined fs ++ e.sends) same.flights;
+          ∙ ap (λ (fs : List Flight). fs ++ e.sends) same.flights;
       count = c.add_flights.ensures.count ∙ ap (λ k. k + length e.sends) same.under_way;
       few = omega (arith, c.add_flights.ensures.count, c.len-sends.ensures.count);
     }

@@ -24,7 +24,7 @@ open_each-requires-clause-none c = (
         under_way = 0;
       })
       c.requires.program.3 c.in_ok-tree.ensures c.new.ensures.items
-      (ap joined c.new-2.ensures.items) (ap joined c.new-3.ensures.items) refl,
+      (ap joined c.new-2.ensures.items) c.new-3.ensures.items refl,
 )
 
 pub returns-in-Ok-clause-opened : goal.returns-in-Ok-clause-opened
@@ -41,7 +41,7 @@ returns-in-Ok-clause-opened c =
       under_way = 0;
     })
     c.requires.program.3 c.in_ok-tree.ensures c.new.ensures.items (ap joined c.new-2.ensures.items)
-    (ap joined c.new-3.ensures.items) refl)
+    c.new-3.ensures.items refl)
 
 pub returns-in-Ok-clause-sent : goal.returns-in-Ok-clause-sent
 returns-in-Ok-clause-sent c =
@@ -57,7 +57,7 @@ returns-in-Ok-clause-sent c =
     (none_opened c.requires.program.0 c.args.code.now c.requires.program.1
     (subst IsCode c.code.view_is c.code.invariant) c.requires.program.2 start
     c.requires.program.3 c.in_ok-tree.ensures c.new.ensures.items (ap joined c.new-2.ensures.items)
-    (ap joined c.new-3.ensures.items) refl)
+    c.new-3.ensures.items refl)
     (none_sent c.args.code.now start
     c.in_ok-tree.ensures c.new.ensures.items (ap joined c.new-2.ensures.items)
-    (ap joined c.new-3.ensures.items) refl c.args.senders.now.items c.requires.none)
+    c.new-3.ensures.items refl c.args.senders.now.items c.requires.none)

@@ -3,7 +3,7 @@ use Rattle.std.specs.Vec.{with_items}
 use Rattle.std.proofs.lemmas.List.{with_items_is}
 use Rattle.net_laws.specs.Site.{Site}
 use Rattle.net_core.specs.declared.parts.Parts.{Parts}
-use Rattle.net_core.specs.Parts.{joined, message_in}
+use Rattle.net_core.specs.Parts.{message_in}
 use Rattle.net_core.specs.Whole.{AllFit}
 use Rattle.net_core.specs.inside.Delivering.{IsBrought}
 use Rattle.net_core.specs.inside.Handing.{AreAsBefore}
@@ -43,15 +43,15 @@ returns-in_err-more-clause-err c =
     } in
     on_err (AreAsBefore c.args.parts.now new) c.from_residual-in_err-more.result same
 
-pub add_flights-requires-clause-few : goal.add_flights-requires-clause-few
-add_flights-requires-clause-few c =
+pub add_flights-requires : goal.add_flights-requires
+add_flights-requires c =
     let here = get_some c.args.parts.now.sites.items c.args.site c.requires.site in
     let b = brought_in c.args.parts.now.tree c.args.site c.args.bytes.now c.args.bytes.now here.0
     c.in_ok-more.more c.deref_mut.result.now c.args.parts.now.sites.items
     c.bring_to_target.new.sites refl c.deref_mut.ensures.value c.in_ok-more.ensures.ok here.1 in
     let few = goes_few c.args.bytes.now c.in_ok-more.more b.on b.goes in
     let low = c.if-parts.false in
-    omega arith
+    (omega (arith, few, c.in_ok-reserve.ensures.ok), omega (arith, few, low))
 
 pub returns-clause-ok : goal.returns-clause-ok
 returns-clause-ok c = λ code events whole some.
@@ -72,9 +72,9 @@ returns-clause-ok c = λ code events whole some.
       flights = c.add_flights.new.flights;
       under_way = c.add_flights.new.under_way;
     } in
-    let left : joined new.flights.items
-    ≡ joined c.args.parts.now.flights.items ++ c.in_ok-more.more = c.add_flights.ensures.flights
-    ∙ ap (λ fs. joined fs ++ c.in_ok-more.more) c.in_ok-reserve.ensures.items in
+    let left : new.flights.items
+    ≡ c.args.parts.now.flights.items ++ c.in_ok-more.more = c.add_flights.ensures.flights
+    ∙ ap (λ fs. fs ++ c.in_ok-more.more) c.in_ok-reserve.ensures.items in
     let fit : AllFit code c.args.parts.now.tree c.deref_mut.result.now =
     subst (λ (us : List Site). AllFit code c.args.parts.now.tree us) (sym c.deref_mut.ensures.value)
     (fit_full code c.args.parts.now.tree c.args.parts.now.sites.items whole.running.fit) in

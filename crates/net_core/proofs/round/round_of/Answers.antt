@@ -6,7 +6,6 @@ use Rattle.loc_tree.specs.Tree.{bare}
 use Rattle.net_core.specs.declared.parts.Parts.{Parts}
 use Rattle.net_core.specs.declared.senders.Run.{Run}
 use Rattle.net_core.specs.declared.slots.Slot.{Slot}
-use Rattle.net_core.specs.Parts.{joined}
 use Rattle.net_core.specs.inside.Slots.{CanWork, IsServed, Pairwise, slot_of, sites_of, events_of}
 use Rattle.net_core.specs.inside.Slots.{flights_of, froms_of, AreBack}
 use Rattle.net_core.specs.inside.Runs.{spread}
@@ -18,16 +17,16 @@ lend-requires-clause-each g c κs within =
     let code = c.args.code.now in
     let old = c.args.parts.now in
     let quota = c.args.quota in
-    let mail : c.as_slice.result.now ≡ joined old.flights.items =
-    c.as_slice.ensures.members ∙ c.in_ok-mail.ensures
-    ∙ ap (λ fs. joined fs.items) c.replace-flights.ensures.value in
+    let mail : c.as_slice.result.now ≡ old.flights.items =
+    c.as_slice.ensures.value ∙ c.into_vec-mail.ensures.items
+    ∙ ap (λ fs. fs.items) c.replace-flights.ensures.value in
     let slots : c.as_mut_slice.result.now ≡ map slot_of old.sites.items =
     c.as_mut_slice.ensures.value ∙ c.in_ok-slots.ensures
     ∙ ap (λ ss. map slot_of ss.items) c.replace-sites.ensures.value in
     let all = can_all code old quota c.requires.few.0 c.requires.few.1 c.requires.few.2 in
     subst (λ (fs : List Flight). All (CanWork code old.tree fs quota) c.as_mut_slice.result.now)
     (sym mail)
-    (subst (λ (ss : List Slot). All (CanWork code old.tree (joined old.flights.items) quota) ss)
+    (subst (λ (ss : List Slot). All (CanWork code old.tree old.flights.items quota) ss)
     (sym slots) all)
 
 pub returns-in-Ok-clause-round : goal.returns-in-Ok-clause-round
@@ -38,16 +37,16 @@ returns-in-Ok-clause-round g c =
     let new = c.take_all_back.new.parts in
     let es = c.take_all_back.new.journal in
     let done = c.lend.new.slots in
-    let mail : c.as_slice.result.now ≡ joined old.flights.items =
-    c.as_slice.ensures.members ∙ c.in_ok-mail.ensures
-    ∙ ap (λ fs. joined fs.items) c.replace-flights.ensures.value in
+    let mail : c.as_slice.result.now ≡ old.flights.items =
+    c.as_slice.ensures.value ∙ c.into_vec-mail.ensures.items
+    ∙ ap (λ fs. fs.items) c.replace-flights.ensures.value in
     let slots : c.as_mut_slice.result.now ≡ map slot_of old.sites.items =
     c.as_mut_slice.ensures.value ∙ c.in_ok-slots.ensures
     ∙ ap (λ ss. map slot_of ss.items) c.replace-sites.ensures.value in
-    let served : Pairwise (IsServed code old.tree (joined old.flights.items) quota)
+    let served : Pairwise (IsServed code old.tree old.flights.items quota)
     (map slot_of old.sites.items) done =
     subst
-    (λ (ss : List Slot). Pairwise (IsServed code old.tree (joined old.flights.items) quota) ss done)
+    (λ (ss : List Slot). Pairwise (IsServed code old.tree old.flights.items quota) ss done)
     slots
     (subst (λ (fs : List Flight).
     Pairwise (IsServed code old.tree fs quota) c.as_mut_slice.result.now done) mail
@@ -68,8 +67,8 @@ returns-in-Ok-clause-round g c =
     has_round code old new quota es done served back.worked back.version
     (back.sites ∙ ap (λ ss. ss.items ++ sites_of done) c.replace-sites.ensures.after
     ∙ ap (λ xs. xs ++ sites_of done) c.new-2.ensures.items) (ap bare back.tree) back.trace
-    (back.flights ∙ ap (λ fs. joined fs.items ++ flights_of done) c.replace-flights.ensures.after
-    ∙ ap (λ xs. joined xs ++ flights_of done) c.new.ensures.items)
+    (back.flights ∙ ap (λ fs. fs.items ++ flights_of done) c.replace-flights.ensures.after
+    ∙ ap (λ xs. xs ++ flights_of done) c.new.ensures.items)
     (let count = back.count in omega arith) (back.few (omega arith))
     (back.events ∙ ap (λ xs. xs ++ events_of done) c.new-journal.ensures)
     c.requires.few.0 c.requires.few.2
@@ -82,16 +81,16 @@ returns-in-Ok-clause-sent g c =
     let new = c.take_all_back.new.parts in
     let es = c.take_all_back.new.journal in
     let done = c.lend.new.slots in
-    let mail : c.as_slice.result.now ≡ joined old.flights.items =
-    c.as_slice.ensures.members ∙ c.in_ok-mail.ensures
-    ∙ ap (λ fs. joined fs.items) c.replace-flights.ensures.value in
+    let mail : c.as_slice.result.now ≡ old.flights.items =
+    c.as_slice.ensures.value ∙ c.into_vec-mail.ensures.items
+    ∙ ap (λ fs. fs.items) c.replace-flights.ensures.value in
     let slots : c.as_mut_slice.result.now ≡ map slot_of old.sites.items =
     c.as_mut_slice.ensures.value ∙ c.in_ok-slots.ensures
     ∙ ap (λ ss. map slot_of ss.items) c.replace-sites.ensures.value in
-    let served : Pairwise (IsServed code old.tree (joined old.flights.items) quota)
+    let served : Pairwise (IsServed code old.tree old.flights.items quota)
     (map slot_of old.sites.items) done =
     subst
-    (λ (ss : List Slot). Pairwise (IsServed code old.tree (joined old.flights.items) quota) ss done)
+    (λ (ss : List Slot). Pairwise (IsServed code old.tree old.flights.items quota) ss done)
     slots
     (subst (λ (fs : List Flight).
     Pairwise (IsServed code old.tree fs quota) c.as_mut_slice.result.now done) mail
@@ -116,8 +115,8 @@ returns-in-Ok-clause-sent g c =
     has_sent code old new quota es done served back.worked back.version
     (back.sites ∙ ap (λ ss. ss.items ++ sites_of done) c.replace-sites.ensures.after
     ∙ ap (λ xs. xs ++ sites_of done) c.new-2.ensures.items) (ap bare back.tree) back.trace
-    (back.flights ∙ ap (λ fs. joined fs.items ++ flights_of done) c.replace-flights.ensures.after
-    ∙ ap (λ xs. joined xs ++ flights_of done) c.new.ensures.items)
+    (back.flights ∙ ap (λ fs. fs.items ++ flights_of done) c.replace-flights.ensures.after
+    ∙ ap (λ xs. xs ++ flights_of done) c.new.ensures.items)
     (let count = back.count in omega arith) (back.few (omega arith))
     (back.events ∙ ap (λ xs. xs ++ events_of done) c.new-journal.ensures)
     c.requires.few.0 c.requires.few.1 c.requires.few.2 c.take_all_back.new.senders.items senders

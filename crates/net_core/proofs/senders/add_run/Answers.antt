@@ -7,4 +7,4 @@ use Rattle.net_core.proofs.senders.add_run.Goals as goal
 pub returns-then-count-gt0 : goal.returns-then-count-gt0
 returns-then-count-gt0 c =
     let r : Run = record { from = c.args.from; count = c.args.count } in
-    ap spread c.push_reserved.ensures.items ∙ spread_more c.args.runs.now.items r
+    ap spread c.push_back_reserved.ensures.items ∙ spread_more c.args.runs.now.items r

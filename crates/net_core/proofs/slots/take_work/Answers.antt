@@ -1,5 +1,4 @@
 use Rattle.std.proofs.Common.{◌≡◌, ◌+◌, ◌++◌, length, rules}
-use Rattle.net_core.specs.Parts.{joined}
 use Rattle.net_core.specs.inside.Slots.{IsTaken}
 use Rattle.net_core.specs.declared.parts.Parts.{Parts}
 use Rattle.net_core.proofs.Fitting.{on_ok_both}
@@ -20,7 +19,7 @@ returns c =
       flights = last.flights;
       under_way = last.under_way;
     } in
-    on_ok_both (joined last.flights.items ≡ joined mid.flights.items ++ w.made.sends)
+    on_ok_both (last.flights.items ≡ mid.flights.items ++ w.made.sends)
     (last.under_way ≡ mid.under_way + length w.made.sends)
     (IsTaken w old c.args.journal.now new c.append.new.self)
     c.send-2.result
@@ -29,8 +28,8 @@ returns c =
       sites = search rules;
       tree = search rules;
       trace = search rules;
-      flights = both_sent w.on w.made.sends (joined old.flights.items) (joined mid.flights.items)
-          (joined last.flights.items) c.in_ok-send.ensures.flights flights;
+      flights = both_sent w.on w.made.sends old.flights.items mid.flights.items
+          last.flights.items c.in_ok-send.ensures.flights flights;
       count = both_counted w.on w.made.sends old.under_way mid.under_way last.under_way
           c.in_ok-send.ensures.count count;
       few = λ low. c.send-2.ensures.few;

@@ -1,5 +1,4 @@
 use Rattle.std.proofs.Common.{◌∙◌, sym, ap, length}
-use Rattle.net_core.specs.Parts.{joined}
 use Rattle.net_core.specs.Whole.{NetParts}
 use Rattle.net_core.proofs.Carrying.{carried_length}
 use Rattle.net_core.proofs.net.Net.flights.Goals as goal
@@ -7,5 +6,5 @@ use Rattle.net_core.proofs.net.Net.flights.Goals as goal
 pub returns : goal.returns
 returns c =
     c.self.invariant.whole.flying.counted
-    ∙ sym (carried_length (joined c.self.inside.parts.flights.items))
+    ∙ sym (carried_length c.self.inside.parts.flights.items)
     ∙ ap (λ (v : NetParts). length v.net.packets) c.self.view_is

@@ -2,7 +2,7 @@ use Rattle.std.proofs.Common.{sym, refl, ◌∙◌, subst}
 use Rattle.std.specs.Prelude.{IfNone, IfSome}
 use Rattle.net_core.specs.declared.choice.Choice.{Choice}
 use Rattle.net_core.specs.Choosing.{Allows, IsNext}
-use Rattle.net_core.specs.Parts.{joined, net_of}
+use Rattle.net_core.specs.Parts.{net_of}
 use Rattle.net_core.specs.Resting.{IsNoneWhereQuiet}
 use Rattle.net_core.specs.inside.Searched.{HasSites}
 use Rattle.net_core.specs.Whole.{NetParts}
@@ -16,7 +16,7 @@ returns c =
     let code = c.self.inside.code in
     let net = net_of code.seen p in
     let count =
-    carried_length (joined p.flights.items) ∙ sym c.self.invariant.whole.flying.counted in
+    carried_length p.flights.items ∙ sym c.self.invariant.whole.flying.counted in
     let parts : HasSites c.as_slice.result.now p.tree net =
     record { sites_are = sym c.as_slice.ensures.value; tree_is = refl } in
     let none = none_of p.version c.as_slice.result.now p.tree code p.under_way net parts refl count

@@ -1,5 +1,5 @@
 use Rattle.std.proofs.Common.{◌≡◌, length, subst, arith}
-use Rattle.net_core.specs.Parts.{joined, net_of}
+use Rattle.net_core.specs.Parts.{net_of}
 use Rattle.net_core.specs.Whole.{NetParts, RunsSome}
 use Rattle.net_core.specs.inside.Runs.{spread}
 use Rattle.net_core.proofs.Carrying.{carried_length}
@@ -17,6 +17,6 @@ returns-clause-sent c =
       arith,
       c.self.invariant.sent,
       c.self.invariant.whole.flying.counted,
-      carried_length (joined parts.flights.items),
+      carried_length parts.flights.items,
     ) in
     subst (λ (v : NetParts). length v.froms ≡ length v.net.packets) c.self.view_is many
