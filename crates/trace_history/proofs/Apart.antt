@@ -1,8 +1,8 @@
 -- Messages that go from the newest to the older ones, and back: each number finds what it found, no
 -- number stands twice, and each older one has its key.
 use Rattle.std.proofs.Common.{◌≡◌, ℕ, zero, suc, ◌+◌, ◌<◌, List, [], ◌∷◌, ◌++◌, Option, Some, None}
-use Rattle.std.proofs.Common.{Bool, true, false, cond, refl, ap, sym, ◌∙◌, subst, arith, ◌⊎◌, inl}
-use Rattle.std.proofs.Common.{inr, length, take, drop, get_or}
+use Rattle.std.proofs.Common.{Bool, true, false, cond, refl, ap, sym, ◌∙◌, subst, arith, inl}
+use Rattle.std.proofs.Common.{inr, length, take, drop, get_or, ◌≤◌}
 use Rattle.chem_model.specs.declared.event.AtomId.{AtomId}
 use Rattle.chem_model.specs.declared.numbered.NumberedAtom.{NumberedAtom}
 use Rattle.chem_model.specs.Bag.{one, bag}
@@ -13,10 +13,10 @@ use Rattle.chem_model.specs.Apply.{same_atom, atom_at, without}
 use Rattle.chem_laws.proofs.Taking.{same_atom_is, same_atom_refl, atom_pair_found}
 use Rattle.trace_history.specs.inside.Table.{Adds}
 use Rattle.trace_history.specs.inside.Walk.{or_else}
-use Rattle.trace_history.specs.inside.Older.{Key, channel_of, IsQueued, AreQueued, KeepsKeys, Keeps}
+use Rattle.trace_history.specs.inside.Older.{Keeps}
 use Rattle.trace_history.proofs.Least.{AtomsDiffer, atom_has, member_found}
-use Rattle.trace_history.proofs.Filed.{at_in}
-use Rattle.trace_history.proofs.Queued.{atom_in}
+use Rattle.trace_history.proofs.LeftLaws.{found_in}
+use Rattle.trace_history.proofs.Members.{at_in}
 use Rattle.trace_history.proofs.AlikeLaws.{atom_at-append, atom_at-without, differ-without}
 
 -- ---- pairs
@@ -89,6 +89,12 @@ found_left (b ∷ xs) zero a i h e f = sym (ap (λ t. cond t (Some b) (atom_at x
 found_left (b ∷ xs) (suc j) a i h e f =
     ap (cond (same_atom b.id i) (Some b)) (found_left xs j a i (omega arith) e f)
 
+-- what a slice of the list gives is a member
+pub listed : (xs items : List NumberedAtom) (a : NumberedAtom) (j : ℕ) → items ≡ xs
+    → j < length items → a ≡ get_or items j a → IsIn a xs
+listed xs items a j same low at =
+    subst (λ (l : List NumberedAtom). IsIn a l) same (at_in items j a low at)
+
 module _ (old now xs items : List NumberedAtom) (a : NumberedAtom) (j : ℕ)
     (d : AtomsDiffer (old ++ xs)) (same : items ≡ xs) (low : j < length items)
     (at : a ≡ get_or items j a) where
@@ -101,7 +107,7 @@ module _ (old now xs items : List NumberedAtom) (a : NumberedAtom) (j : ℕ)
   found : atom_at xs a.id ≡ Some a
   found = member_found xs (differ_back old xs d) a (at_in xs j a low_in at_is)
 
-  pub new_there : atom_at old a.id ≡ None
+  new_there : atom_at old a.id ≡ None
   new_there = not_in_front old xs a.id a d found
 
   pub settled : Adds a old now → Keeps old xs now (take j xs ++ drop (j + 1) xs)
@@ -216,49 +222,51 @@ fewer i old d j e = atom_at-without i j old d ∙ go (same_atom i j)
     go true = refl
     go false = e
 
--- ---- keys
+-- ---- members of the one list and of the other
 
-pub queued_added : (old now : List NumberedAtom) (ks new : List Key) (a : NumberedAtom) (c : ℕ)
-    → AtomsDiffer now → Adds a old now → channel_of a.term ≡ Some c → KeepsKeys ks new
-    → IsIn (c, (a.id.site, a.id.k)) new → AreQueued old ks → AreQueued now new
-queued_added old now ks new a c d adds is kept there h b at =
+-- what holds of one that is added, and of all that stood there, holds of each that stands there now
+pub each_added : (P : NumberedAtom → Type 0) (old now : List NumberedAtom) (a : NumberedAtom)
+    → AtomsDiffer now → Adds a old now → P a → ((b : NumberedAtom) → IsIn b old → P b)
+    → (b : NumberedAtom) → IsIn b now → P b
+each_added P old now a d adds is h b at =
     go (same_atom a.id b.id) (sym (adds.finds b.id) ∙ member_found now d b at)
   where
-    go : (t : Bool) → cond t (Some a) (atom_at old b.id) ≡ Some b → IsQueued new b
-    go true e =
-        let same : a ≡ b = cc in
-        subst (λ (x : NumberedAtom). IsQueued new x) same (c, is, there)
-    go false e =
-        let q = h b (atom_in old b.id b e) in
-        (q.0, q.1, kept (q.0, (b.id.site, b.id.k)) q.2)
+    go : (t : Bool) → cond t (Some a) (atom_at old b.id) ≡ Some b → P b
+    go true e = let same : a ≡ b = cc in subst P same is
+    go false e = h b (found_in old b.id b e)
 
-pub queued_more : (old : List NumberedAtom) (ks new : List Key) → KeepsKeys ks new
-    → AreQueued old ks → AreQueued old new
-queued_more old ks new kept h b at =
-    let q = h b at in
-    (q.0, q.1, kept (q.0, (b.id.site, b.id.k)) q.2)
-
-pub queued_taken : (old : List NumberedAtom) (ks new : List Key) (i : AtomId) (c : ℕ)
-    → AtomsDiffer old → ((k : Key) → IsIn k ks → (k ≡ (c, (i.site, i.k))) ⊎ IsIn k new)
-    → AreQueued old ks → AreQueued (without i old) new
-queued_taken old ks new i c d drops h b at =
+-- what holds of all with other numbers holds of each that is left
+pub each_left : (P : NumberedAtom → Type 0) (i : AtomId) (old : List NumberedAtom)
+    → AtomsDiffer old → ((b : NumberedAtom) → IsIn b old → (b.id ≡ i → ⊥) → P b)
+    → (b : NumberedAtom) → IsIn b (without i old) → P b
+each_left P i old d h b at =
     go (same_atom i b.id) refl (sym (atom_at-without i b.id old d)
     ∙ member_found (without i old) (differ-without i old d) b at)
   where
-    go : (t : Bool) → same_atom i b.id ≡ t → cond t None (atom_at old b.id) ≡ Some b
-        → IsQueued new b
+    go : (t : Bool) → same_atom i b.id ≡ t → cond t None (atom_at old b.id) ≡ Some b → P b
     go true e f = cc
-    go false e f =
-        let q = h b (atom_in old b.id b f) in
-        (q.0, q.1, still q.0 (drops (q.0, (b.id.site, b.id.k)) q.2))
-      where
-        still : (n : ℕ)
-            → (◌≡◌ {A = Key} (n, (b.id.site, b.id.k)) (c, (i.site, i.k)))
-            ⊎ IsIn {X = Key} (n, (b.id.site, b.id.k)) new
-            → IsIn {X = Key} (n, (b.id.site, b.id.k)) new
-        still n (inr there) = there
-        still n (inl same) =
-            let pair : same_atom i b.id ≡ true =
-            ap (λ (k : Key). same_atom i (record { site = k.1.0; k = k.1.1 })) same
-            ∙ same_atom_refl i in
-            let wrong : false ≡ true = sym e ∙ pair in cc
+    go false e f = h b (found_in old b.id b f) (λ same.
+        let wrong : false ≡ true =
+        sym e ∙ ap (same_atom i) same ∙ same_atom_refl i in
+        cc)
+
+-- members are counted
+pub pair_in : (xs : List NumberedAtom) (a : NumberedAtom) (p : Pair) → IsIn a xs
+    → one coded_pair (a.id.site, a.id.k) p ≤ bag coded_pair (atom_pairs xs) p
+pair_in [] a p at = absurd at
+pair_in (b ∷ xs) a p (inl e) =
+    let same : one coded_pair (a.id.site, a.id.k) p ≡ one coded_pair (b.id.site, b.id.k) p =
+    ap (λ (x : NumberedAtom). one coded_pair (x.id.site, x.id.k) p) e in
+    omega (arith, same)
+pair_in (b ∷ xs) a p (inr at) = omega (arith, pair_in xs a p at)
+
+-- one of the newest isn't among the older ones, and may go there
+pub not_older : (old xs : List NumberedAtom) (a : NumberedAtom) → AtomsDiffer (old ++ xs)
+    → IsIn a xs → atom_at old a.id ≡ None
+not_older old xs a d at =
+    not_in_front old xs a.id a d (member_found xs (differ_back old xs d) a at)
+
+pub differ_added : (old now xs : List NumberedAtom) (a : NumberedAtom) → AtomsDiffer (old ++ xs)
+    → IsIn a xs → Adds a old now → AtomsDiffer now
+differ_added old now xs a d at adds p =
+    omega (arith, d p, pairs_both old xs p, adds.pairs p, pair_in xs a p at)

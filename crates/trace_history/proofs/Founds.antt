@@ -504,7 +504,7 @@ module _ (n : Numbered) (sound : IsSound n) (from : ℕ) where
 
 -- ---- where a rule is ready or a request can be met an event is possible
 
-met_by_one : (l : Loc) (p : Pat) (atoms : List NumberedAtom) → is_met atoms l p ≡ true
+pub met_by_one : (l : Loc) (p : Pat) (atoms : List NumberedAtom) → is_met atoms l p ≡ true
     → (a : NumberedAtom) × IsIn a atoms × (receives l p a ≡ true)
 met_by_one l p [] h = cc
 met_by_one l p (a ∷ atoms) h = go (receives l p a) refl h (met_by_one l p atoms)

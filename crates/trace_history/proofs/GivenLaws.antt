@@ -36,7 +36,6 @@ use Rattle.chem_model.specs.Apply.{rule_at, atom_at, received_all, without, with
 use Rattle.chem_model.specs.Apply.{react_received, react_rule, can_go, falls, can_detect}
 use Rattle.chem_model.specs.Apply.{at_location, with_marks, moved, move_to, move_atom, halt_atom}
 use Rattle.chem_model.specs.Apply.{detect_of, detect_atom, with_atom, apply, apply_if, replay_from}
-use Rattle.chem_model.specs.Apply.{replay}
 use Rattle.chem_laws.proofs.Lists.{Each-append}
 use Rattle.chem_laws.proofs.Taking.{same_name_is}
 use Rattle.chem_laws.proofs.Naming.{push, channels_keep, places_keep}

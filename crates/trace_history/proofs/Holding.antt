@@ -51,7 +51,7 @@ sound_rest old n sound = record {
   trace = sound.trace;
 }
 
-differ_of : (n : Numbered) → IsSound n → AtomsDiffer n.atoms
+pub differ_of : (n : Numbered) → IsSound n → AtomsDiffer n.atoms
 differ_of n sound p = omega (arith, sound.different p)
 
 -- ---- at the beginning, and where messages only moved
@@ -118,17 +118,23 @@ module _ (o : Option Numbered) (old : List NumberedAtom) (n : Numbered) (h : Hol
       let two = subst (λ (m : Numbered). AreAlikeIf (apply h.left e) (apply m e)) h.rest one in
       subst (λ (q : Option Numbered). AreAlikeIf (apply h.left e) q) (apply_front old n e none) two
 
+  -- what the book has after the event is sound
+  pub sound_made : EventIsAReduction → (e : Event) (m : Numbered)
+      → Each (λ (i : AtomId). atom_at old i ≡ None) (takes e) → apply n e ≡ Some m
+      → IsSound (whole old m)
+  sound_made law e m none made =
+      let in_all : apply (whole old n) e ≡ Some (whole old m) =
+      apply_front old n e none ∙ ap (front old) made in
+      (law (whole old n) (whole old m) e whole_sound in_all).sound
+
   pub event_made : EventIsAReduction → (e : Event) (m : Numbered)
       → Each (λ (i : AtomId). atom_at old i ≡ None) (takes e) → apply n e ≡ Some m → Made e m
   event_made law e m none made = go (apply h.left e) refl
       (subst (λ (q : Option Numbered). AreAlikeIf (apply h.left e) (front old q)) made
       (alike_after e none))
     where
-      in_all : apply (whole old n) e ≡ Some (whole old m)
-      in_all = apply_front old n e none ∙ ap (front old) made
-
       differ : AtomsDiffer (old ++ m.atoms)
-      differ = differ_of (whole old m) (law (whole old n) (whole old m) e whole_sound in_all).sound
+      differ = differ_of (whole old m) (sound_made law e m none made)
 
       go : (q : Option Numbered) → apply h.left e ≡ q → AreAlikeIf q (Some (whole old m)) → Made e m
       go None c a = absurd a

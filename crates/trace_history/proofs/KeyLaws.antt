@@ -7,7 +7,7 @@ use Rattle.std.specs.BTreeSet.{insert_key}
 use Rattle.std.specs.BTreeMap.{is_at}
 use Rattle.std.specs.Set.{remove_key}
 use Rattle.chem_model.specs.Each.{IsIn}
-use Rattle.trace_history.specs.inside.Older.{Key, KeepsKeys}
+use Rattle.trace_history.specs.inside.Keys.{Key, KeepsKeys}
 use Rattle.trace_history.proofs.TableLaws.{pair_cmp}
 
 abbrev pub key_cmp : Key → Key → Ordering

@@ -25,11 +25,10 @@ use Rattle.chem_laws.proofs.Taking.{same_ref_is}
 use Rattle.trace_history.specs.First.{less}
 use Rattle.trace_history.specs.inside.Search.{IsFirstOf, receives, atom_before}
 use Rattle.trace_history.specs.inside.Walk.{walk}
-use Rattle.trace_history.specs.inside.Older.{Key, number_of, channel_of, AreQueued, passing}
-use Rattle.trace_history.specs.inside.Older.{find_at}
+use Rattle.trace_history.specs.inside.Keys.{Key, number_of, channel_of}
+use Rattle.trace_history.specs.inside.Older.{AreQueued, passing, find_at}
 use Rattle.trace_history.proofs.Order.{less_asym, not_less}
 use Rattle.trace_history.proofs.Least.{AtomsDiffer, atom_has, member_found}
-use Rattle.trace_history.proofs.Hearing.{some_here, when_some}
 use Rattle.trace_history.proofs.TableLaws.{pair_cmp}
 use Rattle.trace_history.proofs.KeyLaws.{key_cmp}
 use Rattle.trace_history.proofs.WalkLaws.{InOrder, Leads, walk_first}
@@ -60,7 +59,7 @@ pair_less x y e = go (nat_cmp x.0 y.0) refl e
     go Equal c f = less_at x.0 x.1 y.0 y.1 (inr (nat_cmp-equal x.0 y.0 c, nat_cmp-less x.1 y.1 f))
     go Greater c f = cc
 
-key_less : (k j : Key) → key_cmp k j ≡ Less
+pub key_less : (k j : Key) → key_cmp k j ≡ Less
     → (k.0 < j.0) ⊎ ((k.0 ≡ j.0) × (less k.1.0 k.1.1 j.1.0 j.1.1 ≡ true))
 key_less k j e = go (nat_cmp k.0 j.0) refl e
   where
@@ -96,7 +95,7 @@ from_site f k = go (nat_cmp f k.0) refl
 
 -- ---- lists in order
 
-sorted_in_order : {K : Type 0} (c : K → K → Ordering) (below : K → K → Bool) (P : K → Type 0)
+pub sorted_in_order : {K : Type 0} (c : K → K → Ordering) (below : K → K → Bool) (P : K → Type 0)
     → ((k j : K) → P k → P j → c k j ≡ Less → below j k ≡ false) → (ks : List K)
     → IsStrictlySortedBy c ks → Each P ks → InOrder below ks
 unfolding IsStrictlySortedBy
@@ -109,7 +108,7 @@ sorted_in_order {K} c below P keeps (k ∷ ks) s h =
     later [] a b = tt
     later (j ∷ js) a b = (keeps k j h.0 b.0 a.0, later js a.1 b.1)
 
-each_filter : {K : Type 0} (p : K → Bool) (ks : List K) → Each (λ k. p k ≡ true) (filter p ks)
+pub each_filter : {K : Type 0} (p : K → Bool) (ks : List K) → Each (λ k. p k ≡ true) (filter p ks)
 each_filter p [] = tt
 each_filter p (k ∷ ks) = go (p k) refl (each_filter p ks)
   where
@@ -118,7 +117,7 @@ each_filter p (k ∷ ks) = go (p k) refl (each_filter p ks)
     go true c h = (c, h)
     go false c h = h
 
-sorted_filter : {K : Type 0} (c : K → K → Ordering) (p : K → Bool) (ks : List K)
+pub sorted_filter : {K : Type 0} (c : K → K → Ordering) (p : K → Bool) (ks : List K)
     → IsStrictlySortedBy c ks → IsStrictlySortedBy c (filter p ks)
 sorted_filter c p ks s = IsStrictlySortedBy-filter c p ks s
 
@@ -141,7 +140,8 @@ in_filter p (j ∷ ks) k (inr later) h = go (p j) (in_filter p ks k later h)
 abbrev pub is_high : ℕ → ℕ → Key → Bool
 is_high sites from k = is_le (key_cmp (from, (0, 0)) k) && not (is_le (key_cmp (sites, (0, 0)) k))
 
-high_is : (sites from : ℕ) (k : Key) → is_high sites from k ≡ true → (from ≤ k.0) × (k.0 < sites)
+pub high_is : (sites from : ℕ) (k : Key) → is_high sites from k ≡ true
+    → (from ≤ k.0) × (k.0 < sites)
 high_is sites from k h =
     let both =
     and_parts (is_le (key_cmp (from, (0, 0)) k)) (not (is_le (key_cmp (sites, (0, 0)) k))) h in
@@ -171,22 +171,33 @@ atom_in (b ∷ atoms) i a e = go (same_atom b.id i) (atom_in atoms i a) e
     go true ih e' = let same : a ≡ b = cc in inl same
     go false ih e' = inr (ih e')
 
+pub some_here : {X : Type 0} (t : Bool) (o : Option X) → is_some (cond t o None) ≡ true
+    → is_some o ≡ true
+some_here true o h = h
+some_here false o h = cc
+
+when_some : {X : Type 0} (t : Bool) (x : X) → is_some (cond t (Some x) None) ≡ true → t ≡ true
+when_some true x h = refl
+when_some false x h = cc
+
 -- what a pattern receives is on its channel
-pub received_channel : (p : Pat) (q : Process) → is_some (received p q) ≡ true
-    → channel_of q ≡ number_of p.on
+received_channel : (p : Pat) (q : Process) → is_some (received p q) ≡ true
+    → channel_of q ≡ Some (number_of p.on)
 received_channel p (Msg x vs) h =
     let fits =
     when_some (same_ref p.on x && (length p.params == length vs)) (given p.params (known vs)) h in
     let same = (and_parts (same_ref p.on x) (length p.params == length vs) fits).0 in
-    ap number_of (sym (same_ref_is p.on x same))
+    ap (λ y. Some (number_of y)) (sym (same_ref_is p.on x same))
 received_channel p (Par ps) h = cc
 received_channel p (Def ds q) h = cc
 received_channel p (Go b k) h = cc
 received_channel p (Fail a k) h = cc
 received_channel p Halt h = cc
 
-same_number : (c d : ℕ) → Some c ≡ Some d → c ≡ d
-same_number c d e = cc
+pub receives_channel : (l : Loc) (p : Pat) (a : NumberedAtom) → receives l p a ≡ true
+    → channel_of a.term ≡ Some (number_of p.on)
+receives_channel l p a h =
+    received_channel p a.term (some_here (same_loc a.loc l) (received p a.term) h)
 
 each_one : {X : Type 0} (P : X → Type 0) (xs : List X) → ((x : X) → IsIn x xs → P x) → Each P xs
 each_one P [] h = tt
@@ -226,7 +237,7 @@ module _ (l : Loc) (p : Pat) (old : List NumberedAtom) where
   not_itself : (x : NumberedAtom) → atom_before x x ≡ false
   not_itself x = not_less x.id.site x.id.k x.id.site x.id.k (omega arith) (λ f. omega arith)
 
-  module _ (c : ℕ) (on : number_of p.on ≡ Some c) (ks : List Key) (differ : AtomsDiffer old)
+  module _ (c : ℕ) (on : number_of p.on ≡ c) (ks : List Key) (differ : AtomsDiffer old)
       (queued : AreQueued old ks) where
     abbrev here : Key → Bool
     here = is_high (c + 1) c
@@ -234,15 +245,12 @@ module _ (l : Loc) (p : Pat) (old : List NumberedAtom) where
     led : (x : NumberedAtom) → IsIn x old → receives l p x ≡ true
         → Leads (find_at l p old) (filter here ks) x
     led x at passes =
-        let q = queued x at in
-        let channel : channel_of x.term ≡ number_of p.on =
-        received_channel p x.term (some_here (same_loc x.loc l) (received p x.term) passes) in
-        let same : q.0 ≡ c = same_number q.0 c (sym q.1 ∙ channel ∙ on) in
-        let key : Key = (q.0, (x.id.site, x.id.k)) in
+        let channel : channel_of x.term ≡ Some c = receives_channel l p x passes ∙ ap Some on in
+        let key : Key = (c, (x.id.site, x.id.k)) in
         let found : atom_at old x.id ≡ Some x = member_found old differ x at in (
           key,
           in_filter here ks key
-              q.2 (is_high_at (c + 1) c key (omega (arith, same)) (omega (arith, same))),
+              (queued x at c channel) (is_high_at (c + 1) c key (omega arith) (omega arith)),
           ap (passing l p) found ∙ ap (λ t. cond t (Some x) None) passes,
         )
 
@@ -270,31 +278,22 @@ module _ (l : Loc) (p : Pat) (old : List NumberedAtom) where
         (sorted_filter key_cmp here ks s) (each_filter here ks))
         not_itself kept_order o e
 
-  -- a pattern whose channel has no number receives none of them
-  pub none_queued : (ks : List Key) → AreQueued old ks → number_of p.on ≡ None
-      → IsFirstOf (receives l p) atom_before old None
-  none_queued ks queued on =
-      each_one (λ x. receives l p x ≡ false) old (λ x at. go x at (receives l p x) refl)
-    where
-      go : (x : NumberedAtom) → IsIn x old → (t : Bool) → receives l p x ≡ t
-          → receives l p x ≡ false
-      go x at false d = d
-      go x at true d =
-          let q = queued x at in
-          let channel : channel_of x.term ≡ number_of p.on =
-          received_channel p x.term (some_here (same_loc x.loc l) (received p x.term) d) in
-          let wrong : Some q.0 ≡ None = sym q.1 ∙ channel ∙ on in cc
-
   -- without a key there is none
   pub none_there : (ks : List Key) → AreQueued old ks → length ks ≡ 0
       → IsFirstOf (receives l p) atom_before old None
-  none_there ks queued e = each_one (λ x. receives l p x ≡ false) old
-      (λ x at. let q = queued x at in absurd (gone ks q.0 x e q.2))
+  none_there ks queued e =
+      each_one (λ x. receives l p x ≡ false) old (λ x at. go x at (receives l p x) refl)
     where
       gone : (ks : List Key) (n : ℕ) (x : NumberedAtom) → length ks ≡ 0
-          → IsIn (n, (x.id.site, x.id.k)) ks → ⊥
+          → IsIn {X = Key} (n, (x.id.site, x.id.k)) ks → ⊥
       gone [] n x e at = at
       gone (k ∷ ks) n x e at = cc
+
+      go : (x : NumberedAtom) → IsIn x old → (t : Bool) → receives l p x ≡ t
+          → receives l p x ≡ false
+      go x at false d = d
+      go x at true d = absurd (gone ks (number_of p.on) x e
+          (queued x at (number_of p.on) (receives_channel l p x d)))
 
 -- ---- a message that was found by its number
 

@@ -7,15 +7,15 @@ use Rattle.chem_model.specs.contracts.program.Program as program
 use Rattle.trace_history.specs.contracts.book.Book as book
 use Rattle.trace_history.specs.declared.book.Book as declared
 use Rattle.trace_history.specs.inside.Crosses.{ProgramCrosses, JournalCrosses, NumberedCrosses}
-use Rattle.trace_history.specs.inside.Crosses.{OlderCrosses, GuessesCross, WaitingCrosses}
+use Rattle.trace_history.specs.inside.Crosses.{GuessesCross, StoreCrosses}
 use Rattle.trace_history.specs.Crosses.{BookCrosses}
 
-pub book_send : ProgramCrosses → JournalCrosses → NumberedCrosses → OlderCrosses → GuessesCross
-    → WaitingCrosses → BookCrosses
-book_send p j n o g w =
+pub book_send : ProgramCrosses → JournalCrosses → NumberedCrosses → GuessesCross → StoreCrosses
+    → BookCrosses
+book_send p j n g s =
     let inner : IsSend book.TheInside.the_row = declared_send book.TheInside.the_type (
       as_row_send program.the_field p,
-      (as_row_send (items.the_field event.the_row) j, (n, (o, (g, (w, tt))))),
+      (as_row_send (items.the_field event.the_row) j, (n, (g, (s, tt)))),
     ) in
     view_send book.TheInside.the_row declared.Book declared.the_code declared.TheView.view
     declared.TheView.invariant inner

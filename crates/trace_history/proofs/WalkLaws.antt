@@ -1,9 +1,11 @@
 -- A walk along keys in order finds the first of the members that pass, whatever else stands among
 -- the keys.
-use Rattle.std.proofs.Common.{◌≡◌, List, [], ◌∷◌, Option, Some, None, Bool, true, false, refl, ap}
-use Rattle.std.proofs.Common.{sym, ◌∙◌, subst, ◌⊎◌, inl, inr}
+use Rattle.std.proofs.Common.{◌≡◌, List, [], ◌∷◌, ◌++◌, Option, Some, None, Bool, true, false, refl}
+use Rattle.std.proofs.Common.{ap, sym, ◌∙◌, subst, ◌⊎◌, inl, inr}
 use Rattle.chem_model.specs.Each.{Each, IsIn}
+use Rattle.chem_laws.proofs.Lists.{Each-append}
 use Rattle.trace_history.specs.inside.Search.{IsFirstOf}
+use Rattle.trace_history.specs.inside.Passed.{Beaten, IsOne}
 use Rattle.trace_history.specs.inside.Walk.{or_else, walk}
 
 -- no later key comes before an earlier one
@@ -22,16 +24,34 @@ pub record Covers {K X : Type 0} (find : K → Option X) (test : X → Bool) (xs
   pub right : (k : K) (x : X) → find k ≡ Some x → IsIn x xs × (test x ≡ true)
   pub all : (x : X) → IsIn x xs → test x ≡ true → Leads find ks x
 
-each_in : {X : Type 0} (P : X → Type 0) (xs : List X) → ((x : X) → IsIn x xs → P x) → Each P xs
+pub joined_order : {K : Type 0} (below : K → K → Bool) (ks js : List K) → InOrder below ks
+    → InOrder below js → Each (λ k. Each (λ j. below j k ≡ false) js) ks → InOrder below (ks ++ js)
+joined_order below [] js a b h = b
+joined_order below (k ∷ ks) js a b h = (
+  Each-append (λ j. below j k ≡ false) ks js a.0 h.0,
+  joined_order below ks js a.1 b h.1,
+)
+
+pub each_in : {X : Type 0} (P : X → Type 0) (xs : List X) → ((x : X) → IsIn x xs → P x) → Each P xs
 each_in P [] h = tt
 each_in P (x ∷ xs) h = (h x (inl refl), each_in P xs (λ y at. h y (inr at)))
 
-in_each : {X : Type 0} (P : X → Type 0) (xs : List X) (x : X) → IsIn x xs → Each P xs → P x
+pub in_each : {X : Type 0} (P : X → Type 0) (xs : List X) (x : X) → IsIn x xs → Each P xs → P x
 in_each P [] x at h = absurd at
 in_each P (y ∷ ys) x (inl e) h = subst P (sym e) h.0
 in_each P (y ∷ ys) x (inr at) h = in_each P ys x at h.1
 
 module _ {K X : Type 0} (find : K → Option X) where
+  -- a walk along the ones, and then along the others
+  pub walk-append : (ks js : List K) → walk find (ks ++ js) ≡ or_else (walk find ks) (walk find js)
+  walk-append [] js = refl
+  walk-append (k ∷ ks) js = go (find k) (walk-append ks js)
+    where
+      go : (o : Option X) → walk find (ks ++ js) ≡ or_else (walk find ks) (walk find js)
+          → or_else o (walk find (ks ++ js)) ≡ or_else (or_else o (walk find ks)) (walk find js)
+      go (Some x) h = refl
+      go None h = h
+
   -- where the walk finds none, no key stands for a member
   none_found : (ks : List K) (k : K) → walk find ks ≡ None → IsIn k ks → find k ≡ None
   none_found [] k e at = absurd at
@@ -116,3 +136,28 @@ module _ {K X : Type 0} (find : K → Option X) where
           cases : (x ≡ y) ⊎ (below l.0 r.key ≡ false) → before x y ≡ false
           cases (inl same) = ap (λ z. before z y) same ∙ irr y
           cases (inr later) = keeps l.0 r.key x y l.2 r.stands later
+
+  -- what is found, if anything, is a member that passes, and none to which a key leads comes before
+  -- it
+  pub walked : (test : X → Bool) (before : X → X → Bool) (below : K → K → Bool) (xs : List X)
+      (ks : List K) → ((k : K) (x : X) → find k ≡ Some x → IsIn x xs × (test x ≡ true))
+      → InOrder below ks → ((x : X) → before x x ≡ false)
+      → ((k j : K) (x y : X) → find k ≡ Some x → find j ≡ Some y → below k j ≡ false
+      → before x y ≡ false)
+      → (o : Option X) → walk find ks ≡ o
+      → IsOne test xs o × ((x : X) → Leads find ks x → Beaten before x o)
+  walked test before below xs ks right h irr keeps None e = (
+    tt,
+    λ x l.
+        let none = none_found ks l.0 e l.1 in
+        let some = l.2 in
+        cc,
+  )
+  walked test before below xs ks right h irr keeps (Some y) e =
+      let r = found below ks y h e in
+      (right r.key y r.stands, λ x l. go r x l (r.others l.0 x l.1 l.2))
+    where
+      go : (r : Found below ks y) (x : X) (l : Leads find ks x)
+          → (x ≡ y) ⊎ (below l.0 r.key ≡ false) → before x y ≡ false
+      go r x l (inl same) = ap (λ z. before z y) same ∙ irr y
+      go r x l (inr later) = keeps l.0 r.key x y l.2 r.stands later

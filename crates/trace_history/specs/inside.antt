@@ -1,9 +1,15 @@
-pub mod Waiting
 pub mod Search
 pub mod Alike
 pub mod Crosses
 pub mod Table
-pub mod Heard
 pub mod Walk
+pub mod Keys
 pub mod Older
+pub mod Candidates
+pub mod Passed
+pub mod Watched
+pub mod Asked
+pub mod Stored
+pub mod Looked
+pub mod Chosen
 pub mod Causes

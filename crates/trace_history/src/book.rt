@@ -1,5 +1,5 @@
 // A book: what contracts see of it is a program and a journal alone.
-ghost use Rattle.std.specs.Prelude.{◌≡◌, [], ◌<◌, ◌-◌, ◌^◌, length, Ok};
+ghost use Rattle.std.specs.Prelude.{◌≡◌, [], ◌<◌, ◌-◌, ◌^◌, length, Ok, Some};
 ghost use Rattle.std.specs.Prelude.{IfOk, IfSome, OnErr, IsTrue, ◌↔◌};
 ghost use Rattle.chem_model.specs.Numbered.{binder_in};
 ghost use Rattle.chem_model.specs.Sound.{IsSound};
@@ -8,17 +8,17 @@ ghost use Rattle.chem_model.specs.Laws.{erase_all};
 ghost use Rattle.chem_model.specs.Apply.{states};
 ghost use Rattle.chem_model.specs.Opening.{opening};
 ghost use Rattle.trace_history.specs.Kept.{is_enabled};
-ghost use Rattle.trace_history.specs.inside.Waiting.{AreFiled};
+ghost use Rattle.trace_history.specs.inside.Older.{Holds, whole};
+ghost use Rattle.trace_history.specs.inside.Stored.{IsStored, Moves};
 ghost use Rattle.trace_history.specs.Book.{Commits, IsAStart, IsAReduction, OnItsSolution};
 ghost use Rattle.trace_history.specs.Left.{IsLeftAt, AreLeft, AreAtomsOf};
 ghost use Rattle.trace_history.specs.Book.{IsStuck, IsQuiet, Finds, Replays};
 
 use crate::all_causes::{all_left, ids_of};
 use crate::causes::left_at;
-use crate::older::{Older, ready};
 use crate::possible::is_possible;
 use crate::search::{first_event, is_stuck};
-use crate::waiting::{Waiting, file};
+use crate::store::{Store, ready, settle_all, site_of, tidy};
 use chem_causes::{Left, Lefts};
 use chem_commit::{Guesses, make_event, note};
 use chem_laws::{event_is_a_reduction, opening_is_a_start, replay_is_a_run, stuck_is_quiet};
@@ -68,15 +68,15 @@ impl Found {
 }
 
 /// A program, the events since its opening, and the numbered solution to which they lead, but for
-/// the order of messages and requests: older messages stand apart.
+/// the order of messages and requests: older ones stand apart, in a store that knows where to look
+/// for the next event.
 #[derive(Drop)]
 pub struct Book {
     program: Program,
     journal: Journal,
     solution: Numbered,
-    older: Older,
     guesses: Guesses,
-    waiting: Waiting,
+    store: Store,
 }
 
 impl Model for Book {
@@ -89,36 +89,42 @@ impl Model for Book {
 
     ghost view = { λ b. record { program = b.program; journal = b.journal } };
 
-    ghost use Rattle.trace_history.specs.inside.Waiting.{AreFiled};
-    ghost use Rattle.trace_history.specs.inside.Older.{Holds, AreQueued};
+    ghost use Rattle.trace_history.specs.inside.Older.{Holds};
+    ghost use Rattle.trace_history.specs.inside.Stored.{IsStored};
 
-    ghost invariant = { λ b. Holds (replay b.program b.journal) b.older.table b.solution
-        × AreFiled b.waiting.heads.items b.waiting.links.items b.solution.rules
-        × AreQueued b.older.table b.older.keys.keys };
+    ghost invariant = { λ b. Holds (replay b.program b.journal) b.store.older.table b.solution
+        × IsStored b.solution b.store };
 }
 
-// What is noted of a solution before its first event: guesses, and the rules by their channels.
-#[tactic(auto, using(crate::proofs::Filed::none_filed))]
-fn noted(alloc: Global, solution: &Numbered) -> Result<(Guesses, Waiting), Memory>
-    ensures { IfOk result (λ r.
-        AreFiled r.1.heads.items r.1.links.items solution.now.rules) }
+// The opening of a program, of which all but the newest messages and requests are set apart.
+fn set_apart(
+    alloc: Global,
+    solution: &mut Numbered,
+    guesses: &mut Guesses,
+    store: &mut Store,
+) -> Result<(), Memory>
+    requires sound { IsSound (whole store.old.older.table solution.old) }
+    requires stored { IsStored solution.old store.old }
+    ensures stored { IsStored solution.new store.new }
+    ensures moves { Moves solution.old store.old solution.new store.new }
 {
+    note(alloc, guesses, solution)?;
+    settle_all(alloc, store, solution, guesses)
+}
+
+// The opening of a program, with guesses and a store.
+fn opened(alloc: Global, program: &Program) -> Result<(Numbered, Guesses, Store), Memory>
+    ensures holds { IfOk result (λ r.
+        Holds (Some (opening program.now)) r.2.older.table r.0) }
+    ensures stored { IfOk result (λ r. IsStored r.0 r.2) }
+{
+    opening_is_a_start();
+    let _ = &program.tops;
+    let mut solution = opening(alloc, program)?;
     let mut guesses = Guesses::new(alloc);
-    note(alloc, &mut guesses, solution)?;
-    let mut waiting = Waiting::new(alloc)?;
-    file(alloc, &mut waiting, solution)?;
-    Ok((guesses, waiting))
-}
-
-// The opening of a program, and what is noted of it.
-fn opened(alloc: Global, program: &Program) -> Result<(Numbered, Guesses, Waiting), Memory>
-    ensures opening { IfOk result (λ r. r.0 ≡ opening program.now) }
-    ensures filed { IfOk result (λ r.
-        AreFiled r.2.heads.items r.2.links.items r.0.rules) }
-{
-    let solution = opening(alloc, program)?;
-    match noted(alloc, &solution) {
-        Ok((guesses, waiting)) => Ok((solution, guesses, waiting)),
+    let mut store = Store::new(alloc);
+    match set_apart(alloc, &mut solution, &mut guesses, &mut store) {
+        Ok(()) => Ok((solution, guesses, store)),
         Err(memory) => {
             drop(solution);
             Err(memory)
@@ -137,13 +143,12 @@ impl Book {
         let _ = &program.tops;
         let program = program.copy(alloc)?;
         match opened(alloc, &program) {
-            Ok((solution, guesses, waiting)) => Ok(Book {
+            Ok((solution, guesses, store)) => Ok(Book {
                 program,
                 journal: Items::new(alloc),
                 solution,
-                older: Older::new(alloc),
                 guesses,
-                waiting,
+                store,
             }),
             Err(memory) => {
                 drop(program);
@@ -155,7 +160,7 @@ impl Book {
     /// Makes an event where it is possible, and appends it to the journal: what the book stands for
     /// then is one reduction away, as the event names it. Where it isn't possible, and on want of
     /// memory, nothing changes.
-    #[tactic(auto, using(crate::proofs::Holding::holds_on))]
+    #[tactic(auto, using(crate::proofs::Committing::moved_holds))]
     pub fn commit(&mut self, alloc: Global, event: &Event) -> Result<Commit, Memory>
         requires { length self.old.journal < 2 ^ 32 - 1 }
         ensures done { IfOk result (λ c. Commits self.old event.now c self.new) }
@@ -165,13 +170,22 @@ impl Book {
         self.is_sound();
         event_is_a_reduction();
         note(alloc, &mut self.guesses, &self.solution)?;
-        file(alloc, &mut self.waiting, &self.solution)?;
         let place = self.journal.len();
         let copy = event.copy(alloc)?;
-        ready(alloc, &mut self.older, &mut self.solution.atoms, event)?;
+        ready(
+            alloc,
+            &mut self.store,
+            &mut self.solution,
+            &self.guesses,
+            event,
+        )?;
+        let site = site_of(&self.store, &self.solution, &self.guesses, event);
         self.journal.push(copy)?;
         match make_event(alloc, &mut self.solution, &self.guesses, event) {
-            Ok(true) => Ok(Commit::Place(place as u64)),
+            Ok(true) => {
+                tidy(&mut self.store, &self.solution, &self.guesses, site);
+                Ok(Commit::Place(place as u64))
+            }
             Ok(false) => {
                 self.journal.truncate(place);
                 Ok(Commit::NotEnabled)
@@ -188,7 +202,7 @@ impl Book {
         ensures { result ≡ is_enabled self.now event.now }
     {
         self.is_sound();
-        is_possible(&self.solution, &self.older, event)
+        is_possible(&self.solution, &self.store.older, event)
     }
 
     /// Whether no event is possible, which is so exactly where the machine is quiet.
@@ -198,7 +212,7 @@ impl Book {
     {
         self.is_sound();
         stuck_is_quiet();
-        is_stuck(&self.solution, &self.guesses, &self.older, &self.waiting)
+        is_stuck(&self.solution, &self.guesses, &self.store)
     }
 
     /// The event that comes first, where the site `from` is looked at first, and its site. None
@@ -211,14 +225,7 @@ impl Book {
         ensures memory { OnErr result (IsStuck self.now → ⊥) }
     {
         self.is_sound();
-        first_event(
-            alloc,
-            &self.solution,
-            &self.guesses,
-            &self.older,
-            &self.waiting,
-            from,
-        )
+        first_event(alloc, &self.solution, &self.guesses, &self.store, from)
     }
 
     /// The events since the opening.
@@ -262,7 +269,7 @@ impl Book {
         ensures { OnItsSolution self.now (λ n. IsLeftAt n atom.now result) }
     {
         self.is_sound();
-        left_at(&self.solution, &self.guesses, &self.older, *atom)
+        left_at(&self.solution, &self.guesses, &self.store.older, *atom)
     }
 
     /// Every message and request, by rising number, and why it is left.
@@ -270,7 +277,7 @@ impl Book {
         ensures { IfOk result (λ lefts. OnItsSolution self.now (λ n. AreLeft n lefts)) }
     {
         self.is_sound();
-        all_left(alloc, &self.solution, &self.guesses, &self.older)
+        all_left(alloc, &self.solution, &self.guesses, &self.store.older)
     }
 
     /// The numbers of all messages and requests, by rising number.

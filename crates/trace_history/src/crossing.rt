@@ -1,12 +1,16 @@
 // A book may go to another thread. Nothing here does anything.
 ghost use denote.Param.Send.{IsSend};
 ghost use Rattle.trace_history.specs.inside.Crosses.{TableCrosses, OlderCrosses, GuessesCross};
-ghost use Rattle.trace_history.specs.inside.Crosses.{WaitingCrosses};
+ghost use Rattle.trace_history.specs.inside.Crosses.{WaitingCrosses, AskingCrosses};
+ghost use Rattle.trace_history.specs.inside.Crosses.{CandidatesCross, StoreCrosses};
 ghost use Rattle.trace_history.specs.Crosses.{BookCrosses};
 ghost use Rattle.trace_history.specs.inside.Crosses.{ProgramCrosses, JournalCrosses};
 ghost use Rattle.trace_history.specs.inside.Crosses.{NumberedCrosses};
 
+use crate::asking::Asking;
+use crate::candidates::Candidates;
 use crate::older::Older;
+use crate::store::Store;
 use crate::table::AtomTable;
 use crate::waiting::Waiting;
 use chem_commit::Guesses;
@@ -36,10 +40,33 @@ fn guesses_cross()
     crosses::<Guesses>();
 }
 
+fn candidates_cross()
+    ensures { CandidatesCross }
+{
+    crosses::<Candidates>();
+}
+
 fn waiting_crosses()
     ensures { WaitingCrosses }
 {
+    candidates_cross();
     crosses::<Waiting>();
+}
+
+fn asking_crosses()
+    ensures { AskingCrosses }
+{
+    candidates_cross();
+    crosses::<Asking>();
+}
+
+fn store_crosses()
+    ensures { StoreCrosses }
+{
+    older_crosses();
+    waiting_crosses();
+    asking_crosses();
+    crosses::<Store>();
 }
 
 fn program_crosses()
@@ -67,7 +94,6 @@ pub fn book_crosses()
     program_crosses();
     journal_crosses();
     numbered_crosses();
-    older_crosses();
     guesses_cross();
-    waiting_crosses();
+    store_crosses();
 }

@@ -2,15 +2,17 @@
 #![tactic(auto)]
 
 mod all_causes;
+mod asking;
 mod binders;
 mod book;
+mod candidates;
 mod causes;
 mod crossing;
-mod heard;
 mod keys;
 mod older;
 mod possible;
 mod search;
+mod store;
 mod table;
 mod waiting;
 

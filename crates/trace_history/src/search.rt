@@ -1,32 +1,42 @@
-// The search for the event that comes first, over the plain lists.
-ghost use Rattle.std.specs.Prelude.{◌≡◌, ℕ, ◌<◌, ◌≤◌, ◌^◌, ◌++◌, ◌%◌, ◌&&◌, ◌↔◌, length, true};
-ghost use Rattle.std.specs.Prelude.{IfOk, IfSome, IsTrue, OnErr, Some, None};
+// The search for the event that comes first: of the rules and requests that may be possible.
+ghost use Rattle.std.specs.Prelude.{◌≡◌, ◌<◌, ◌≤◌, ◌^◌, ◌++◌, ◌&&◌, ◌↔◌, length, true, Some};
+ghost use Rattle.std.specs.Prelude.{IfOk, IfSome, IsTrue, OnErr, None};
 ghost use Rattle.std.specs.List.{list_all};
 ghost use Rattle.std.specs.Option.{option_copied};
 ghost use Rattle.chem_model.specs.Sound.{IsSound};
+ghost use Rattle.chem_model.specs.Each.{IsIn};
 ghost use Rattle.trace_history.specs.First.{turns, less};
-ghost use Rattle.trace_history.specs.inside.Heard.{are_told};
 ghost use Rattle.trace_history.specs.inside.Search.{IsFirstOf, first_of, beats, receives};
 ghost use Rattle.trace_history.specs.inside.Search.{atom_before};
 ghost use Rattle.trace_history.specs.inside.Search.{is_met, AreLeast, is_ready, turn};
 ghost use Rattle.trace_history.specs.inside.Search.{rule_before, can_act, request_before};
 ghost use Rattle.trace_history.specs.inside.Search.{event_of, IsReaction, IsMeeting, IsFound};
-ghost use Rattle.chem_model.specs.Each.{IsIn};
-ghost use Rattle.trace_history.specs.inside.Older.{Key, AreQueued, whole};
-ghost use Rattle.trace_history.specs.inside.Waiting.{AreFiled, Reaches, Betters, IsLookedAt};
-ghost use Rattle.trace_history.specs.inside.Waiting.{IsSlotLookedAt, LooksAtNewest};
+ghost use Rattle.trace_history.specs.inside.Walk.{walk};
+ghost use Rattle.trace_history.specs.inside.Older.{AreQueued, whole};
+ghost use Rattle.trace_history.specs.inside.Passed.{Betters, IsPassed, ArePassed, IsPassedAt};
+ghost use Rattle.trace_history.specs.inside.Stored.{IsStored};
+ghost use Rattle.trace_history.specs.inside.Looked.{AreFiledPassed, LooksAtNewest};
+ghost use Rattle.trace_history.specs.inside.Chosen.{rule_for, request_for, IsFirstReady};
+ghost use Rattle.trace_history.specs.inside.Chosen.{IsFirstAsking};
 
 use crate::book::Found;
-use crate::heard::{hear_all, hear_older, may_be_met};
+use crate::candidates::Candidates;
+use crate::keys::{Key, channel_of};
 use crate::older::{Older, first_older};
-use crate::waiting::{Waiting, is_same_slot, slot_of_number, slot_of_term};
-use chem_commit::{Guesses, can_detect, can_go, falls, is_live, root_of};
+use crate::store::Store;
+use crate::table::AtomTable;
+use chem_commit::{Guesses, can_detect, can_go, falls, find_rule, is_live, root_of};
 use chem_model::{
     AtomId, Atoms, Event, Items, Loc, Memory, Numbered, NumberedAtom, NumberedRule, Pat, Pats,
-    Proc, ProcNode,
+    Proc, ProcNode, RuleId,
 };
 use chem_plain::{location_of, meets};
 use std::alloc::Global;
+use std::collections::btree_set::Range;
+use std::ops::Bound;
+
+// Where there are fewer rules, each is looked at.
+const FEW: usize = 4;
 
 // How many turns after the site that is looked at first a site comes.
 fn turns(sites: usize, from: u32, site: u32) -> u64
@@ -222,176 +232,29 @@ fn first_of_few<'a>(
     first
 }
 
-// Whether a rule is ready and comes before the one that was found so far, where this table has the
-// channels of all messages.
-fn is_better(
+// The better one of a rule, where it is ready, and of the one that was found so far.
+fn better<'a>(
     numbered: &Numbered,
     guesses: &Guesses,
     older: &Older,
-    size: u64,
-    heard: &[bool],
     from: u32,
-    rule: &NumberedRule,
-    first: Option<&NumberedRule>,
-) -> bool
+    rule: &'a NumberedRule,
+    found: Option<&'a NumberedRule>,
+) -> Option<&'a NumberedRule>
     requires sound { IsSound numbered.now }
     requires queued { AreQueued older.now.table older.now.keys.keys }
-    requires size { 0 < size }
-    requires told { are_told size heard.now (older.now.table ++ numbered.now.atoms) ≡ true }
-    ensures { result ≡ (beats (rule_before numbered.now from) rule.now (option_copied first.entry)
-        && is_ready (whole older.now.table numbered.now) rule.now) }
+    requires there { IsIn rule.now numbered.now.rules }
+    ensures better { Betters (whole older.now.table numbered.now) from (option_copied found.entry)
+        (option_copied result) }
+    ensures passed { IsPassed (whole older.now.table numbered.now) from (option_copied result)
+        rule.now }
 {
-    if !may_be_met(size, heard, &rule.pats) {
-        return false;
-    }
-    is_earlier_rule(numbered, guesses, from, rule, first)
+    if is_earlier_rule(numbered, guesses, from, rule, found)
         && is_ready(numbered, guesses, older, rule)
-}
-
-// The better one of the rule at this place of the list, where it is ready, and the one that was
-// found so far, where this table has the channels of all messages.
-fn better_at<'a>(
-    numbered: &'a Numbered,
-    guesses: &Guesses,
-    older: &Older,
-    size: u64,
-    heard: &[bool],
-    from: u32,
-    place: usize,
-    found: Option<&'a NumberedRule>,
-) -> Option<&'a NumberedRule>
-    requires sound { IsSound numbered.now }
-    requires queued { AreQueued older.now.table older.now.keys.keys }
-    requires size { 0 < size }
-    requires told { are_told size heard.now (older.now.table ++ numbered.now.atoms) ≡ true }
-    ensures better { Betters (whole older.now.table numbered.now) from (option_copied found.entry)
-        (option_copied result) }
-    ensures looked { IsLookedAt (whole older.now.table numbered.now) from place
-        (option_copied result) }
-{
-    match numbered.rules.as_slice().get(place) {
-        Some(rule) => {
-            if is_better(numbered, guesses, older, size, heard, from, rule, found) {
-                Some(rule)
-            } else {
-                found
-            }
-        }
-        None => found,
-    }
-}
-
-// The best one of the rules that wait from a place on, and of the one that was found so far.
-fn best_of_chain<'a>(
-    numbered: &'a Numbered,
-    guesses: &Guesses,
-    older: &Older,
-    links: &[u32],
-    size: u64,
-    heard: &[bool],
-    from: u32,
-    head: u32,
-    found: Option<&'a NumberedRule>,
-) -> Option<&'a NumberedRule>
-    requires sound { IsSound numbered.now }
-    requires queued { AreQueued older.now.table older.now.keys.keys }
-    requires size { 0 < size }
-    requires told { are_told size heard.now (older.now.table ++ numbered.now.atoms) ≡ true }
-    ensures better { Betters (whole older.now.table numbered.now) from (option_copied found.entry)
-        (option_copied result) }
-    ensures looked { (j : ℕ) → Reaches (length links.now) links.now head j →
-        IsLookedAt (whole older.now.table numbered.now) from j (option_copied result) }
-{
-    let mut best = found;
-    let mut place = head;
-    let mut left = links.len();
-    while left > 0 {
-        left -= 1;
-        match links.get(place as usize) {
-            Some(next) => {
-                best = better_at(
-                    numbered,
-                    guesses,
-                    older,
-                    size,
-                    heard,
-                    from,
-                    place as usize,
-                    best,
-                );
-                place = *next;
-            }
-            None => return best,
-        }
-    }
-    best
-}
-
-// The best one of the rules that wait at a slot, and of the one that was found so far.
-fn best_of_slot<'a>(
-    numbered: &'a Numbered,
-    guesses: &Guesses,
-    older: &Older,
-    waiting: &Waiting,
-    size: u64,
-    heard: &[bool],
-    from: u32,
-    slot: Option<usize>,
-    found: Option<&'a NumberedRule>,
-) -> Option<&'a NumberedRule>
-    requires sound { IsSound numbered.now }
-    requires queued { AreQueued older.now.table older.now.keys.keys }
-    requires size { 0 < size }
-    requires told { are_told size heard.now (older.now.table ++ numbered.now.atoms) ≡ true }
-    requires within { IfSome slot (λ s. s < length waiting.now.heads.items) }
-    ensures better { Betters (whole older.now.table numbered.now) from (option_copied found.entry)
-        (option_copied result) }
-    ensures looked { IsSlotLookedAt (whole older.now.table numbered.now) from
-        waiting.now.heads.items waiting.now.links.items slot (option_copied result) }
-{
-    match slot {
-        Some(slot) => {
-            let head = waiting.heads[slot];
-            let links = waiting.links.as_slice();
-            best_of_chain(
-                numbered, guesses, older, links, size, heard, from, head, found,
-            )
-        }
-        None => found,
-    }
-}
-
-// The same where those of another slot were looked at, which may be this one.
-fn best_of_next_slot<'a>(
-    numbered: &'a Numbered,
-    guesses: &Guesses,
-    older: &Older,
-    waiting: &Waiting,
-    size: u64,
-    heard: &[bool],
-    from: u32,
-    slot: Option<usize>,
-    last: Option<usize>,
-    found: Option<&'a NumberedRule>,
-) -> Option<&'a NumberedRule>
-    requires sound { IsSound numbered.now }
-    requires queued { AreQueued older.now.table older.now.keys.keys }
-    requires size { 0 < size }
-    requires told { are_told size heard.now (older.now.table ++ numbered.now.atoms) ≡ true }
-    requires within { IfSome slot (λ s. s < length waiting.now.heads.items) }
-    requires last { IsSlotLookedAt (whole older.now.table numbered.now) from
-        waiting.now.heads.items waiting.now.links.items last (option_copied found) }
-    ensures better { Betters (whole older.now.table numbered.now) from (option_copied found.entry)
-        (option_copied result) }
-    ensures looked { IsSlotLookedAt (whole older.now.table numbered.now) from
-        waiting.now.heads.items waiting.now.links.items slot (option_copied result) }
-{
-    if is_same_slot(slot, last) {
-        found
+    {
+        Some(rule)
     } else {
-        best_of_slot(
-            numbered, guesses, older, waiting, size, heard, from, slot, found,
-        )
+        found
     }
 }
 
@@ -401,206 +264,269 @@ fn best_of_rest<'a>(
     guesses: &Guesses,
     older: &Older,
     noted: usize,
-    size: u64,
-    heard: &[bool],
     from: u32,
 ) -> Option<&'a NumberedRule>
     requires sound { IsSound numbered.now }
     requires queued { AreQueued older.now.table older.now.keys.keys }
-    requires size { 0 < size }
-    requires told { are_told size heard.now (older.now.table ++ numbered.now.atoms) ≡ true }
     ensures better { Betters (whole older.now.table numbered.now) from None
         (option_copied result) }
-    ensures looked { (j : ℕ) → noted ≤ j → j < length numbered.now.rules →
-        IsLookedAt (whole older.now.table numbered.now) from j (option_copied result) }
+    ensures passed { ArePassed (whole older.now.table numbered.now) from noted
+        (length numbered.now.rules) (option_copied result) }
 {
-    let count = numbered.rules.len();
+    let rules = numbered.rules.as_slice();
     let mut best = None;
-    let mut place = noted;
-    while place < count {
-        best = better_at(numbered, guesses, older, size, heard, from, place, best);
-        place += 1;
+    for place in noted..rules.len() {
+        best = better(numbered, guesses, older, from, &rules[place], best);
     }
     best
 }
 
-// The best one of the rules that wait for one of the older messages, and of the one that was found
-// so far.
-fn best_of_older<'a>(
+// The better one of the rule with this number, where it is ready, and of the one that was found so
+// far.
+fn better_at<'a>(
     numbered: &'a Numbered,
     guesses: &Guesses,
     older: &Older,
-    waiting: &Waiting,
-    size: u64,
-    heard: &[bool],
     from: u32,
+    id: RuleId,
     found: Option<&'a NumberedRule>,
 ) -> Option<&'a NumberedRule>
     requires sound { IsSound numbered.now }
     requires queued { AreQueued older.now.table older.now.keys.keys }
-    requires some { 0 < length waiting.now.heads.items }
-    requires size { 0 < size }
-    requires told { are_told size heard.now (older.now.table ++ numbered.now.atoms) ≡ true }
     ensures better { Betters (whole older.now.table numbered.now) from (option_copied found.entry)
         (option_copied result) }
-    ensures looked { (key : Key) → IsIn key older.now.keys.keys →
-        IsSlotLookedAt (whole older.now.table numbered.now) from waiting.now.heads.items
-        waiting.now.links.items (Some (key.0 % length waiting.now.heads.items))
-        (option_copied result) }
+    ensures passed { IsPassedAt (whole older.now.table numbered.now) from (option_copied result)
+        id }
 {
-    let slots = waiting.heads.as_slice().len() as u64;
+    match find_rule(numbered, guesses, id) {
+        Some(rule) => better(numbered, guesses, older, from, rule, found),
+        None => found,
+    }
+}
+
+// The best one of the rules that are filed at a channel, and of the one that was found so far.
+fn best_of_channel<'a>(
+    numbered: &'a Numbered,
+    guesses: &Guesses,
+    store: &Store,
+    from: u32,
+    channel: u64,
+    found: Option<&'a NumberedRule>,
+) -> Option<&'a NumberedRule>
+    requires sound { IsSound numbered.now }
+    requires stored { IsStored numbered.now store.now }
+    requires small { channel ≤ 2 ^ 63 }
+    ensures better { Betters (whole store.now.older.table numbered.now) from
+        (option_copied found.entry) (option_copied result) }
+    ensures passed { AreFiledPassed (whole store.now.older.table numbered.now) from
+        store.now.waiting (Some channel) (option_copied result) }
+{
+    let filed = store.waiting.filed.range((
+        Bound::Included((channel, (0, 0))),
+        Bound::Excluded((channel + 1, (0, 0))),
+    ));
     let mut best = found;
-    let mut last = None;
-    for key in older.keys.iter() {
-        let slot = slot_of_number(slots, key.0);
-        best = best_of_next_slot(
-            numbered, guesses, older, waiting, size, heard, from, slot, last, best,
-        );
-        last = slot;
+    for key in filed {
+        let id = RuleId {
+            site: key.1.0,
+            k: key.1.1,
+        };
+        best = better_at(numbered, guesses, &store.older, from, id, best);
     }
     best
 }
 
-// The best one of the rules that wait for one of the newest messages, and of those that were not
-// noted.
+// The same where those of another channel were looked at, which may be this one, or there is none.
+fn best_of_next<'a>(
+    numbered: &'a Numbered,
+    guesses: &Guesses,
+    store: &Store,
+    from: u32,
+    channel: Option<u64>,
+    last: Option<u64>,
+    found: Option<&'a NumberedRule>,
+) -> Option<&'a NumberedRule>
+    requires sound { IsSound numbered.now }
+    requires stored { IsStored numbered.now store.now }
+    requires small { IfSome channel (λ c. c ≤ 2 ^ 63) }
+    requires last { AreFiledPassed (whole store.now.older.table numbered.now) from
+        store.now.waiting last (option_copied found) }
+    ensures better { Betters (whole store.now.older.table numbered.now) from
+        (option_copied found.entry) (option_copied result) }
+    ensures passed { AreFiledPassed (whole store.now.older.table numbered.now) from
+        store.now.waiting channel (option_copied result) }
+{
+    match channel {
+        Some(number) => {
+            if is_same(number, last) {
+                found
+            } else {
+                best_of_channel(numbered, guesses, store, from, number, found)
+            }
+        }
+        None => found,
+    }
+}
+
+// Whether this is the number of the last channel.
+fn is_same(number: u64, last: Option<u64>) -> bool
+    ensures { result ≡ true → last ≡ Some number }
+{
+    match last {
+        Some(other) => number == other,
+        None => false,
+    }
+}
+
+// The best one of the rules that were not noted, and of those that are filed at the channel of a
+// newest message.
 fn best_of_newest<'a>(
     numbered: &'a Numbered,
     guesses: &Guesses,
-    older: &Older,
-    waiting: &Waiting,
-    size: u64,
-    heard: &[bool],
+    store: &Store,
     from: u32,
 ) -> Option<&'a NumberedRule>
     requires sound { IsSound numbered.now }
-    requires queued { AreQueued older.now.table older.now.keys.keys }
-    requires filed { AreFiled waiting.now.heads.items waiting.now.links.items numbered.now.rules }
-    requires size { 0 < size }
-    requires told { are_told size heard.now (older.now.table ++ numbered.now.atoms) ≡ true }
-    ensures { LooksAtNewest (whole older.now.table numbered.now) from waiting.now.heads.items
-        waiting.now.links.items numbered.now.atoms (option_copied result) }
+    requires stored { IsStored numbered.now store.now }
+    ensures { LooksAtNewest (whole store.now.older.table numbered.now) from store.now.waiting
+        numbered.now.atoms (option_copied result) }
 {
-    let slots = waiting.heads.as_slice().len() as u64;
-    let noted = waiting.links.as_slice().len();
-    let mut best = best_of_rest(numbered, guesses, older, noted, size, heard, from);
+    let noted = store.waiting.noted;
+    let mut best = best_of_rest(numbered, guesses, &store.older, noted, from);
     let mut last = None;
     for atom in numbered.atoms.as_slice() {
-        let slot = slot_of_term(slots, &atom.term);
-        best = best_of_next_slot(
-            numbered, guesses, older, waiting, size, heard, from, slot, last, best,
-        );
-        last = slot;
+        let channel = channel_of(&atom.term);
+        best = best_of_next(numbered, guesses, store, from, channel, last, best);
+        last = channel;
     }
     best
 }
 
-// The first of the rules that are ready, of those that wait for a message that is there, where
-// this table has the channels of all messages.
-fn first_waiting<'a>(
+// The rule for which a key stands, where it is at the key's site and is ready.
+fn rule_of<'a>(
     numbered: &'a Numbered,
     guesses: &Guesses,
     older: &Older,
-    waiting: &Waiting,
-    size: u64,
-    heard: &[bool],
+    key: Key,
+) -> Option<&'a NumberedRule>
+    requires sound { IsSound numbered.now }
+    requires queued { AreQueued older.now.table older.now.keys.keys }
+    ensures { option_copied result ≡ rule_for (whole older.now.table numbered.now) key }
+{
+    let id = RuleId {
+        site: key.1.0,
+        k: key.1.1,
+    };
+    match find_rule(numbered, guesses, id) {
+        Some(rule) => {
+            if root_of(numbered, guesses, rule.loc).site as u64 == key.0
+                && is_ready(numbered, guesses, older, rule)
+            {
+                Some(rule)
+            } else {
+                None
+            }
+        }
+        None => None,
+    }
+}
+
+// The rule for which the first key stands that stands for one.
+fn walk_rules<'a>(
+    keys: Range<'_, Key>,
+    numbered: &'a Numbered,
+    guesses: &Guesses,
+    older: &Older,
+) -> Option<&'a NumberedRule>
+    requires sound { IsSound numbered.now }
+    requires queued { AreQueued older.now.table older.now.keys.keys }
+    ensures { option_copied result
+        ≡ walk (rule_for (whole older.now.table numbered.now)) keys.entry }
+{
+    for key in keys {
+        match rule_of(numbered, guesses, older, *key) {
+            Some(rule) => return Some(rule),
+            None => {}
+        }
+    }
+    None
+}
+
+// The first of the candidates that are ready.
+fn first_ready<'a>(
+    numbered: &'a Numbered,
+    guesses: &Guesses,
+    older: &Older,
+    candidates: &Candidates,
     from: u32,
 ) -> Option<&'a NumberedRule>
     requires sound { IsSound numbered.now }
     requires queued { AreQueued older.now.table older.now.keys.keys }
-    requires filed { AreFiled waiting.now.heads.items waiting.now.links.items numbered.now.rules }
-    requires size { 0 < size }
-    requires told { are_told size heard.now (older.now.table ++ numbered.now.atoms) ≡ true }
-    ensures { IsFirstOf (is_ready (whole older.now.table numbered.now))
-        (rule_before numbered.now from) numbered.now.rules (option_copied result) }
+    ensures { IsFirstReady (whole older.now.table numbered.now) from candidates.now
+        (option_copied result) }
 {
-    let best = best_of_newest(numbered, guesses, older, waiting, size, heard, from);
-    best_of_older(numbered, guesses, older, waiting, size, heard, from, best)
+    if candidates.sites.is_empty() {
+        return None;
+    }
+    let first = (from as u64, (0, 0));
+    let later = candidates
+        .sites
+        .range((Bound::Included(first), Bound::Unbounded));
+    match walk_rules(later, numbered, guesses, older) {
+        Some(rule) => Some(rule),
+        None => {
+            let earlier = candidates
+                .sites
+                .range((Bound::Unbounded, Bound::Excluded(first)));
+            walk_rules(earlier, numbered, guesses, older)
+        }
+    }
 }
 
-// The first of the rules that are ready, where there are few messages.
-fn first_by_no_table<'a>(
+// The first of the rules that are ready, of those that are filed at the channel of a newest message
+// and the candidates.
+fn first_watched<'a>(
     numbered: &'a Numbered,
     guesses: &Guesses,
-    older: &Older,
-    waiting: &Waiting,
+    store: &Store,
     from: u32,
 ) -> Option<&'a NumberedRule>
+    requires all { IsSound (whole store.now.older.table numbered.now) }
     requires sound { IsSound numbered.now }
-    requires queued { AreQueued older.now.table older.now.keys.keys }
-    requires filed { AreFiled waiting.now.heads.items waiting.now.links.items numbered.now.rules }
-    ensures { IsFirstOf (is_ready (whole older.now.table numbered.now))
+    requires stored { IsStored numbered.now store.now }
+    ensures { IsFirstOf (is_ready (whole store.now.older.table numbered.now))
         (rule_before numbered.now from) numbered.now.rules (option_copied result) }
 {
-    let heard: [bool; 0] = [];
-    first_waiting(numbered, guesses, older, waiting, 1, &heard, from)
+    let best = best_of_newest(numbered, guesses, store, from);
+    match first_ready(numbered, guesses, &store.older, &store.waiting.ready, from) {
+        Some(rule) => {
+            if is_earlier_rule(numbered, guesses, from, rule, best) {
+                Some(rule)
+            } else {
+                best
+            }
+        }
+        None => best,
+    }
 }
 
-// The same where there are more: by a small table of the channels that have a message.
-fn first_by_small_table<'a>(
-    numbered: &'a Numbered,
-    guesses: &Guesses,
-    older: &Older,
-    waiting: &Waiting,
-    from: u32,
-) -> Option<&'a NumberedRule>
-    requires sound { IsSound numbered.now }
-    requires queued { AreQueued older.now.table older.now.keys.keys }
-    requires filed { AreFiled waiting.now.heads.items waiting.now.links.items numbered.now.rules }
-    ensures { IsFirstOf (is_ready (whole older.now.table numbered.now))
-        (rule_before numbered.now from) numbered.now.rules (option_copied result) }
-{
-    let mut heard = [false; 1024];
-    hear_all(1024, &mut heard, &numbered.atoms);
-    hear_older(1024, &mut heard, &older.keys);
-    first_waiting(numbered, guesses, older, waiting, 1024, &heard, from)
-}
-
-// The same by a large table.
-fn first_by_large_table<'a>(
-    numbered: &'a Numbered,
-    guesses: &Guesses,
-    older: &Older,
-    waiting: &Waiting,
-    from: u32,
-) -> Option<&'a NumberedRule>
-    requires sound { IsSound numbered.now }
-    requires queued { AreQueued older.now.table older.now.keys.keys }
-    requires filed { AreFiled waiting.now.heads.items waiting.now.links.items numbered.now.rules }
-    ensures { IsFirstOf (is_ready (whole older.now.table numbered.now))
-        (rule_before numbered.now from) numbered.now.rules (option_copied result) }
-{
-    let mut heard = [false; 65_536];
-    hear_all(65_536, &mut heard, &numbered.atoms);
-    hear_older(65_536, &mut heard, &older.keys);
-    first_waiting(numbered, guesses, older, waiting, 65_536, &heard, from)
-}
-
-// The first of the rules that are ready. Few rules are all looked at, also where there are many
-// messages for each; of many rules, those that wait for a message that is there.
+// The first of the rules that are ready.
 fn first_rule<'a>(
     numbered: &'a Numbered,
     guesses: &Guesses,
-    older: &Older,
-    waiting: &Waiting,
+    store: &Store,
     from: u32,
 ) -> Option<&'a NumberedRule>
+    requires all { IsSound (whole store.now.older.table numbered.now) }
     requires sound { IsSound numbered.now }
-    requires queued { AreQueued older.now.table older.now.keys.keys }
-    requires filed { AreFiled waiting.now.heads.items waiting.now.links.items numbered.now.rules }
-    ensures { IsFirstOf (is_ready (whole older.now.table numbered.now))
+    requires stored { IsStored numbered.now store.now }
+    ensures { IsFirstOf (is_ready (whole store.now.older.table numbered.now))
         (rule_before numbered.now from) numbered.now.rules (option_copied result) }
 {
-    let kept = older.keys.len();
-    let atoms = numbered.atoms.len().saturating_add(kept);
-    let rules = numbered.rules.len();
-    if rules < 4 || rules < kept / 16 {
-        first_of_few(numbered, guesses, older, from)
-    } else if atoms < 8 {
-        first_by_no_table(numbered, guesses, older, waiting, from)
-    } else if atoms < 128 {
-        first_by_small_table(numbered, guesses, older, waiting, from)
+    if numbered.rules.len() < FEW {
+        first_of_few(numbered, guesses, &store.older, from)
     } else {
-        first_by_large_table(numbered, guesses, older, waiting, from)
+        first_watched(numbered, guesses, store, from)
     }
 }
 
@@ -670,20 +596,109 @@ fn first_request_of<'a>(
     first
 }
 
+// The request for which a key stands, where it is at the key's site and can be met.
+fn request_of<'a>(
+    numbered: &Numbered,
+    guesses: &Guesses,
+    table: &'a AtomTable,
+    key: Key,
+) -> Option<&'a NumberedAtom>
+    requires { IsSound numbered.now }
+    ensures { option_copied result ≡ request_for numbered.now table.now key }
+{
+    let id = AtomId {
+        site: key.1.0,
+        k: key.1.1,
+    };
+    match table.get(id) {
+        Some(atom) => {
+            if root_of(numbered, guesses, atom.loc).site as u64 == key.0
+                && can_act(numbered, guesses, atom)
+            {
+                Some(atom)
+            } else {
+                None
+            }
+        }
+        None => None,
+    }
+}
+
+// The request for which the first key stands that stands for one.
+fn walk_requests<'a>(
+    keys: Range<'_, Key>,
+    numbered: &Numbered,
+    guesses: &Guesses,
+    table: &'a AtomTable,
+) -> Option<&'a NumberedAtom>
+    requires { IsSound numbered.now }
+    ensures { option_copied result ≡ walk (request_for numbered.now table.now) keys.entry }
+{
+    for key in keys {
+        match request_of(numbered, guesses, table, *key) {
+            Some(atom) => return Some(atom),
+            None => {}
+        }
+    }
+    None
+}
+
+// The first of the candidates that can be met.
+fn first_asking<'a>(
+    numbered: &Numbered,
+    guesses: &Guesses,
+    table: &'a AtomTable,
+    candidates: &Candidates,
+    from: u32,
+) -> Option<&'a NumberedAtom>
+    requires { IsSound numbered.now }
+    ensures { IsFirstAsking numbered.now from candidates.now table.now (option_copied result) }
+{
+    if candidates.sites.is_empty() {
+        return None;
+    }
+    table.are_different();
+    let first = (from as u64, (0, 0));
+    let later = candidates
+        .sites
+        .range((Bound::Included(first), Bound::Unbounded));
+    match walk_requests(later, numbered, guesses, table) {
+        Some(atom) => Some(atom),
+        None => {
+            let earlier = candidates
+                .sites
+                .range((Bound::Unbounded, Bound::Excluded(first)));
+            walk_requests(earlier, numbered, guesses, table)
+        }
+    }
+}
+
 // The first of the requests that can be met.
 fn first_request<'a>(
     numbered: &'a Numbered,
     guesses: &Guesses,
-    older: &Older,
+    store: &'a Store,
     from: u32,
 ) -> Option<&'a NumberedAtom>
+    requires all { IsSound (whole store.now.older.table numbered.now) }
     requires sound { IsSound numbered.now }
-    requires queued { AreQueued older.now.table older.now.keys.keys }
-    ensures { IsFirstOf (can_act (whole older.now.table numbered.now))
-        (request_before numbered.now from) (older.now.table ++ numbered.now.atoms)
+    requires stored { IsStored numbered.now store.now }
+    ensures { IsFirstOf (can_act (whole store.now.older.table numbered.now))
+        (request_before numbered.now from) (store.now.older.table ++ numbered.now.atoms)
         (option_copied result) }
 {
-    first_request_of(numbered, guesses, from, numbered.atoms.as_slice())
+    let newest = first_request_of(numbered, guesses, from, numbered.atoms.as_slice());
+    let table = &store.older.table;
+    match first_asking(numbered, guesses, table, &store.asking.ready, from) {
+        Some(atom) => {
+            if is_earlier_request(numbered, guesses, from, atom, newest) {
+                Some(atom)
+            } else {
+                newest
+            }
+        }
+        None => newest,
+    }
 }
 
 // The reaction of a rule, by the least message for each of its patterns.
@@ -742,35 +757,34 @@ pub(crate) fn first_event(
     alloc: Global,
     numbered: &Numbered,
     guesses: &Guesses,
-    older: &Older,
-    waiting: &Waiting,
+    store: &Store,
     from: u32,
 ) -> Result<Option<Found>, Memory>
-    requires all { IsSound (whole older.now.table numbered.now) }
+    requires all { IsSound (whole store.now.older.table numbered.now) }
     requires sound { IsSound numbered.now }
-    requires queued { AreQueued older.now.table older.now.keys.keys }
-    requires filed { AreFiled waiting.now.heads.items waiting.now.links.items numbered.now.rules }
+    requires stored { IsStored numbered.now store.now }
     ensures found { IfOk result (λ found.
-        IsFound (whole older.now.table numbered.now) from found) }
-    ensures memory { OnErr result (IsFound (whole older.now.table numbered.now) from None → ⊥) }
+        IsFound (whole store.now.older.table numbered.now) from found) }
+    ensures memory { OnErr result
+        (IsFound (whole store.now.older.table numbered.now) from None → ⊥) }
 {
-    match first_rule(numbered, guesses, older, waiting, from) {
-        Some(rule) => match first_request(numbered, guesses, older, from) {
+    match first_rule(numbered, guesses, store, from) {
+        Some(rule) => match first_request(numbered, guesses, store, from) {
             Some(request) => {
                 if turn(numbered, guesses, from, request.loc)
                     < turn(numbered, guesses, from, rule.loc)
                 {
                     return Ok(meeting(numbered, guesses, request));
                 }
-                let found = reaction(alloc, numbered, guesses, older, rule)?;
+                let found = reaction(alloc, numbered, guesses, &store.older, rule)?;
                 Ok(Some(found))
             }
             None => {
-                let found = reaction(alloc, numbered, guesses, older, rule)?;
+                let found = reaction(alloc, numbered, guesses, &store.older, rule)?;
                 Ok(Some(found))
             }
         },
-        None => match first_request(numbered, guesses, older, from) {
+        None => match first_request(numbered, guesses, store, from) {
             Some(request) => Ok(meeting(numbered, guesses, request)),
             None => Ok(None),
         },
@@ -778,21 +792,15 @@ pub(crate) fn first_event(
 }
 
 // Whether no event is possible.
-pub(crate) fn is_stuck(
-    numbered: &Numbered,
-    guesses: &Guesses,
-    older: &Older,
-    waiting: &Waiting,
-) -> bool
-    requires all { IsSound (whole older.now.table numbered.now) }
+pub(crate) fn is_stuck(numbered: &Numbered, guesses: &Guesses, store: &Store) -> bool
+    requires all { IsSound (whole store.now.older.table numbered.now) }
     requires sound { IsSound numbered.now }
-    requires queued { AreQueued older.now.table older.now.keys.keys }
-    requires filed { AreFiled waiting.now.heads.items waiting.now.links.items numbered.now.rules }
-    ensures { IsTrue result ↔ IsFound (whole older.now.table numbered.now) 0 None }
+    requires stored { IsStored numbered.now store.now }
+    ensures { IsTrue result ↔ IsFound (whole store.now.older.table numbered.now) 0 None }
 {
-    match first_rule(numbered, guesses, older, waiting, 0) {
+    match first_rule(numbered, guesses, store, 0) {
         Some(_) => false,
-        None => match first_request(numbered, guesses, older, 0) {
+        None => match first_request(numbered, guesses, store, 0) {
             Some(_) => false,
             None => true,
         },

@@ -1,191 +1,342 @@
-// Which rules wait for a message, by the channel of one of their patterns.
-ghost use Rattle.std.specs.Prelude.{◌≡◌, ◌<◌, ◌%◌, ◌⊎◌, length, true, Some, IfSome, IfOk};
-ghost use Rattle.trace_history.specs.inside.Heard.{slot_of};
-ghost use Rattle.trace_history.specs.inside.Waiting.{AreFiled, Chains, IsSlotOf, slot_of_term};
+// Which rules may be ready, and at which channels the others wait for a message.
+ghost use Rattle.std.specs.Prelude.{◌≡◌, ◌≤◌, ◌^◌, ◌⊎◌, [], ◌∷◌, IfSome, OnOk};
+ghost use Rattle.chem_model.specs.Numbered.{standing};
+ghost use Rattle.chem_model.specs.Sound.{IsSound};
+ghost use Rattle.chem_model.specs.Each.{IsIn};
+ghost use Rattle.trace_history.specs.inside.Keys.{Key as TheKey};
+ghost use Rattle.trace_history.specs.inside.Older.{AreQueued};
+ghost use Rattle.trace_history.specs.inside.Watched.{IsBare, IsWatched, AreWatched, no_number};
+ghost use Rattle.trace_history.specs.inside.Watched.{IsWatchedAt};
+ghost use Rattle.trace_history.specs.inside.Watched.{KeepsWaiting};
 
-use crate::heard::slot_of;
-use chem_model::{Memory, Name, Numbered, Pat, Pats, Proc, ProcNode, Ref};
+use crate::candidates::{Candidates, add_candidate, drop_candidate};
+use crate::keys::{
+    Key, NO_NUMBER, add_key, channel_of, drop_key, first_with, has_number, keys_with, number_of,
+};
+use crate::older::Older;
+use crate::search::is_ready;
+use chem_commit::{Guesses, find_rule, is_dead, root_of};
+use chem_model::{Memory, Numbered, NumberedRule, Pat, Pats, RuleId};
 use std::alloc::Global;
+use std::collections::BTreeSet;
 
-// From a slot the places of the rules that wait there, the one noted last first: `heads` has the
-// first place of each slot, and `links` has for each place the next one. A number that is no place
-// ends them.
+// Of the first rules, so many as were noted: those that may be ready by older messages alone, and
+// each other one by the number of a channel of its that has no older message.
 #[derive(Drop)]
 pub(crate) struct Waiting {
-    pub(crate) heads: Vec<u32>,
-    pub(crate) links: Vec<u32>,
+    pub(crate) noted: usize,
+    pub(crate) filed: BTreeSet<Key>,
+    pub(crate) ready: Candidates,
 }
-
-// How many newest messages are looked at where a rule is noted.
-const NEWEST: usize = 64;
 
 impl Waiting {
     // No rule was noted.
-    pub(crate) fn new(alloc: Global) -> Result<Waiting, Memory>
-        ensures some { IfOk result (λ waiting. 0 < length waiting.heads.items) }
-        ensures none { IfOk result (λ waiting. length waiting.links.items ≡ 0) }
+    pub(crate) fn new(alloc: Global) -> Waiting
+        ensures { result.noted ≡ 0 }
     {
-        let heads = vec![in alloc; u32::MAX; 16]?;
-        Ok(Waiting {
-            heads,
-            links: Vec::new(alloc),
-        })
+        Waiting {
+            noted: 0,
+            filed: BTreeSet::new(alloc),
+            ready: Candidates::new(alloc),
+        }
     }
 }
 
-// Whether these are one channel.
-fn is_same(one: Ref, other: Ref) -> bool {
-    match one {
-        Ref::Known(Name::Chan { site, k, .. }) => match other {
-            Ref::Known(
-                Name::Chan {
-                    site: other_site,
-                    k: other_k,
-                    ..
-                },
-            ) => site == other_site && k == other_k,
-            _ => false,
-        },
-        _ => false,
-    }
-}
-
-// Whether one of the newest messages is on a channel.
-fn has_message(numbered: &Numbered, on: Ref) -> bool {
-    let atoms = numbered.atoms.as_slice();
-    let first = atoms.len().saturating_sub(NEWEST);
-    for index in first..atoms.len() {
-        if let Some(atom) = atoms.get(index) {
-            if let ProcNode::Msg { on: other, .. } = atom.term.node() {
-                if is_same(on, *other) {
-                    return true;
-                }
-            }
+// Whether one of the newest messages is on the channel with this number.
+fn is_newest(numbered: &Numbered, number: u64) -> bool {
+    for atom in numbered.atoms.as_slice() {
+        if channel_of(&atom.term) == Some(number) {
+            return true;
         }
     }
     false
 }
 
-// The slot of a pattern's channel, where none was chosen so far or the channel seems to have no
-// message; else the one that was chosen.
-fn chosen_slot(
-    size: u64,
+// The number of a pattern's channel, where it has no older message and is another than `but`, and
+// none was chosen so far or it has no newest message either; else what was chosen.
+fn chosen(
+    older: &Older,
     numbered: &Numbered,
-    few: bool,
     pat: &Pat,
-    chosen: Option<usize>,
-) -> Option<usize>
-    requires { 0 < size }
-    ensures { (result ≡ chosen) ⊎ (result ≡ Some (slot_of size pat.now.on)) }
+    but: u64,
+    found: Option<u64>,
+) -> Option<u64>
+    ensures { (result ≡ found) ⊎ IfSome result (IsBare but older.now.keys.keys (pat.now ∷ [])) }
 {
-    if few || chosen.is_none() || !has_message(numbered, pat.on) {
-        Some(slot_of(size, pat.on))
-    } else {
-        chosen
+    let number = number_of(pat.on);
+    if number == but {
+        return found;
     }
+    if has_number(&older.keys, number) {
+        return found;
+    }
+    if found.is_some() && is_newest(numbered, number) {
+        return found;
+    }
+    Some(number)
 }
 
-// The slot of the channel of one of these patterns: of the last one that seems to have no message.
-fn waiting_slot(size: u64, numbered: &Numbered, pats: &Pats) -> Option<usize>
-    requires { 0 < size }
-    ensures { IfSome result (IsSlotOf size pats.now) }
+// The number of the channel of one of these patterns, which has no older message and is another
+// than `but`.
+fn bare_channel(older: &Older, numbered: &Numbered, pats: &Pats, but: u64) -> Option<u64>
+    ensures { IfSome result (IsBare but older.now.keys.keys pats.now) }
 {
-    let few = pats.len() < 2;
-    let mut chosen = None;
+    let mut found = None;
     for pat in pats.as_slice() {
-        chosen = chosen_slot(size, numbered, few, pat, chosen);
+        found = chosen(older, numbered, pat, but, found);
     }
-    chosen
+    found
 }
 
-// Puts the next place before the others of a slot.
-fn chain(heads: &mut Vec<u32>, links: &mut Vec<u32>, slot: usize) -> Result<(), Memory>
-    ensures { Chains slot heads.old.items links.old.items heads.new.items links.new.items }
+// A rule is filed, but not at the channel `but`, or is a candidate.
+fn watch(
+    waiting: &mut Waiting,
+    numbered: &Numbered,
+    guesses: &Guesses,
+    older: &Older,
+    rule: &NumberedRule,
+    but: u64,
+) -> Result<(), Memory>
+    requires { IsSound numbered.now }
+    ensures watched { OnOk result (IsWatched but (standing numbered.now.places)
+        older.now.keys.keys waiting.new rule.now) }
+    ensures kept { KeepsWaiting waiting.old waiting.new }
 {
-    let place = links.len();
-    if place >= u32::MAX as usize || slot >= heads.len() {
-        return Ok(());
+    let id = (rule.id.site, rule.id.k);
+    match bare_channel(older, numbered, &rule.pats, but) {
+        Some(number) => add_key(&mut waiting.filed, (number, id)),
+        None => {
+            let site = root_of(numbered, guesses, rule.loc).site;
+            add_candidate(&mut waiting.ready, site, rule.loc, id)
+        }
     }
-    links.push(heads[slot])?;
-    heads[slot] = place as u32;
-    Ok(())
 }
 
 // Notes the rule that comes next.
-fn file_next(waiting: &mut Waiting, numbered: &Numbered) -> Result<(), Memory>
-    requires { AreFiled waiting.old.heads.items waiting.old.links.items numbered.now.rules }
-    ensures { AreFiled waiting.new.heads.items waiting.new.links.items numbered.now.rules }
+fn note_next(
+    waiting: &mut Waiting,
+    numbered: &Numbered,
+    guesses: &Guesses,
+    older: &Older,
+) -> Result<(), Memory>
+    requires sound { IsSound numbered.now }
+    requires watched { AreWatched no_number (standing numbered.now.places)
+        older.now.keys.keys waiting.old numbered.now.rules }
+    ensures { AreWatched no_number (standing numbered.now.places)
+        older.now.keys.keys waiting.new numbered.now.rules }
 {
-    let place = waiting.links.as_slice().len();
-    let size = waiting.heads.as_slice().len() as u64;
+    let place = waiting.noted;
     match numbered.rules.as_slice().get(place) {
-        Some(rule) => match waiting_slot(size, numbered, &rule.pats) {
-            Some(slot) => chain(&mut waiting.heads, &mut waiting.links, slot),
-            None => Ok(()),
-        },
+        Some(rule) => {
+            watch(waiting, numbered, guesses, older, rule, NO_NUMBER)?;
+            waiting.noted = place + 1;
+            Ok(())
+        }
         None => Ok(()),
     }
 }
 
-// Makes slots for so many rules, and forgets all that were noted.
-#[tactic(auto, using(crate::proofs::Filed::none_filed))]
-fn make_slots(alloc: Global, waiting: &mut Waiting, numbered: &Numbered) -> Result<(), Memory>
-    requires { AreFiled waiting.old.heads.items waiting.old.links.items numbered.now.rules }
-    ensures { AreFiled waiting.new.heads.items waiting.new.links.items numbered.now.rules }
+// Notes the rules that were not noted yet. On want of memory some of them may not be noted.
+pub(crate) fn note_rules(
+    waiting: &mut Waiting,
+    numbered: &Numbered,
+    guesses: &Guesses,
+    older: &Older,
+) -> Result<(), Memory>
+    requires sound { IsSound numbered.now }
+    requires watched { AreWatched no_number (standing numbered.now.places)
+        older.now.keys.keys waiting.old numbered.now.rules }
+    ensures { AreWatched no_number (standing numbered.now.places)
+        older.now.keys.keys waiting.new numbered.now.rules }
 {
-    let heads = vec![in alloc; u32::MAX; 2 * numbered.rules.len() + 16]?;
-    waiting.heads = heads;
-    waiting.links.clear();
-    Ok(())
-}
-
-// Notes the rules that were not noted yet. Whether or not memory suffices, those that are noted
-// are found.
-pub(crate) fn file(alloc: Global, waiting: &mut Waiting, numbered: &Numbered) -> Result<(), Memory>
-    requires { AreFiled waiting.old.heads.items waiting.old.links.items numbered.now.rules }
-    ensures { AreFiled waiting.new.heads.items waiting.new.links.items numbered.now.rules }
-{
-    let count = numbered.rules.len();
-    if waiting.links.len() >= count {
-        return Ok(());
-    }
-    if count > waiting.heads.len() {
-        make_slots(alloc, waiting, numbered)?;
-    }
-    for _place in waiting.links.len()..count {
-        file_next(waiting, numbered)?;
+    for _place in waiting.noted..numbered.rules.len() {
+        note_next(waiting, numbered, guesses, older)?;
     }
     Ok(())
 }
 
-// The slot of a message's channel.
-pub(crate) fn slot_of_term(size: u64, term: &Proc) -> Option<usize>
-    requires { 0 < size }
-    ensures { result ≡ slot_of_term size term.now }
+// The rule with this number is filed elsewhere than at the channel `but`, or is a candidate.
+fn watch_again(
+    waiting: &mut Waiting,
+    numbered: &Numbered,
+    guesses: &Guesses,
+    older: &Older,
+    id: RuleId,
+    but: u64,
+) -> Result<(), Memory>
+    requires { IsSound numbered.now }
+    ensures watched { OnOk result (IsWatchedAt but (standing numbered.now.places)
+        older.now.keys.keys waiting.new numbered.now.rules id) }
+    ensures kept { KeepsWaiting waiting.old waiting.new }
 {
-    match term.node() {
-        ProcNode::Msg { on, .. } => Some(slot_of(size, *on)),
-        _ => None,
+    match find_rule(numbered, guesses, id) {
+        Some(rule) => watch(waiting, numbered, guesses, older, rule, but),
+        None => Ok(()),
     }
 }
 
-// The slot of a channel with this number.
-pub(crate) fn slot_of_number(size: u64, number: u64) -> Option<usize>
-    requires { 0 < size }
-    ensures { result ≡ Some (number % size) }
+// The rules that are filed at a channel are filed at others, or are candidates.
+pub(crate) fn free_channel(
+    alloc: Global,
+    waiting: &mut Waiting,
+    numbered: &Numbered,
+    guesses: &Guesses,
+    older: &Older,
+    channel: u64,
+) -> Result<(), Memory>
+    requires sound { IsSound numbered.now }
+    requires small { channel ≤ 2 ^ 63 }
+    requires watched { AreWatched no_number (standing numbered.now.places)
+        older.now.keys.keys waiting.old numbered.now.rules }
+    ensures watched { AreWatched no_number (standing numbered.now.places)
+        older.now.keys.keys waiting.new numbered.now.rules }
+    ensures free { OnOk result (AreWatched channel (standing numbered.now.places)
+        older.now.keys.keys waiting.new numbered.now.rules) }
 {
-    Some((number % size) as usize)
+    let filed = keys_with(alloc, &waiting.filed, channel)?;
+    for key in filed.as_slice() {
+        let id = RuleId {
+            site: key.1.0,
+            k: key.1.1,
+        };
+        watch_again(waiting, numbered, guesses, older, id, channel)?;
+    }
+    forget_filed(&mut waiting.filed, filed.as_slice());
+    Ok(())
 }
 
-// Whether these are one slot.
-pub(crate) fn is_same_slot(one: Option<usize>, other: Option<usize>) -> bool
-    ensures { result ≡ true → one ≡ other }
+// Takes these keys out.
+fn forget_filed(filed: &mut BTreeSet<Key>, keys: &[Key])
+    ensures { (k : TheKey) → IsIn k filed.old.keys → IsIn k keys.now ⊎ IsIn k filed.new.keys }
 {
-    match one {
-        Some(slot) => match other {
-            Some(other_slot) => slot == other_slot,
-            None => false,
+    for key in keys {
+        drop_key(filed, *key);
+    }
+}
+
+// A rule that isn't ready is filed, where a channel of its has no older message, and is no
+// candidate any more. False where there is no such channel, or no memory.
+fn file_again(
+    waiting: &mut Waiting,
+    numbered: &Numbered,
+    older: &Older,
+    rule: &NumberedRule,
+    site: u32,
+) -> bool
+    requires sound { IsSound numbered.now }
+    requires there { IsIn rule.now numbered.now.rules }
+    requires watched { AreWatched no_number (standing numbered.now.places)
+        older.now.keys.keys waiting.old numbered.now.rules }
+    ensures { AreWatched no_number (standing numbered.now.places)
+        older.now.keys.keys waiting.new numbered.now.rules }
+{
+    let id = (rule.id.site, rule.id.k);
+    match bare_channel(older, numbered, &rule.pats, NO_NUMBER) {
+        Some(number) => match add_key(&mut waiting.filed, (number, id)) {
+            Ok(()) => {
+                drop_candidate(&mut waiting.ready, site, rule.loc, id);
+                true
+            }
+            Err(_) => false,
         },
-        None => other.is_none(),
+        None => false,
+    }
+}
+
+// Looks at a rule again that is a candidate at this site: where it isn't ready, it is none any
+// more. False where it is ready, or has to stay one.
+fn judge_again(
+    waiting: &mut Waiting,
+    numbered: &Numbered,
+    guesses: &Guesses,
+    older: &Older,
+    rule: &NumberedRule,
+    site: u32,
+) -> bool
+    requires sound { IsSound numbered.now }
+    requires queued { AreQueued older.now.table older.now.keys.keys }
+    requires there { IsIn rule.now numbered.now.rules }
+    requires watched { AreWatched no_number (standing numbered.now.places)
+        older.now.keys.keys waiting.old numbered.now.rules }
+    ensures { AreWatched no_number (standing numbered.now.places)
+        older.now.keys.keys waiting.new numbered.now.rules }
+{
+    if is_ready(numbered, guesses, older, rule) {
+        false
+    } else if is_dead(numbered, guesses, rule.loc) {
+        drop_candidate(
+            &mut waiting.ready,
+            site,
+            rule.loc,
+            (rule.id.site, rule.id.k),
+        );
+        true
+    } else {
+        file_again(waiting, numbered, older, rule, site)
+    }
+}
+
+// Looks at the candidate with this key again. False where it has to stay one.
+fn look_again(
+    waiting: &mut Waiting,
+    numbered: &Numbered,
+    guesses: &Guesses,
+    older: &Older,
+    key: Key,
+) -> bool
+    requires sound { IsSound numbered.now }
+    requires queued { AreQueued older.now.table older.now.keys.keys }
+    requires watched { AreWatched no_number (standing numbered.now.places)
+        older.now.keys.keys waiting.old numbered.now.rules }
+    ensures { AreWatched no_number (standing numbered.now.places)
+        older.now.keys.keys waiting.new numbered.now.rules }
+{
+    let id = RuleId {
+        site: key.1.0,
+        k: key.1.1,
+    };
+    match find_rule(numbered, guesses, id) {
+        Some(rule) => {
+            let site = root_of(numbered, guesses, rule.loc).site;
+            if site as u64 == key.0 {
+                judge_again(waiting, numbered, guesses, older, rule, site)
+            } else {
+                drop_key(&mut waiting.ready.sites, key);
+                true
+            }
+        }
+        None => {
+            drop_key(&mut waiting.ready.sites, key);
+            true
+        }
+    }
+}
+
+// The first candidates of a site that aren't ready any more are none.
+pub(crate) fn tidy_rules(
+    waiting: &mut Waiting,
+    numbered: &Numbered,
+    guesses: &Guesses,
+    older: &Older,
+    site: u32,
+)
+    requires sound { IsSound numbered.now }
+    requires queued { AreQueued older.now.table older.now.keys.keys }
+    requires watched { AreWatched no_number (standing numbered.now.places)
+        older.now.keys.keys waiting.old numbered.now.rules }
+    ensures { AreWatched no_number (standing numbered.now.places)
+        older.now.keys.keys waiting.new numbered.now.rules }
+{
+    let mut left = waiting.ready.sites.len();
+    while left > 0 {
+        left -= 1;
+        match first_with(&waiting.ready.sites, site as u64) {
+            Some(key) => {
+                if !look_again(waiting, numbered, guesses, older, key) {
+                    return;
+                }
+            }
+            None => return,
+        }
     }
 }

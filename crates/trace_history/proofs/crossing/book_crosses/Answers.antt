@@ -4,4 +4,4 @@ use Rattle.trace_history.proofs.crossing.book_crosses.Goals as goal
 
 pub returns : goal.returns
 returns c = book_send c.program_crosses.ensures c.journal_crosses.ensures c.numbered_crosses.ensures
-    c.older_crosses.ensures c.guesses_cross.ensures c.waiting_crosses.ensures
+    c.guesses_cross.ensures c.store_crosses.ensures

@@ -1,7 +1,8 @@
-use Rattle.std.proofs.Common.{sym, subst, List}
+use Rattle.std.proofs.Common.{inr, sym, subst, List}
 use Rattle.chem_model.specs.Each.{IsIn}
-use Rattle.trace_history.specs.inside.Older.{Key}
+use Rattle.trace_history.specs.inside.Keys.{Key}
 use Rattle.trace_history.proofs.KeyLaws.{added, kept}
+use Rattle.trace_history.proofs.Only.{only_added}
 use Rattle.trace_history.proofs.keys.add_key.Goals as goal
 
 pub returns-in-Ok-clause-there : goal.returns-in-Ok-clause-there
@@ -11,3 +12,15 @@ returns-in-Ok-clause-there c = subst (λ (ks : List Key). IsIn c.args.key ks)
 pub returns-in-Ok-clause-kept : goal.returns-in-Ok-clause-kept
 returns-in-Ok-clause-kept c = λ k at. subst (λ (ks : List Key). IsIn k ks)
     (sym c.in-Ok.ensures.keys) (kept c.args.key c.args.keys.now.keys k at)
+
+pub returns-in-Err-clause-kept : goal.returns-in-Err-clause-kept
+returns-in-Err-clause-kept c = λ k at. subst (λ (ks : List Key). IsIn k ks)
+    (sym c.in-Err.ensures.err) at
+
+pub returns-in-Ok-clause-only : goal.returns-in-Ok-clause-only
+returns-in-Ok-clause-only c = λ k at. only_added c.args.key c.args.keys.now.keys k
+    (subst (λ (ks : List Key). IsIn k ks) c.in-Ok.ensures.keys at)
+
+pub returns-in-Err-clause-only : goal.returns-in-Err-clause-only
+returns-in-Err-clause-only c = λ k at. inr (subst (λ (ks : List Key). IsIn k ks)
+    c.in-Err.ensures.err at)

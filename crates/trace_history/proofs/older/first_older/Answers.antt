@@ -4,25 +4,21 @@ use Rattle.std.specs.Option.{option_copied}
 use Rattle.std.specs.List.{filter}
 use Rattle.trace_history.specs.inside.Walk.{walk}
 use Rattle.trace_history.specs.inside.Older.{find_at}
-use Rattle.trace_history.proofs.Queued.{is_high, first_queued, none_queued, none_there}
+use Rattle.trace_history.proofs.Queued.{is_high, first_queued, none_there}
 use Rattle.trace_history.proofs.older.first_older.Goals as goal
 
 pub returns-then-is_empty : goal.returns-then-is_empty
 returns-then-is_empty c = none_there c.args.at c.args.pat.now c.args.older.now.table
     c.args.older.now.keys.keys c.requires (c.is_empty.ensures.0 c.if-is_empty.true)
 
-pub returns-in-Some : goal.returns-in-Some
-returns-in-Some c =
+pub returns : goal.returns
+returns c =
     let old = c.args.older.now.table in
     let ks = c.args.older.now.keys.keys in
     let find = find_at c.args.at c.args.pat.now old in
-    let n = c.in-Some.number in
+    let n = c.number_of-number.result in
     let along : walk find (filter (is_high (n + 1) n) ks) ≡ option_copied c.walk.result =
     sym (ap (walk find) (c.range-keys.ensures.between tt)) ∙ sym c.walk.ensures in
-    first_queued c.args.at c.args.pat.now old n (sym c.in-Some.ensures.is) ks
+    first_queued c.args.at c.args.pat.now old n (sym c.number_of-number.ensures.is) ks
     c.are_different.ensures c.requires c.range-keys.ensures.ordered (option_copied c.walk.result)
     along
-
-pub returns-in-None : goal.returns-in-None
-returns-in-None c = none_queued c.args.at c.args.pat.now c.args.older.now.table
-    c.args.older.now.keys.keys c.requires (sym c.in-None.ensures.is)

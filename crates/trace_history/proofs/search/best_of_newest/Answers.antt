@@ -1,29 +1,31 @@
--- The rules that wait for one message more were looked at.
-use Rattle.std.proofs.Common.{◌≡◌, ℕ, length, ap, ◌∙◌, rules}
+-- The rules that are filed at the channel of one message more were looked at.
 use Rattle.std.specs.Option.{option_copied}
 use Rattle.trace_history.specs.inside.Older.{whole}
-use Rattle.trace_history.specs.inside.Waiting.{slot_of_term}
-use Rattle.trace_history.proofs.Looked.{next_so_far, newest_at_end}
+use Rattle.trace_history.proofs.Looked.{none_so_far, next_so_far, newest_at_end}
 use Rattle.trace_history.proofs.search.best_of_newest.Goals as goal
+
+pub best_of_next-best-requires-clause-last : goal.best_of_next-best-requires-clause-last
+best_of_next-best-requires-clause-last c = c.loop-atom.invariant.channel
+
+pub loop-atom-init : goal.loop-atom-init
+loop-atom-init c =
+    none_so_far (whole c.args.store.now.older.table c.args.numbered.now) c.args.from
+    c.args.store.now.waiting c.as_slice-atom-items.result.now
+    (option_copied c.best_of_rest-best.result)
+    c.best_of_rest-best.ensures.better c.best_of_rest-best.ensures.passed
 
 pub loop-atom-preserved : goal.loop-atom-preserved
 loop-atom-preserved c =
-    let n = whole c.args.older.now.table c.args.numbered.now in
-    let heads = c.args.waiting.now.heads.items in
-    let a = c.atom-item.result in
-    let sized : length c.as_slice.result.now ≡ length heads = search rules in
-    next_so_far n c.args.from heads c.args.waiting.now.links.items c.as_slice-atom-items.result.now
+    next_so_far (whole c.args.store.now.older.table c.args.numbered.now) c.args.from
+    c.args.store.now.waiting c.as_slice-atom-items.result.now
     c.loop-atom.atom-index c.loop-atom.last (option_copied c.loop-atom.best)
-    (option_copied c.best_of_next_slot-best.result) a c.slot_of_term-slot.result
-    c.loop-atom-test.true c.atom-item.is
-    (c.slot_of_term-slot.ensures ∙ ap (λ (k : ℕ). slot_of_term k a.term) sized)
-    c.best_of_next_slot-best.ensures.better c.best_of_next_slot-best.ensures.looked
-    c.loop-atom.invariant
+    (option_copied c.best_of_next-best.result) c.atom-item.result c.channel_of-channel.result
+    c.loop-atom-test.true c.atom-item.is c.channel_of-channel.ensures.is
+    c.best_of_next-best.ensures.better c.best_of_next-best.ensures.passed c.loop-atom.invariant
 
 pub returns : goal.returns
 returns c =
-    newest_at_end (whole c.args.older.now.table c.args.numbered.now)
-    c.args.from c.args.waiting.now.heads.items c.args.waiting.now.links.items
-    c.args.numbered.now.atoms c.as_slice-atom-items.result.now c.loop-atom.atom-index
-    c.loop-atom.last (option_copied c.loop-atom.best)
+    newest_at_end (whole c.args.store.now.older.table c.args.numbered.now) c.args.from
+    c.args.store.now.waiting c.args.numbered.now.atoms c.as_slice-atom-items.result.now
+    c.loop-atom.atom-index c.loop-atom.last (option_copied c.loop-atom.best)
     c.as_slice-atom-items.ensures.members c.loop-atom-test.false c.loop-atom.invariant

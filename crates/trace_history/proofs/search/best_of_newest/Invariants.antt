@@ -4,5 +4,5 @@ use Rattle.trace_history.proofs.Looked.{SoFar}
 use Rattle.trace_history.proofs.search.best_of_newest.Given as goal
 
 abbrev pub invariant-loop-atom : goal.invariant-loop-atom
-invariant-loop-atom l = SoFar (whole l.older.table l.numbered) l.from l.waiting.heads.items
-    l.waiting.links.items l.atom-items l.atom-index l.last (option_copied l.best)
+invariant-loop-atom l = SoFar (whole l.store.older.table l.numbered) l.from l.store.waiting
+    l.atom-items l.atom-index l.last (option_copied l.best)

@@ -1,17 +1,26 @@
--- The rule is taken where it is better.
-use Rattle.std.proofs.Common.{List, sym, ◌∙◌, subst}
+-- The rule with the number was looked at, where there is one.
+use Rattle.std.proofs.Common.{sym}
 use Rattle.std.specs.Option.{option_copied}
-use Rattle.chem_model.specs.declared.numbered.NumberedRule.{NumberedRule}
-use Rattle.trace_history.specs.inside.Waiting.{IsAt}
 use Rattle.trace_history.specs.inside.Older.{whole}
-use Rattle.trace_history.proofs.Looked.{taken_better}
+use Rattle.trace_history.proofs.Looked.{betters_same, passed_found, passed_absent}
+use Rattle.trace_history.proofs.Stands.{rule_in}
 use Rattle.trace_history.proofs.search.better_at.Goals as goal
 
-pub returns-then-is_better-clause-better : goal.returns-then-is_better-clause-better
-returns-then-is_better-clause-better c =
-    let n = whole c.args.older.now.table c.args.numbered.now in
-    let r = c.in-Some.rule.now in
-    let at : IsAt n.rules c.args.place r = subst (λ (l : List NumberedRule). IsAt l c.args.place r)
-    c.as_slice.ensures.members (c.in-Some.ensures.lookup.3.0, c.in-Some.ensures.lookup.1) in
-    taken_better n c.args.from (option_copied c.args.found) c.args.place r at
-    (sym c.is_better.ensures ∙ c.if-is_better.true)
+pub better-requires-clause-there : goal.better-requires-clause-there
+better-requires-clause-there c =
+    rule_in c.args.numbered.now.rules c.args.id c.in-Some.rule.now (sym c.in-Some.ensures)
+
+pub returns-in-Some-clause-passed : goal.returns-in-Some-clause-passed
+returns-in-Some-clause-passed c =
+    passed_found (whole c.args.older.now.table c.args.numbered.now) c.args.from
+    (option_copied c.better.result) c.args.id c.in-Some.rule.now c.in-Some.ensures
+    c.better.ensures.passed
+
+pub returns-in-None-clause-better : goal.returns-in-None-clause-better
+returns-in-None-clause-better c = betters_same
+    (whole c.args.older.now.table c.args.numbered.now) c.args.from (option_copied c.args.found)
+
+pub returns-in-None-clause-passed : goal.returns-in-None-clause-passed
+returns-in-None-clause-passed c =
+    passed_absent (whole c.args.older.now.table c.args.numbered.now) c.args.from
+    (option_copied c.args.found) c.args.id c.in-None.ensures

@@ -9,7 +9,7 @@ use Rattle.trace_history.proofs.search.first_event.Goals as goal
 
 pub returns-then-turn-clause-found : goal.returns-then-turn-clause-found
 returns-then-turn-clause-found c =
-    let n = whole c.args.older.now.table c.args.numbered.now in
+    let n = whole c.args.store.now.older.table c.args.numbered.now in
     let request = c.in-Some-first_request.request.now in
     let rule = c.in-Some.rule.now in
     let low : turn n c.args.from request.loc < turn n c.args.from rule.loc =
@@ -23,7 +23,7 @@ returns-then-turn-clause-found c =
 pub returns-in_ok-found-in-Some-first_request-clause-found :
     goal.returns-in_ok-found-in-Some-first_request-clause-found
 returns-in_ok-found-in-Some-first_request-clause-found c =
-    let n = whole c.args.older.now.table c.args.numbered.now in
+    let n = whole c.args.store.now.older.table c.args.numbered.now in
     let request = c.in-Some-first_request.request.now in
     let rule = c.in-Some.rule.now in
     let low : turn n c.args.from rule.loc ≤ turn n c.args.from request.loc =
@@ -37,7 +37,7 @@ returns-in_ok-found-in-Some-first_request-clause-found c =
 pub returns-in_ok-found-in-None-first_request-clause-found :
     goal.returns-in_ok-found-in-None-first_request-clause-found
 returns-in_ok-found-in-None-first_request-clause-found c =
-    let n = whole c.args.older.now.table c.args.numbered.now in
+    let n = whole c.args.store.now.older.table c.args.numbered.now in
     let rule = c.in-Some.rule.now in
     reaction_found n c.requires.all c.args.from rule None
     c.in-Some.ensures c.in-None-first_request.ensures
@@ -46,7 +46,7 @@ returns-in_ok-found-in-None-first_request-clause-found c =
 
 pub returns-in-Some-first_request-2-clause-found : goal.returns-in-Some-first_request-2-clause-found
 returns-in-Some-first_request-2-clause-found c =
-    let n = whole c.args.older.now.table c.args.numbered.now in
+    let n = whole c.args.store.now.older.table c.args.numbered.now in
     let request = c.in-Some-first_request-2.request.now in
     meeting_found n c.requires.all c.args.from request None
     c.in-None.ensures c.in-Some-first_request-2.ensures
@@ -55,18 +55,18 @@ returns-in-Some-first_request-2-clause-found c =
 
 pub returns-in-None-first_request-2-clause-found : goal.returns-in-None-first_request-2-clause-found
 returns-in-None-first_request-2-clause-found c =
-    none_possible (whole c.args.older.now.table c.args.numbered.now)
+    none_possible (whole c.args.store.now.older.table c.args.numbered.now)
     c.requires.all c.args.from c.in-None.ensures c.in-None-first_request-2.ensures
 
 pub returns-in_err-found-in-Some-first_request-clause-memory :
     goal.returns-in_err-found-in-Some-first_request-clause-memory
 returns-in_err-found-in-Some-first_request-clause-memory c =
-    ready_on_err c.from_residual.result (whole c.args.older.now.table c.args.numbered.now)
+    ready_on_err c.from_residual.result (whole c.args.store.now.older.table c.args.numbered.now)
     c.requires.all c.args.from c.in-Some.rule.now c.in-Some.ensures
 
 pub returns-in_err-found-in-None-first_request-clause-memory :
     goal.returns-in_err-found-in-None-first_request-clause-memory
 returns-in_err-found-in-None-first_request-clause-memory c =
     ready_on_err c.from_residual-in_err-found-in-None-first_request.result
-    (whole c.args.older.now.table c.args.numbered.now)
+    (whole c.args.store.now.older.table c.args.numbered.now)
     c.requires.all c.args.from c.in-Some.rule.now c.in-Some.ensures

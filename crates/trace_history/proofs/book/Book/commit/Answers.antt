@@ -3,19 +3,44 @@ use Rattle.std.proofs.Common.{◌≡◌, Some, None, [], ◌∷◌, ℕ, List, l
 use Rattle.std.proofs.Common.{is_some}
 use Rattle.std.proofs.Math.Seq.{take-append_seam}
 use Rattle.chem_model.specs.declared.event.Event.{Event}
+use Rattle.chem_model.specs.declared.numbered.NumberedAtom.{NumberedAtom}
 use Rattle.chem_model.specs.declared.numbered.Numbered.{Numbered}
 use Rattle.chem_model.specs.Sound.{IsSound}
 use Rattle.chem_model.specs.Apply.{apply, replay}
 use Rattle.trace_history.specs.Kept.{BookKept, solution}
-use Rattle.trace_history.specs.inside.Older.{Holds}
-use Rattle.trace_history.specs.inside.Waiting.{AreFiled}
+use Rattle.trace_history.specs.inside.Older.{Holds, whole}
+use Rattle.trace_history.specs.declared.older.Older.{Older}
 use Rattle.trace_history.proofs.Replays.{replaced, replay_pushed, unchanged}
-use Rattle.trace_history.proofs.Holding.{holds_on, left_sound, base_sound, event_made}
+use Rattle.trace_history.proofs.Committing.{moved_holds, stored_as}
+use Rattle.trace_history.proofs.Holding.{left_sound, whole_sound, base_sound, sound_rest}
+use Rattle.trace_history.proofs.Holding.{sound_made, event_made}
 use Rattle.trace_history.proofs.Holding.{event_not_made, not_replaced, enabled_in, commits_place}
 use Rattle.trace_history.proofs.Holding.{commits_none}
 use Rattle.trace_history.proofs.Quiets.{one_reduction}
-use Rattle.trace_history.proofs.Behind.{filed_after}
 use Rattle.trace_history.proofs.book.Book.commit.Goals as goal
+
+pub ready-requires-clause-sound : goal.ready-requires-clause-sound
+ready-requires-clause-sound c =
+    let sound : (m : Numbered) → replay c.self.inside.program c.self.inside.journal ≡ Some m
+    → IsSound m =
+    subst (λ (b : BookKept). (m : Numbered) → solution b ≡ Some m → IsSound m) (sym c.self.view_is)
+    c.is_sound.ensures in
+    whole_sound (replay c.self.inside.program c.self.inside.journal)
+    c.self.inside.store.older.table c.self.inside.solution c.self.invariant.0 sound
+
+pub site_of-site-requires : goal.site_of-site-requires
+site_of-site-requires c =
+    let sound : (m : Numbered) → replay c.self.inside.program c.self.inside.journal ≡ Some m
+    → IsSound m =
+    subst (λ (b : BookKept). (m : Numbered) → solution b ≡ Some m → IsSound m) (sym c.self.view_is)
+    c.is_sound.ensures in
+    let o = replay c.self.inside.program c.self.inside.journal in
+    let store = c.ready.new.store in
+    let old = store.older.table in
+    let n = c.ready.new.solution in
+    let h : Holds o old n = moved_holds o c.self.inside.solution n c.self.inside.store store
+    c.self.invariant.0 c.in_ok-ready.ensures.moves in
+    base_sound o old n h sound
 
 pub make_event-requires : goal.make_event-requires
 make_event-requires c =
@@ -24,10 +49,11 @@ make_event-requires c =
     subst (λ (b : BookKept). (m : Numbered) → solution b ≡ Some m → IsSound m) (sym c.self.view_is)
     c.is_sound.ensures in
     let o = replay c.self.inside.program c.self.inside.journal in
-    let old = c.ready.new.older.table in
-    let n : Numbered = record c.self.inside.solution { atoms = c.ready.new.atoms } in
-    let h : Holds o old n = holds_on o c.self.inside.older.table old
-    c.ready.new.atoms c.self.inside.solution c.self.invariant.0 c.in_ok-ready.ensures.keeps in
+    let store = c.ready.new.store in
+    let old = store.older.table in
+    let n = c.ready.new.solution in
+    let h : Holds o old n = moved_holds o c.self.inside.solution n c.self.inside.store store
+    c.self.invariant.0 c.in_ok-ready.ensures.moves in
     base_sound o old n h sound
 
 pub invariant_of-self-in-Ok-true : goal.invariant_of-self-in-Ok-true
@@ -37,10 +63,11 @@ invariant_of-self-in-Ok-true c =
     subst (λ (b : BookKept). (m : Numbered) → solution b ≡ Some m → IsSound m) (sym c.self.view_is)
     c.is_sound.ensures in
     let o = replay c.self.inside.program c.self.inside.journal in
-    let old = c.ready.new.older.table in
-    let n : Numbered = record c.self.inside.solution { atoms = c.ready.new.atoms } in
-    let h : Holds o old n = holds_on o c.self.inside.older.table old
-    c.ready.new.atoms c.self.inside.solution c.self.invariant.0 c.in_ok-ready.ensures.keeps in
+    let store = c.ready.new.store in
+    let old = store.older.table in
+    let n = c.ready.new.solution in
+    let h : Holds o old n = moved_holds o c.self.inside.solution n c.self.inside.store store
+    c.self.invariant.0 c.in_ok-ready.ensures.moves in
     let e = c.args.event.now in
     let after = c.make_event.new.solution in
     let made : apply n e ≡ Some after =
@@ -50,11 +77,37 @@ invariant_of-self-in-Ok-true c =
     let pushed : replay c.self.inside.program c.push.new.self ≡ Some m.after =
     replay_pushed c.self.inside.program c.self.inside.journal c.push.new.self e c.in_ok-copy.copy
     h.left m.after h.replays c.in_ok-push.ensures.ok c.in_ok-copy.ensures m.applied in (
-      m.holds (replay c.self.inside.program c.push.new.self) pushed,
-      filed_after c.file.new.waiting.heads.items c.file.new.waiting.links.items n after e made
-          c.file.ensures,
-      c.in_ok-ready.ensures.queued,
+      subst (λ (xs : List NumberedAtom).
+          Holds (replay c.self.inside.program c.push.new.self) xs after)
+          (ap (λ (x : Older). x.table) (sym c.tidy.ensures.older))
+          (m.holds (replay c.self.inside.program c.push.new.self) pushed),
+      c.tidy.ensures.stored,
     )
+
+pub tidy-requires : goal.tidy-requires
+tidy-requires c =
+    let sound : (m : Numbered) → replay c.self.inside.program c.self.inside.journal ≡ Some m
+    → IsSound m =
+    subst (λ (b : BookKept). (m : Numbered) → solution b ≡ Some m → IsSound m) (sym c.self.view_is)
+    c.is_sound.ensures in
+    let o = replay c.self.inside.program c.self.inside.journal in
+    let store = c.ready.new.store in
+    let old = store.older.table in
+    let n = c.ready.new.solution in
+    let h : Holds o old n = moved_holds o c.self.inside.solution n c.self.inside.store store
+    c.self.invariant.0 c.in_ok-ready.ensures.moves in
+    let e = c.args.event.now in
+    let after = c.make_event.new.solution in
+    let made : apply n e ≡ Some after =
+    replaced _ n after c.in-Ok-true.field-0 c.in-Ok-true.ensures.done c.in-Ok-true.field-0-test in
+    let all : IsSound (whole old after) =
+    sound_made o old n h sound c.event_is_a_reduction.ensures e after
+    c.in_ok-ready.ensures.gone made
+    in record {
+      sound = all;
+      base = sound_rest old after all;
+      stored = c.in_ok-ready.ensures.after after made;
+    }
 
 pub returns-in-Ok-true-clause-done : goal.returns-in-Ok-true-clause-done
 returns-in-Ok-true-clause-done c =
@@ -63,10 +116,11 @@ returns-in-Ok-true-clause-done c =
     subst (λ (b : BookKept). (m : Numbered) → solution b ≡ Some m → IsSound m) (sym c.self.view_is)
     c.is_sound.ensures in
     let o = replay c.self.inside.program c.self.inside.journal in
-    let old = c.ready.new.older.table in
-    let n : Numbered = record c.self.inside.solution { atoms = c.ready.new.atoms } in
-    let h : Holds o old n = holds_on o c.self.inside.older.table old
-    c.ready.new.atoms c.self.inside.solution c.self.invariant.0 c.in_ok-ready.ensures.keeps in
+    let store = c.ready.new.store in
+    let old = store.older.table in
+    let n = c.ready.new.solution in
+    let h : Holds o old n = moved_holds o c.self.inside.solution n c.self.inside.store store
+    c.self.invariant.0 c.in_ok-ready.ensures.moves in
     let e = c.args.event.now in
     let after = c.make_event.new.solution in
     let made : apply n e ≡ Some after =
@@ -86,10 +140,11 @@ returns-in-Ok-true-clause-reduction c =
     subst (λ (b : BookKept). (m : Numbered) → solution b ≡ Some m → IsSound m) (sym c.self.view_is)
     c.is_sound.ensures in
     let o = replay c.self.inside.program c.self.inside.journal in
-    let old = c.ready.new.older.table in
-    let n : Numbered = record c.self.inside.solution { atoms = c.ready.new.atoms } in
-    let h : Holds o old n = holds_on o c.self.inside.older.table old
-    c.ready.new.atoms c.self.inside.solution c.self.invariant.0 c.in_ok-ready.ensures.keeps in
+    let store = c.ready.new.store in
+    let old = store.older.table in
+    let n = c.ready.new.solution in
+    let h : Holds o old n = moved_holds o c.self.inside.solution n c.self.inside.store store
+    c.self.invariant.0 c.in_ok-ready.ensures.moves in
     let e = c.args.event.now in
     let after = c.make_event.new.solution in
     let made : apply n e ≡ Some after =
@@ -107,10 +162,11 @@ returns-in-Ok-true-clause-reduction c =
 pub invariant_of-self-in-Ok-false : goal.invariant_of-self-in-Ok-false
 invariant_of-self-in-Ok-false c =
     let o = replay c.self.inside.program c.self.inside.journal in
-    let old = c.ready.new.older.table in
-    let n : Numbered = record c.self.inside.solution { atoms = c.ready.new.atoms } in
-    let h : Holds o old n = holds_on o c.self.inside.older.table old
-    c.ready.new.atoms c.self.inside.solution c.self.invariant.0 c.in_ok-ready.ensures.keeps in
+    let store = c.ready.new.store in
+    let old = store.older.table in
+    let n = c.ready.new.solution in
+    let h : Holds o old n = moved_holds o c.self.inside.solution n c.self.inside.store store
+    c.self.invariant.0 c.in_ok-ready.ensures.moves in
     let journal = c.self.inside.journal in
     let back : c.truncate.new.self ≡ journal =
     c.truncate.ensures ∙ ap (λ (k : ℕ). take k c.push.new.self) c.len-place.ensures.count
@@ -122,10 +178,7 @@ invariant_of-self-in-Ok-false c =
       subst
           (λ (l : List Event). Holds (replay c.self.inside.program l) old c.make_event.new.solution)
           (sym back) (subst (λ (x : Numbered). Holds o old x) same h),
-      subst (λ (x : Numbered).
-          AreFiled c.file.new.waiting.heads.items c.file.new.waiting.links.items x.rules) same
-          c.file.ensures,
-      c.in_ok-ready.ensures.queued,
+      stored_as n c.make_event.new.solution store same c.in_ok-ready.ensures.stored,
     )
 
 pub returns-in-Ok-false-clause-done : goal.returns-in-Ok-false-clause-done
@@ -135,10 +188,11 @@ returns-in-Ok-false-clause-done c =
     subst (λ (b : BookKept). (m : Numbered) → solution b ≡ Some m → IsSound m) (sym c.self.view_is)
     c.is_sound.ensures in
     let o = replay c.self.inside.program c.self.inside.journal in
-    let old = c.ready.new.older.table in
-    let n : Numbered = record c.self.inside.solution { atoms = c.ready.new.atoms } in
-    let h : Holds o old n = holds_on o c.self.inside.older.table old
-    c.ready.new.atoms c.self.inside.solution c.self.invariant.0 c.in_ok-ready.ensures.keeps in
+    let store = c.ready.new.store in
+    let old = store.older.table in
+    let n = c.ready.new.solution in
+    let h : Holds o old n = moved_holds o c.self.inside.solution n c.self.inside.store store
+    c.self.invariant.0 c.in_ok-ready.ensures.moves in
     let journal = c.self.inside.journal in
     let back : c.truncate.new.self ≡ journal =
     c.truncate.ensures ∙ ap (λ (k : ℕ). take k c.push.new.self) c.len-place.ensures.count
@@ -156,10 +210,11 @@ returns-in-Ok-false-clause-done c =
 pub invariant_of-self-in-Err : goal.invariant_of-self-in-Err
 invariant_of-self-in-Err c =
     let o = replay c.self.inside.program c.self.inside.journal in
-    let old = c.ready.new.older.table in
-    let n : Numbered = record c.self.inside.solution { atoms = c.ready.new.atoms } in
-    let h : Holds o old n = holds_on o c.self.inside.older.table old
-    c.ready.new.atoms c.self.inside.solution c.self.invariant.0 c.in_ok-ready.ensures.keeps in
+    let store = c.ready.new.store in
+    let old = store.older.table in
+    let n = c.ready.new.solution in
+    let h : Holds o old n = moved_holds o c.self.inside.solution n c.self.inside.store store
+    c.self.invariant.0 c.in_ok-ready.ensures.moves in
     let journal = c.self.inside.journal in
     let back : c.truncate-in-Err.new.self ≡ journal =
     c.truncate-in-Err.ensures ∙ ap (λ (k : ℕ). take k c.push.new.self) c.len-place.ensures.count
@@ -169,8 +224,5 @@ invariant_of-self-in-Err c =
       subst
           (λ (l : List Event). Holds (replay c.self.inside.program l) old c.make_event.new.solution)
           (sym back) (subst (λ (x : Numbered). Holds o old x) same h),
-      subst (λ (x : Numbered).
-          AreFiled c.file.new.waiting.heads.items c.file.new.waiting.links.items x.rules) same
-          c.file.ensures,
-      c.in_ok-ready.ensures.queued,
+      stored_as n c.make_event.new.solution store same c.in_ok-ready.ensures.stored,
     )

@@ -14,7 +14,7 @@ returns c =
     subst (λ (b : BookKept). (m : Numbered) → solution b ≡ Some m → IsSound m) (sym c.self.view_is)
     c.is_sound.ensures in
     let o = replay c.self.inside.program c.self.inside.journal in
-    let old = c.self.inside.older.table in
+    let old = c.self.inside.store.older.table in
     let n = c.self.inside.solution in
     let h = c.self.invariant.0 in
     let leads : solution c.args.self.now ≡ Some h.left = rw (← c.self.view_is) h.replays in

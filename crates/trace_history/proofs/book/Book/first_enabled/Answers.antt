@@ -20,7 +20,7 @@ first_event-requires-clause-all c =
     subst (λ (b : BookKept). (m : Numbered) → solution b ≡ Some m → IsSound m) (sym c.self.view_is)
     c.is_sound.ensures in
     let o = replay c.self.inside.program c.self.inside.journal in
-    let old = c.self.inside.older.table in
+    let old = c.self.inside.store.older.table in
     let n = c.self.inside.solution in
     let h = c.self.invariant.0 in
     whole_sound o old n h sound
@@ -32,7 +32,7 @@ first_event-requires-clause-sound c =
     subst (λ (b : BookKept). (m : Numbered) → solution b ≡ Some m → IsSound m) (sym c.self.view_is)
     c.is_sound.ensures in
     let o = replay c.self.inside.program c.self.inside.journal in
-    let old = c.self.inside.older.table in
+    let old = c.self.inside.store.older.table in
     let n = c.self.inside.solution in
     let h = c.self.invariant.0 in
     base_sound o old n h sound
@@ -44,7 +44,7 @@ returns-clause-first c =
     subst (λ (b : BookKept). (m : Numbered) → solution b ≡ Some m → IsSound m) (sym c.self.view_is)
     c.is_sound.ensures in
     let o = replay c.self.inside.program c.self.inside.journal in
-    let old = c.self.inside.older.table in
+    let old = c.self.inside.store.older.table in
     let n = c.self.inside.solution in
     let h = c.self.invariant.0 in
     let leads : solution c.args.self.now ≡ Some h.left = rw (← c.self.view_is) h.replays in
@@ -60,7 +60,7 @@ returns-clause-site c =
     subst (λ (b : BookKept). (m : Numbered) → solution b ≡ Some m → IsSound m) (sym c.self.view_is)
     c.is_sound.ensures in
     let o = replay c.self.inside.program c.self.inside.journal in
-    let old = c.self.inside.older.table in
+    let old = c.self.inside.store.older.table in
     let n = c.self.inside.solution in
     let h = c.self.invariant.0 in
     let leads : solution c.args.self.now ≡ Some h.left = rw (← c.self.view_is) h.replays in
@@ -76,7 +76,7 @@ returns-clause-memory c =
     subst (λ (b : BookKept). (m : Numbered) → solution b ≡ Some m → IsSound m) (sym c.self.view_is)
     c.is_sound.ensures in
     let o = replay c.self.inside.program c.self.inside.journal in
-    let old = c.self.inside.older.table in
+    let old = c.self.inside.store.older.table in
     let n = c.self.inside.solution in
     let h = c.self.invariant.0 in
     let leads : solution c.args.self.now ≡ Some h.left = rw (← c.self.view_is) h.replays in
