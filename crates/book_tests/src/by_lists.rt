@@ -133,7 +133,7 @@ fn or_event(solution: &Numbered, from: u32, found: Option<Found>, event: Event) 
 }
 
 // The list with one more message.
-fn with_one_more(alloc: Global, list: &Atoms, id: AtomId) -> Result<Atoms, Memory> {
+pub fn with_one_more(alloc: Global, list: &Atoms, id: AtomId) -> Result<Atoms, Memory> {
     let mut copy = list.copy(alloc)?;
     copy.push(id)?;
     Ok(copy)
@@ -177,7 +177,11 @@ fn one_empty(alloc: Global) -> Result<Vec<Atoms>, AllocError> {
 }
 
 // All lists of messages that a rule receives, one for each pattern.
-fn received(alloc: Global, solution: &Numbered, rule: &NumberedRule) -> Result<Vec<Atoms>, Memory> {
+pub fn received(
+    alloc: Global,
+    solution: &Numbered,
+    rule: &NumberedRule,
+) -> Result<Vec<Atoms>, Memory> {
     let mut lists = one_empty(alloc)?;
     for pat in rule.pats.as_slice() {
         lists = lengthened(alloc, solution, rule.loc, pat, lists.as_slice())?;

@@ -2,6 +2,8 @@
 #![tactic(auto)]
 
 #[cfg(test)]
+mod any;
+#[cfg(test)]
 mod books;
 #[cfg(test)]
 mod both;
@@ -9,6 +11,16 @@ mod both;
 mod by_lists;
 #[cfg(test)]
 mod calling;
+#[cfg(test)]
+mod crowds;
+#[cfg(test)]
+mod ending;
+#[cfg(test)]
+mod kept;
+#[cfg(test)]
+mod many;
+#[cfg(test)]
+mod pieces;
 #[cfg(test)]
 mod reading;
 #[cfg(test)]
