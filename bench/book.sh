@@ -9,43 +9,7 @@
 set -eu
 limit=${1:-60}
 . "$(dirname "$0")/program.sh"
-
-# ran STATUS: whether a run ended as one that its budget ends, with status 5, or as one that took too long, with 124
-ran() {
-    case $1 in
-    5) ;;
-    124) return 1 ;;
-    *)
-        echo "a run ended with status $1" >&2
-        exit 1
-        ;;
-    esac
-}
-
-# instructions BUDGET: how many the text in the file takes
-instructions() {
-    local status=0
-    timeout "$limit" valgrind --tool=callgrind --callgrind-out-file=/dev/null "$JOIN_PROGRAM" alone --budget "$1" \
-        <"$work/text" >/dev/null 2>"$work/said" || status=$?
-    ran "$status" || return 1
-    awk '/Collected/ { print $NF }' "$work/said"
-}
-
-# nanoseconds BUDGET: of processor time
-nanoseconds() {
-    local status=0 TIMEFORMAT='%U %S'
-    {
-        time timeout "$limit" "$JOIN_PROGRAM" alone --budget "$1" <"$work/text" >/dev/null
-    } 2>"$work/said" || status=$?
-    ran "$status" || return 1
-    awk 'END { printf "%d\n", ($1 + $2) * 1e9 }' "$work/said"
-}
-
-# each FROM TO BEFORE AFTER: by the events between
-each() {
-    awk -v from="$1" -v to="$2" -v before="$3" -v after="$4" \
-        'BEGIN { printf "%d", (after - before) / (to - from) }'
-}
+. "$(dirname "$0")/cost.sh"
 
 # events NAME FROM TO LONG: what an event takes between these two, of the text on standard input; the time up to the
 # longer one. Fails where that took too long.

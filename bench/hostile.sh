@@ -1,6 +1,7 @@
 #!/usr/bin/env bash
 # Runs hostile texts by each command: a million messages, and as many as a text has room for; 64 sites that all halt at
-# once; a location that moves forever between two sites while others send to it; a detector for each of 10,000 locations.
+# once; a location that moves forever between two sites while others send to it; a detector for each of 10,000 locations,
+# and 10,000 of one; names of which an ordered map has to compare many letters.
 # Each run must end quiet (status 0) or stopped at its budget (status 5), as its row says, within the seconds given
 # (default 60). It prints how long each took and how much memory it held at most. Where one ended otherwise, or not in
 # time, the status is 1.
@@ -74,6 +75,8 @@ runs '250,000 messages of a text that wait' 0 10000 < <(
 commands=("${every_command[@]::2}")
 runs 'a million messages that wait in one queue before they react' 5 1000000 < <(bursts 1000 'y() => 0')
 runs '250,000 messages of a text that are sent to another site' 0 10000 < <(sent 250000)
+# With fewer events left than there are sites, each message is delivered on its own.
+runs 'the same, one after another' 0 1 < <(sent 250000)
 commands=("${every_command[2]}")
 runs '40,000 messages that wait in one queue before they react' 0 1000000 < <(bursts 40 'y() => 0')
 runs '80,000 messages of a text that are sent to another site' 0 10000 < <(sent 80000)
@@ -105,5 +108,16 @@ runs 'a detector for each of 10,000 locations that halt' 0 100000 < <(
 runs 'a detector for each of 10,000 locations whose site halts' 0 100000 < <(
     printf 'site a [ %s : halt() ]\n' "$(numbered 10000 'm#[none:0]' ' and ')"
     printf 'site b [ d() => 0 : %s ]\n' "$(numbered 10000 'fail(m#,d)' '|')"
+)
+runs '10,000 detectors of one location that lives, asked in each round' 5 20000 < <(
+    printf 'site a [ m[none:0] and d() => 0 and x() => x() : %sx() ]\n' "$(times 10000 'fail(m,d)|')"
+)
+runs '40,000 names that begin alike' 0 10000 < <(
+    numbered 40000 'observe seven_#/0; '
+    printf 'site s [ none : 0 ]\n'
+)
+runs '4,000 names of 250 letters that begin alike' 0 10000 < <(
+    numbered 4000 "observe $(times 245 'a')#/0; "
+    printf 'site s [ none : 0 ]\n'
 )
 [ "$others" = 0 ]

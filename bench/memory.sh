@@ -39,9 +39,27 @@ site shop [
 ]
 TEXT
 printf '%s\n' 'log(shop, cheap)' 'log(home, agent)' quiescent >"$work/agent.out"
+# Sixteen messages and requests wait at first, and the book sets them apart; the first reaction makes as many more, among
+# them one with a wrong count for twelve rules of a location. These might then be ready by what was set apart, and go to
+# another site with the location. Twelve requests wait for the death of one that halts.
+{
+    printf 'observe out/1;\nsite a [\n  m[ k() => 0'
+    for _ in {1..12}; do printf ' and\n    x(u) | y(v) => out(u)'; done
+    printf '\n    : x(a) | go(b, k) ] and\n  w[ none : halt() ] and\n  d() => out(w) and\n  idle() | never() => 0 and'
+    printf '\n  f(g) => g()'
+    for _ in {1..16}; do printf ' | idle()'; done
+    printf '\n  : f(y)'
+    for _ in {1..12}; do printf ' | fail(w, d)'; done
+    printf '\n]\nsite b [ none : 0 ]\n'
+} >"$work/apart.join"
+{
+    for _ in {1..12}; do echo 'out(w)'; done
+    echo quiescent
+} >"$work/apart.out"
 echo 'out of memory' >"$work/line"
 
-# the commands, and the texts of which a command may print the lines in another order
+# the texts with their budgets, the commands, and the texts of which a command may print the lines in another order
+declare -A budgets=([least]=10 [move]=10 [agent]=10 [apart]=40)
 commands=('alone' 'rounds --workers 2' 'run --workers 2' 'lossy --loss 3')
 declare -A other_order=(['run --workers 2 move']=1)
 
@@ -51,7 +69,8 @@ declare -A other_order=(['run --workers 2 move']=1)
 run() {
     local status=0
     # shellcheck disable=SC2086
-    refusing "$3" "$4" "$JOIN_PROGRAM" $2 --budget 10 <"$work/$1.join" >"$work/out" 2>"$work/err" || status=$?
+    refusing "$3" "$4" "$JOIN_PROGRAM" $2 --budget "${budgets[$1]}" <"$work/$1.join" >"$work/out" 2>"$work/err" ||
+        status=$?
     return "$status"
 }
 
@@ -86,7 +105,7 @@ sweep() {
 }
 
 for command in "${commands[@]}"; do
-    for name in least move agent; do
+    for name in least move agent apart; do
         sweep "$name" "$command" one
         sweep "$name" "$command" 'one and all later'
     done
