@@ -5,15 +5,15 @@ root=$(cd "$(dirname "${BASH_SOURCE[0]}")/.." && pwd)
 work=$(mktemp -d)
 trap 'rm -rf "$work"' EXIT
 
-# scratch NAME CRATE..: the crate NAME stands on these crates, lowest first, and on anyhow; its program is read from standard input.
-# Goes to the crate's folder.
+# scratch NAME CRATE..: the crate NAME stands on these crates and on anyhow; its program is read from standard input. What these
+# crates stand on is copied too. Goes to the crate's folder.
 scratch() {
     local name=$1 crate
     shift
     mkdir "$work/crates"
-    for crate in "$@"; do
+    "$root/launch/crates" "$root" "$@" >"$work/crates.txt"
+    for crate in $(cut -d: -f1 "$work/crates.txt"); do
         cp -r "$root/crates/$crate" "$work/crates/"
-        grep "^$crate:" "$root/crates.txt" >>"$work/crates.txt"
     done
     cd "$work"
     rt new "crates/$name" start_io >/dev/null
