@@ -1,5 +1,5 @@
 -- The faults of a tree as a list: those of its uses, and those of what it declares.
-use Rattle.std.specs.Prelude.{ℕ, List, [], ◌∷◌, ◌++◌, Option, Some, None, drop}
+use Rattle.std.specs.Prelude.{List, [], ◌∷◌, ◌++◌, Option, Some, None, drop}
 use Rattle.join_base.specs.declared.fault.Kind.TheVariants.{Scope1}
 use Rattle.join_parse.specs.declared.word.Word.{Word}
 use Rattle.join_parse.specs.Grammar.{TreeOfText}

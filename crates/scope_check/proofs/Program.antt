@@ -4,7 +4,6 @@ use Rattle.std.proofs.Common.{false, cond, eqb, ◌||◌, ◌&&◌, List, [], �
 use Rattle.std.proofs.Common.{length, drop, nat_lt, refl, sym, ap, ◌∙◌, subst, arith, append-nil}
 use Rattle.std.specs.List.{list_any}
 use Rattle.std.proofs.lemmas.Bool.{cases_Bool, or_cases, or_right}
-use Rattle.join_parse.specs.declared.word.Word.{Word}
 use Rattle.join_parse.specs.declared.word.SeenTree.{SeenTree}
 use Rattle.join_parse.specs.declared.tree.PlaceTree.{PlaceTree}
 use Rattle.join_parse.specs.Source as s
@@ -14,7 +13,6 @@ use Rattle.join_parse.specs.TreeFacts.{IsTree}
 use Rattle.scope_names.specs.declared.scope.Sort.{Sort}
 use Rattle.scope_names.specs.declared.scope.Sort.TheVariants.{Channel, Location, Observed}
 use Rattle.scope_names.specs.declared.scope.Sort.TheVariants.{Parameter}
-use Rattle.chem_model.specs.declared.name.Ref.{Ref}
 use Rattle.chem_model.specs.declared.name.Ref.TheVariants as ref
 use Rattle.chem_model.specs.Each.{Each}
 use Rattle.chem_model.specs.Process as t

@@ -17,8 +17,8 @@ ghost use Rattle.join_parse.specs.Grammar.{TreeOfText};
 use crate::block::{Defining, observed, sites};
 use crate::clashes::{clashes, place};
 use crate::fault::{Fault, note};
-use crate::naming::{fill, keep_place, name_all, walk_sites};
-use crate::translate;
+use crate::naming::{Tables, fill, keep_place, name_all, walk_sites};
+use crate::translate::{self, Translation};
 use chem_model::{Memory, Program, SeenDecl, SeenDecls, SiteTerms, Texts};
 use join_base::{Front, Kind};
 use join_parse::{PlaceTree, SeenTree, Tree};
@@ -75,59 +75,51 @@ fn within(alloc: Global, trees: &[PlaceTree], least: &mut Option<Fault>) -> Resu
     Ok(())
 }
 
-// The tables of all scopes, the outermost one first, the spellings of all binders in the order of
-// their numbers, and the number of those that the sites define.
-#[derive(Drop)]
-struct Tables<'a> {
-    scopes: Vec<Scope<'a>>,
-    spell: Texts,
-    tops: u32,
-}
-
-// Fills empty tables, but for that of the outermost scope, which is kept apart.
+// Fills empty tables, but for that of the outermost scope, which is kept apart. Answers how many
+// binders the sites define.
 fn number<'a>(
     alloc: Global,
     own: &mut Scope<'a>,
     tables: &mut Tables<'a>,
     names: &[Defining<'a>],
     trees: &'a [PlaceTree],
-) -> Result<(), Memory>
+) -> Result<u32, Memory>
     requires own { own.old ≡ [] }
     requires spell { tables.old.spell ≡ [] }
     requires scopes { tables.old.scopes.items ≡ [] }
-    ensures tops { OnOk result (tables.new.tops ≡ length (outermost names.now).spell) }
+    ensures tops { IfOk result (λ n. n ≡ length (outermost names.now).spell) }
     ensures spell { OnOk result (tables.new.spell ≡ (walked_sites names.now trees.now).spell) }
     ensures own { OnOk result (own.new ≡ (walked_sites names.now trees.now).own) }
     ensures scopes { OnOk result (tables.new.scopes.items
         ≡ [] ∷ (walked_sites names.now trees.now).tables) }
 {
     name_all(alloc, own, &mut tables.spell, names)?;
-    tables.tops = tables.spell.len() as u32;
+    let tops = tables.spell.len() as u32;
     keep_place(alloc, &mut tables.scopes)?;
-    walk_sites(alloc, &mut tables.scopes, &mut tables.spell, own, trees)?;
-    Ok(())
+    walk_sites(alloc, tables, own, trees)?;
+    Ok(tops)
 }
 
+// The tables of all scopes, the outermost one first, and how many binders the sites define.
 fn numbered<'a>(
     alloc: Global,
     names: &[Defining<'a>],
     trees: &'a [PlaceTree],
-) -> Result<Tables<'a>, Memory>
-    ensures tops { IfOk result (λ r. r.tops ≡ length (outermost names.now).spell) }
-    ensures spell { IfOk result (λ r. r.spell ≡ (walked_sites names.now trees.now).spell) }
-    ensures scopes { IfOk result (λ r. r.scopes.items
+) -> Result<(Tables<'a>, u32), Memory>
+    ensures tops { IfOk result (λ r. r.1 ≡ length (outermost names.now).spell) }
+    ensures spell { IfOk result (λ r. r.0.spell ≡ (walked_sites names.now trees.now).spell) }
+    ensures scopes { IfOk result (λ r. r.0.scopes.items
         ≡ (walked_sites names.now trees.now).own ∷ (walked_sites names.now trees.now).tables) }
 {
     let mut own = Scope::new(alloc);
     let mut tables = Tables {
         scopes: Vec::new(alloc),
         spell: Texts::new(alloc),
-        tops: 0,
     };
     match number(alloc, &mut own, &mut tables, names, trees) {
-        Ok(()) => {
+        Ok(tops) => {
             fill(&mut tables.scopes, 0, own)?;
-            Ok(tables)
+            Ok((tables, tops))
         }
         Err(memory) => {
             drop(own);
@@ -154,7 +146,8 @@ fn terms(
 {
     let own = &scopes[0];
     let env = Env::outermost(own);
-    let list = translate::sites(alloc, scopes, own, &env, trees, least)?;
+    let by = Translation { alloc, scopes };
+    let list = translate::sites(&by, own, &env, trees, least)?;
     Ok(list)
 }
 
@@ -199,7 +192,7 @@ fn program_with<'a>(alloc: Global, names: &[Defining<'a>], tree: &'a Tree) -> Re
 {
     let trees = tree.sites.as_slice();
     let mut least = first_declared(alloc, tree.version, names, trees)?;
-    let tables = numbered(alloc, names, trees)?;
+    let (tables, tops) = numbered(alloc, names, trees)?;
     let sites = terms(alloc, tables.scopes.as_slice(), trees, &mut least)?;
     if let Some(fault) = least {
         drop(sites);
@@ -214,18 +207,9 @@ fn program_with<'a>(alloc: Global, names: &[Defining<'a>], tree: &'a Tree) -> Re
         version: tree.version,
         seen,
         sites,
-        tops: tables.tops,
+        tops,
         spell: tables.spell,
     })
-}
-
-// The program that a tree stands for, or its first fault.
-fn program_of(alloc: Global, tree: &Tree) -> Result<Program, Front>
-    ensures program { IfOk result (IsProgramOf tree.now) }
-    ensures fault { IfErr result (IsRefusedAs tree.now) }
-{
-    let names = names(alloc, tree.seen.as_slice(), tree.sites.as_slice())?;
-    program_with(alloc, names.as_slice(), tree)
 }
 
 /// The program that a tree stands for, or its first fault of scope or arity.
@@ -243,7 +227,8 @@ pub fn check(alloc: Global, tree: &Tree) -> Result<Program, Front>
     ensures reads { AnswersProgram tree.now result }
     ensures refuses { AnswersFault tree.now result }
 {
-    program_of(alloc, tree)
+    let names = names(alloc, tree.seen.as_slice(), tree.sites.as_slice())?;
+    program_with(alloc, names.as_slice(), tree)
 }
 
 /// A tree has one program or one first fault, and never both. So `check` answers exactly by the

@@ -86,22 +86,9 @@ pub fn clashes(
     ensures { OnOk result (least.new ≡ first_of least.old (clashes_in [] names.now)) }
 {
     let mut so_far = Scope::new(alloc);
-    let result = clashes_after(&mut so_far, names, least);
-    drop(so_far);
-    result
-}
-
-// The faults of a block's names that stand behind others.
-fn clashes_after<'a>(
-    so_far: &mut Scope<'a>,
-    names: &[Defining<'a>],
-    least: &mut Option<Fault>,
-) -> Result<(), Memory>
-    ensures { OnOk result (least.new ≡ first_of least.old (clashes_in so_far.old names.now)) }
-{
     for d in names {
-        clash_with_first(&*so_far, d.word, d.sort, least);
-        keep(so_far, d.word, d.sort)?;
+        clash_with_first(&so_far, d.word, d.sort, least);
+        keep(&mut so_far, d.word, d.sort)?;
     }
     Ok(())
 }
@@ -133,6 +120,7 @@ fn repeats<'a>(
     Ok(())
 }
 
+// The channels with the spelling of an earlier one.
 fn repeated_channels(
     alloc: Global,
     pats: &[PatTree],
@@ -141,26 +129,14 @@ fn repeated_channels(
     ensures { OnOk result (least.new ≡ first_of least.old (channel_repeats [] pats.now)) }
 {
     let mut so_far = Scope::new(alloc);
-    let result = channels_after(&mut so_far, pats, least);
-    drop(so_far);
-    result
-}
-
-// The channels with the spelling of an earlier one.
-fn channels_after<'a>(
-    so_far: &mut Scope<'a>,
-    pats: &'a [PatTree],
-    least: &mut Option<Fault>,
-) -> Result<(), Memory>
-    ensures { OnOk result (least.new ≡ first_of least.old (channel_repeats so_far.old pats.now)) }
-{
     for pat in pats {
-        repeat(&*so_far, Kind::Scope5, &pat.on, least);
-        keep(so_far, &pat.on, Sort::Parameter)?;
+        repeat(&so_far, Kind::Scope5, &pat.on, least);
+        keep(&mut so_far, &pat.on, Sort::Parameter)?;
     }
     Ok(())
 }
 
+// The parameters with the spelling of an earlier one.
 fn repeated_parameters(
     alloc: Global,
     pats: &[PatTree],
@@ -169,21 +145,8 @@ fn repeated_parameters(
     ensures { OnOk result (least.new ≡ first_of least.old (parameter_repeats [] pats.now)) }
 {
     let mut so_far = Scope::new(alloc);
-    let result = parameters_after(&mut so_far, pats, least);
-    drop(so_far);
-    result
-}
-
-// The parameters with the spelling of an earlier one.
-fn parameters_after<'a>(
-    so_far: &mut Scope<'a>,
-    pats: &'a [PatTree],
-    least: &mut Option<Fault>,
-) -> Result<(), Memory>
-    ensures { OnOk result (least.new ≡ first_of least.old (parameter_repeats so_far.old pats.now)) }
-{
     for pat in pats {
-        repeats(so_far, pat.params.as_slice(), least)?;
+        repeats(&mut so_far, pat.params.as_slice(), least)?;
     }
     Ok(())
 }

@@ -18,6 +18,14 @@ use join_parse::{
 use scope_names::{Entry, Scope, Sort};
 use std::alloc::Global;
 
+// What the walk made so far: the tables of scopes, and the spellings of binders, which stand in the
+// order of their numbers.
+#[derive(Drop)]
+pub struct Tables<'a> {
+    pub scopes: Vec<Scope<'a>>,
+    pub spell: Texts,
+}
+
 // The number of a word that isn't in its table yet: the next one. An observed name has none.
 fn binder_for(alloc: Global, spell: &mut Texts, word: &Word, sort: Sort) -> Result<u32, Memory>
     ensures binder { IfOk result (λ n. n ≡ numbered_as sort (length spell.old)) }
@@ -111,23 +119,23 @@ fn name_patterns<'a>(
 // The channels of a join pattern at a location, and the scope of its parameters.
 fn name_join<'a>(
     alloc: Global,
-    scopes: &mut Vec<Scope<'a>>,
-    spell: &mut Texts,
+    tables: &mut Tables<'a>,
     own: &mut Scope<'a>,
     at: u32,
     pats: &'a [PatTree],
 ) -> Result<(), Memory>
     ensures own { OnOk result
-        (own.new ≡ (named_patterns at spell.old own.old [] pats.now).own) }
-    ensures scopes { OnOk result (scopes.new.items
-        ≡ scopes.old.items ++ (named_patterns at spell.old own.old [] pats.now).params ∷ []) }
+        (own.new ≡ (named_patterns at tables.old.spell own.old [] pats.now).own) }
+    ensures scopes { OnOk result (tables.new.scopes.items
+        ≡ tables.old.scopes.items
+        ++ (named_patterns at tables.old.spell own.old [] pats.now).params ∷ []) }
     ensures spell { OnOk result
-        (spell.new ≡ (named_patterns at spell.old own.old [] pats.now).spell) }
+        (tables.new.spell ≡ (named_patterns at tables.old.spell own.old [] pats.now).spell) }
 {
     let mut params = Scope::new(alloc);
-    match name_patterns(alloc, own, &mut params, spell, at, pats) {
+    match name_patterns(alloc, own, &mut params, &mut tables.spell, at, pats) {
         Ok(()) => {
-            scopes.push(params)?;
+            tables.scopes.push(params)?;
             Ok(())
         }
         Err(memory) => {
@@ -161,15 +169,10 @@ pub fn fill<'a>(scopes: &mut Vec<Scope<'a>>, slot: usize, scope: Scope<'a>) -> R
 
 // The scopes of a process.
 #[cycle(naming)]
-pub fn walk<'a>(
-    alloc: Global,
-    scopes: &mut Vec<Scope<'a>>,
-    spell: &mut Texts,
-    p: &'a ProcTree,
-) -> Result<(), Memory>
-    ensures scopes { OnOk result
-        (scopes.new.items ≡ scopes.old.items ++ (walked spell.old p.now).tables) }
-    ensures spell { OnOk result (spell.new ≡ (walked spell.old p.now).spell) }
+pub fn walk<'a>(alloc: Global, tables: &mut Tables<'a>, p: &'a ProcTree) -> Result<(), Memory>
+    ensures scopes { OnOk result (tables.new.scopes.items
+        ≡ tables.old.scopes.items ++ (walked tables.old.spell p.now).tables) }
+    ensures spell { OnOk result (tables.new.spell ≡ (walked tables.old.spell p.now).spell) }
 {
     match p.node() {
         ProcNode::Zero
@@ -179,14 +182,14 @@ pub fn walk<'a>(
         | ProcNode::Go { .. }
         | ProcNode::Fail { .. }
         | ProcNode::Halt => Ok(()),
-        ProcNode::Group(list) => walk_all(alloc, scopes, spell, list),
+        ProcNode::Group(list) => walk_all(alloc, tables, list),
         ProcNode::Def { defs, body } => {
-            let slot = keep_place(alloc, scopes)?;
+            let slot = keep_place(alloc, &mut tables.scopes)?;
             let mut own = Scope::new(alloc);
-            match walk_level(alloc, scopes, spell, &mut own, 0, 1, defs) {
+            match walk_level(alloc, tables, &mut own, 0, 1, defs) {
                 Ok(_) => {
-                    fill(scopes, slot, own)?;
-                    walk_all(alloc, scopes, spell, body)
+                    fill(&mut tables.scopes, slot, own)?;
+                    walk_all(alloc, tables, body)
                 }
                 Err(memory) => {
                     drop(own);
@@ -201,16 +204,16 @@ pub fn walk<'a>(
 #[cycle(naming)]
 pub fn walk_all<'a>(
     alloc: Global,
-    scopes: &mut Vec<Scope<'a>>,
-    spell: &mut Texts,
+    tables: &mut Tables<'a>,
     list: &'a ProcTrees,
 ) -> Result<(), Memory>
-    ensures scopes { OnOk result (scopes.new.items
-        ≡ scopes.old.items ++ (walked_all spell.old (processes list.now)).tables) }
-    ensures spell { OnOk result (spell.new ≡ (walked_all spell.old (processes list.now)).spell) }
+    ensures scopes { OnOk result (tables.new.scopes.items
+        ≡ tables.old.scopes.items ++ (walked_all tables.old.spell (processes list.now)).tables) }
+    ensures spell { OnOk result
+        (tables.new.spell ≡ (walked_all tables.old.spell (processes list.now)).spell) }
 {
     for p in list.as_slice() {
-        walk(alloc, scopes, spell, p)?;
+        walk(alloc, tables, p)?;
     }
     Ok(())
 }
@@ -219,26 +222,26 @@ pub fn walk_all<'a>(
 #[cycle(naming)]
 fn walk_one<'a>(
     alloc: Global,
-    scopes: &mut Vec<Scope<'a>>,
-    spell: &mut Texts,
+    tables: &mut Tables<'a>,
     own: &mut Scope<'a>,
     at: u32,
     place: u32,
     d: &'a DefTree,
 ) -> Result<u32, Memory>
-    ensures own { OnOk result (own.new ≡ (walked_one at place spell.old own.old d.now).own) }
-    ensures scopes { OnOk result (scopes.new.items
-        ≡ scopes.old.items ++ (walked_one at place spell.old own.old d.now).tables) }
-    ensures spell { OnOk result (spell.new ≡ (walked_one at place spell.old own.old d.now).spell) }
+    ensures own { OnOk result (own.new ≡ (walked_one at place tables.old.spell own.old d.now).own) }
+    ensures scopes { OnOk result (tables.new.scopes.items
+        ≡ tables.old.scopes.items ++ (walked_one at place tables.old.spell own.old d.now).tables) }
+    ensures spell { OnOk result
+        (tables.new.spell ≡ (walked_one at place tables.old.spell own.old d.now).spell) }
     ensures place { IfOk result (λ n. n ≡ place + places_of d.now) }
 {
     match d.node() {
         DefNode::Rule { pats, body } => {
-            name_join(alloc, scopes, spell, own, at, pats.as_slice())?;
-            walk_all(alloc, scopes, spell, body)?;
+            name_join(alloc, tables, own, at, pats.as_slice())?;
+            walk_all(alloc, tables, body)?;
             Ok(place)
         }
-        DefNode::Place(tree) => walk_place(alloc, scopes, spell, own, place, tree),
+        DefNode::Place(tree) => walk_place(alloc, tables, own, place, tree),
     }
 }
 
@@ -247,24 +250,24 @@ fn walk_one<'a>(
 #[cycle(naming)]
 fn walk_place<'a>(
     alloc: Global,
-    scopes: &mut Vec<Scope<'a>>,
-    spell: &mut Texts,
+    tables: &mut Tables<'a>,
     own: &mut Scope<'a>,
     place: u32,
     tree: &'a PlaceTree,
 ) -> Result<u32, Memory>
     ensures own { OnOk result
-        (own.new ≡ (walked_one 0 place spell.old own.old (place_of tree.now)).own) }
-    ensures scopes { OnOk result (scopes.new.items
-        ≡ scopes.old.items ++ (walked_one 0 place spell.old own.old (place_of tree.now)).tables) }
-    ensures spell { OnOk result
-        (spell.new ≡ (walked_one 0 place spell.old own.old (place_of tree.now)).spell) }
+        (own.new ≡ (walked_one 0 place tables.old.spell own.old (place_of tree.now)).own) }
+    ensures scopes { OnOk result (tables.new.scopes.items
+        ≡ tables.old.scopes.items
+        ++ (walked_one 0 place tables.old.spell own.old (place_of tree.now)).tables) }
+    ensures spell { OnOk result (tables.new.spell
+        ≡ (walked_one 0 place tables.old.spell own.old (place_of tree.now)).spell) }
     ensures place { IfOk result (λ n. n ≡ place + places_of (place_of tree.now)) }
 {
-    name_one(alloc, own, spell, &tree.name, Sort::Location)?;
+    name_one(alloc, own, &mut tables.spell, &tree.name, Sort::Location)?;
     let inner = place.checked_add(1).ok_or(Memory)?;
-    let end = walk_level(alloc, scopes, spell, own, place, inner, &tree.defs)?;
-    walk_all(alloc, scopes, spell, &tree.body)?;
+    let end = walk_level(alloc, tables, own, place, inner, &tree.defs)?;
+    walk_all(alloc, tables, &tree.body)?;
     Ok(end)
 }
 
@@ -272,25 +275,24 @@ fn walk_place<'a>(
 #[cycle(naming)]
 fn walk_level<'a>(
     alloc: Global,
-    scopes: &mut Vec<Scope<'a>>,
-    spell: &mut Texts,
+    tables: &mut Tables<'a>,
     own: &mut Scope<'a>,
     at: u32,
     place: u32,
     list: &'a DefTrees,
 ) -> Result<u32, Memory>
-    ensures own { OnOk result
-        (own.new ≡ (walked_level at place spell.old own.old (source_definitions list.now)).own) }
-    ensures scopes { OnOk result (scopes.new.items
-        ≡ scopes.old.items
-        ++ (walked_level at place spell.old own.old (source_definitions list.now)).tables) }
-    ensures spell { OnOk result (spell.new
-        ≡ (walked_level at place spell.old own.old (source_definitions list.now)).spell) }
+    ensures own { OnOk result (own.new
+        ≡ (walked_level at place tables.old.spell own.old (source_definitions list.now)).own) }
+    ensures scopes { OnOk result (tables.new.scopes.items
+        ≡ tables.old.scopes.items
+        ++ (walked_level at place tables.old.spell own.old (source_definitions list.now)).tables) }
+    ensures spell { OnOk result (tables.new.spell
+        ≡ (walked_level at place tables.old.spell own.old (source_definitions list.now)).spell) }
     ensures place { IfOk result (λ n. n ≡ place + places (source_definitions list.now)) }
 {
     let mut end = place;
     for d in list.as_slice() {
-        end = walk_one(alloc, scopes, spell, own, at, end, d)?;
+        end = walk_one(alloc, tables, own, at, end, d)?;
     }
     Ok(end)
 }
@@ -298,21 +300,21 @@ fn walk_level<'a>(
 // The scopes of all sites, whose names stand in `own` already.
 pub fn walk_sites<'a>(
     alloc: Global,
-    scopes: &mut Vec<Scope<'a>>,
-    spell: &mut Texts,
+    tables: &mut Tables<'a>,
     own: &mut Scope<'a>,
     sites: &'a [PlaceTree],
 ) -> Result<(), Memory>
     ensures own { OnOk result
-        (own.new ≡ (walked_level 0 1 spell.old own.old (sites_of sites.now)).own) }
-    ensures scopes { OnOk result (scopes.new.items
-        ≡ scopes.old.items ++ (walked_level 0 1 spell.old own.old (sites_of sites.now)).tables) }
-    ensures spell { OnOk result
-        (spell.new ≡ (walked_level 0 1 spell.old own.old (sites_of sites.now)).spell) }
+        (own.new ≡ (walked_level 0 1 tables.old.spell own.old (sites_of sites.now)).own) }
+    ensures scopes { OnOk result (tables.new.scopes.items
+        ≡ tables.old.scopes.items
+        ++ (walked_level 0 1 tables.old.spell own.old (sites_of sites.now)).tables) }
+    ensures spell { OnOk result (tables.new.spell
+        ≡ (walked_level 0 1 tables.old.spell own.old (sites_of sites.now)).spell) }
 {
     let mut end = 1;
     for site in sites {
-        end = walk_place(alloc, scopes, spell, own, end, site)?;
+        end = walk_place(alloc, tables, own, end, site)?;
     }
     Ok(())
 }

@@ -13,32 +13,39 @@ ghost use Rattle.scope_check.specs.inside.Twin.{level_uses_in, site_terms_in};
 ghost use Rattle.scope_check.specs.inside.Shown.{Shows};
 
 use crate::fault::Fault;
-use crate::words::{added, all_sent, binder_of, called, compared, headed, patterns_of};
+use crate::words::{Comparison, added, all_sent, binder_of, called, compared, headed, patterns_of};
 use chem_model::{Defn, Defs, Memory, Proc, Procs, Ref, SiteTerm, SiteTerms};
 use join_parse::{DefNode, DefTree, DefTrees, PlaceTree, ProcNode, ProcTree, ProcTrees};
 use scope_names::{Env, Scope};
 use std::alloc::Global;
 
+// What a term is made with: an allocator, and the tables of all scopes.
+#[derive(Clone, Copy)]
+pub struct Translation<'t> {
+    pub alloc: Global,
+    pub scopes: &'t [Scope<'t>],
+}
+
 // The term of a process, and the number of the next scope.
 #[cycle(translate)]
 pub fn process(
-    alloc: Global,
-    scopes: &[Scope<'_>],
+    by: &Translation<'_>,
     at: usize,
     env: &Env<'_>,
     p: &ProcTree,
     least: &mut Option<Fault>,
 ) -> Result<(Proc, usize), Memory>
-    requires { at + scopes_in p.now ≤ length scopes.now }
-    ensures { IfOk result (λ r. Shows (process_in scopes.now env.now at p.now)
-        (at + scopes_in p.now) (uses_in scopes.now env.now at p.now) r.0 r.1 least.old least.new) }
+    requires { at + scopes_in p.now ≤ length by.now.scopes.now }
+    ensures { IfOk result (λ r. Shows (process_in by.now.scopes.now env.now at p.now)
+        (at + scopes_in p.now) (uses_in by.now.scopes.now env.now at p.now) r.0 r.1 least.old
+        least.new) }
 {
     match p.node() {
-        ProcNode::Zero => Ok((Proc::par(Procs::new(alloc)), at)),
+        ProcNode::Zero => Ok((Proc::par(Procs::new(by.alloc)), at)),
         ProcNode::Msg { on, args } => {
             let args = args.as_slice();
             let on = called(env, on, args.len(), least);
-            let refs = all_sent(alloc, env, args, least)?;
+            let refs = all_sent(by.alloc, env, args, least)?;
             Ok((Proc::msg(on, refs), at))
         }
         ProcNode::Go { target, cont } => {
@@ -53,7 +60,7 @@ pub fn process(
         }
         ProcNode::Halt => Ok((Proc::halt(), at)),
         ProcNode::Add { left, right, cont } => {
-            let sum = added(alloc, env, left, right, cont, least)?;
+            let sum = added(by.alloc, env, left, right, cont, least)?;
             Ok((sum, at))
         }
         ProcNode::Same {
@@ -62,16 +69,22 @@ pub fn process(
             yes,
             no,
         } => {
-            let choice = compared(alloc, env, left, right, yes, no, least)?;
+            let same = Comparison {
+                left,
+                right,
+                yes,
+                no,
+            };
+            let choice = compared(by.alloc, env, same, least)?;
             Ok((choice, at))
         }
-        ProcNode::Group(list) => body(alloc, scopes, at, env, list, least),
+        ProcNode::Group(list) => body(by, at, env, list, least),
         ProcNode::Def { defs, body: list } => {
-            let own = &scopes[at];
+            let own = &by.scopes[at];
             let inner = Env::within(own, &*env);
-            let (defs, next) = level(alloc, scopes, at + 1, own, &inner, defs, least)?;
-            let (term, end) = body(alloc, scopes, next, &inner, list, least)?;
-            let term = Proc::def(alloc, defs, term)?;
+            let (defs, next) = level(by, at + 1, own, &inner, defs, least)?;
+            let (term, end) = body(by, next, &inner, list, least)?;
+            let term = Proc::def(by.alloc, defs, term)?;
             Ok((term, end))
         }
     }
@@ -91,27 +104,27 @@ fn only(list: &ProcTrees) -> Option<&ProcTree>
 // The term of a list of processes.
 #[cycle(translate)]
 pub fn body(
-    alloc: Global,
-    scopes: &[Scope<'_>],
+    by: &Translation<'_>,
     at: usize,
     env: &Env<'_>,
     list: &ProcTrees,
     least: &mut Option<Fault>,
 ) -> Result<(Proc, usize), Memory>
-    requires { at + scopes_in_all (processes list.now) ≤ length scopes.now }
+    requires { at + scopes_in_all (processes list.now) ≤ length by.now.scopes.now }
     ensures { IfOk result (λ r. Shows
-        (together (members_in scopes.now env.now at (processes list.now)))
+        (together (members_in by.now.scopes.now env.now at (processes list.now)))
         (at + scopes_in_all (processes list.now))
-        (all_uses_in scopes.now env.now at (processes list.now)) r.0 r.1 least.old least.new) }
+        (all_uses_in by.now.scopes.now env.now at (processes list.now)) r.0 r.1 least.old
+        least.new) }
 {
     if let Some(only) = only(list) {
-        let (term, end) = process(alloc, scopes, at, env, only, least)?;
+        let (term, end) = process(by, at, env, only, least)?;
         return Ok((term, end));
     }
-    let mut members = Procs::new(alloc);
+    let mut members = Procs::new(by.alloc);
     let mut end = at;
     for p in list.as_slice() {
-        let (member, next) = process(alloc, scopes, end, env, p, least)?;
+        let (member, next) = process(by, end, env, p, least)?;
         members.push(member)?;
         end = next;
     }
@@ -121,32 +134,31 @@ pub fn body(
 // The term of a definition in its block.
 #[cycle(translate)]
 fn definition(
-    alloc: Global,
-    scopes: &[Scope<'_>],
+    by: &Translation<'_>,
     at: usize,
     own: &Scope<'_>,
     env: &Env<'_>,
     d: &DefTree,
     least: &mut Option<Fault>,
 ) -> Result<(Defn, usize), Memory>
-    requires { at + scopes_in_def d.now ≤ length scopes.now }
-    ensures { IfOk result (λ r. Shows (definition_in scopes.now own.now env.now at d.now)
-        (at + scopes_in_def d.now) (definition_uses_in scopes.now env.now at d.now) r.0 r.1
+    requires { at + scopes_in_def d.now ≤ length by.now.scopes.now }
+    ensures { IfOk result (λ r. Shows (definition_in by.now.scopes.now own.now env.now at d.now)
+        (at + scopes_in_def d.now) (definition_uses_in by.now.scopes.now env.now at d.now) r.0 r.1
         least.old least.new) }
 {
     match d.node() {
         DefNode::Rule { pats, body: list } => {
-            let params = &scopes[at];
-            let pats = patterns_of(alloc, &*own, params, pats.as_slice())?;
+            let params = &by.scopes[at];
+            let pats = patterns_of(by.alloc, &*own, params, pats.as_slice())?;
             let inner = Env::within(params, &*env);
-            let (term, end) = body(alloc, scopes, at + 1, &inner, list, least)?;
-            let rule = Defn::rule(alloc, pats, term)?;
+            let (term, end) = body(by, at + 1, &inner, list, least)?;
+            let rule = Defn::rule(by.alloc, pats, term)?;
             Ok((rule, end))
         }
         DefNode::Place(tree) => {
             let name = Ref::Binder(binder_of(&*own, &tree.name));
-            let (defs, term, end) = inner(alloc, scopes, at, &*own, &*env, tree, least)?;
-            let place = Defn::place(alloc, name, defs, term)?;
+            let (defs, term, end) = inner(by, at, &*own, &*env, tree, least)?;
+            let place = Defn::place(by.alloc, name, defs, term)?;
             Ok((place, end))
         }
     }
@@ -155,51 +167,49 @@ fn definition(
 // The terms of a place's definitions and of its process.
 #[cycle(translate)]
 fn inner(
-    alloc: Global,
-    scopes: &[Scope<'_>],
+    by: &Translation<'_>,
     at: usize,
     own: &Scope<'_>,
     env: &Env<'_>,
     tree: &PlaceTree,
     least: &mut Option<Fault>,
 ) -> Result<(Defs, Proc, usize), Memory>
-    requires { at + scopes_in_def (place_of tree.now) ≤ length scopes.now }
+    requires { at + scopes_in_def (place_of tree.now) ≤ length by.now.scopes.now }
     ensures defs { IfOk result (λ r.
-        r.0 ≡ level_in scopes.now own.now env.now at (source_definitions tree.now.defs)) }
+        r.0 ≡ level_in by.now.scopes.now own.now env.now at (source_definitions tree.now.defs)) }
     ensures shows { IfOk result (λ r. Shows
-        (together (members_in scopes.now env.now
+        (together (members_in by.now.scopes.now env.now
         (at + scopes_in_defs (source_definitions tree.now.defs)) (processes tree.now.body)))
         (at + scopes_in_def (place_of tree.now))
-        (definition_uses_in scopes.now env.now at (place_of tree.now)) r.1 r.2 least.old
+        (definition_uses_in by.now.scopes.now env.now at (place_of tree.now)) r.1 r.2 least.old
         least.new) }
 {
-    let (defs, next) = level(alloc, scopes, at, &*own, &*env, &tree.defs, least)?;
-    let (term, end) = body(alloc, scopes, next, &*env, &tree.body, least)?;
+    let (defs, next) = level(by, at, &*own, &*env, &tree.defs, least)?;
+    let (term, end) = body(by, next, &*env, &tree.body, least)?;
     Ok((defs, term, end))
 }
 
 // The terms of a level's definitions.
 #[cycle(translate)]
 fn level(
-    alloc: Global,
-    scopes: &[Scope<'_>],
+    by: &Translation<'_>,
     at: usize,
     own: &Scope<'_>,
     env: &Env<'_>,
     list: &DefTrees,
     least: &mut Option<Fault>,
 ) -> Result<(Defs, usize), Memory>
-    requires { at + scopes_in_defs (source_definitions list.now) ≤ length scopes.now }
+    requires { at + scopes_in_defs (source_definitions list.now) ≤ length by.now.scopes.now }
     ensures { IfOk result (λ r. Shows
-        (level_in scopes.now own.now env.now at (source_definitions list.now))
+        (level_in by.now.scopes.now own.now env.now at (source_definitions list.now))
         (at + scopes_in_defs (source_definitions list.now))
-        (level_uses_in scopes.now env.now at (source_definitions list.now)) r.0 r.1 least.old
+        (level_uses_in by.now.scopes.now env.now at (source_definitions list.now)) r.0 r.1 least.old
         least.new) }
 {
-    let mut defs = Defs::new(alloc);
+    let mut defs = Defs::new(by.alloc);
     let mut end = at;
     for d in list.as_slice() {
-        let (term, next) = definition(alloc, scopes, end, &*own, &*env, d, least)?;
+        let (term, next) = definition(by, end, &*own, &*env, d, least)?;
         defs.push(term)?;
         end = next;
     }
@@ -208,23 +218,24 @@ fn level(
 
 // The terms of the sites.
 pub fn sites(
-    alloc: Global,
-    scopes: &[Scope<'_>],
+    by: &Translation<'_>,
     own: &Scope<'_>,
     env: &Env<'_>,
     list: &[PlaceTree],
     least: &mut Option<Fault>,
 ) -> Result<SiteTerms, Memory>
-    requires { 1 + scopes_in_defs (sites_of list.now) ≤ length scopes.now }
-    ensures value { IfOk result (λ r. r ≡ site_terms_in scopes.now own.now env.now 1 list.now) }
+    requires { 1 + scopes_in_defs (sites_of list.now) ≤ length by.now.scopes.now }
+    ensures value { IfOk result
+        (λ r. r ≡ site_terms_in by.now.scopes.now own.now env.now 1 list.now) }
     ensures faults { OnOk result
-        (least.new ≡ first_of least.old (level_uses_in scopes.now env.now 1 (sites_of list.now))) }
+        (least.new
+        ≡ first_of least.old (level_uses_in by.now.scopes.now env.now 1 (sites_of list.now))) }
 {
-    let mut terms = SiteTerms::new(alloc);
+    let mut terms = SiteTerms::new(by.alloc);
     let mut end = 1;
     for tree in list {
         let name = binder_of(&*own, &tree.name);
-        let (defs, body, next) = inner(alloc, scopes, end, &*own, &*env, tree, least)?;
+        let (defs, body, next) = inner(by, end, &*own, &*env, tree, least)?;
         terms.push(SiteTerm { name, defs, body })?;
         end = next;
     }

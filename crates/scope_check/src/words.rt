@@ -169,26 +169,34 @@ pub fn added(
     Ok(Proc::msg(Ref::Known(Name::Op(ADD)), args))
 }
 
+// What a `same` compares, and the names of the messages that tell the answer.
+#[derive(Clone, Copy)]
+pub struct Comparison<'a> {
+    pub left: &'a Arg,
+    pub right: &'a Arg,
+    pub yes: &'a Word,
+    pub no: &'a Word,
+}
+
 // `same`, as a message on the operation. Its last two names are used as the names of messages
 // without arguments.
 pub fn compared(
     alloc: Global,
     env: &Env<'_>,
-    left: &Arg,
-    right: &Arg,
-    yes: &Word,
-    no: &Word,
+    same: Comparison<'_>,
     least: &mut Option<Fault>,
 ) -> Result<Proc, Memory>
     ensures value { IfOk result (λ p. p
-        ≡ compared_in env.now left.now right.now yes.now no.now) }
-    ensures faults { OnOk result (least.new
-        ≡ first_of least.old (compared_faults env.now left.now right.now yes.now no.now)) }
+        ≡ compared_in env.now same.entry.left.now same.entry.right.now same.entry.yes.now
+        same.entry.no.now) }
+    ensures faults { OnOk result (least.new ≡ first_of least.old
+        (compared_faults env.now same.entry.left.now same.entry.right.now same.entry.yes.now
+        same.entry.no.now)) }
 {
-    let left = argument(env, left, least);
-    let right = argument(env, right, least);
-    let yes = called(env, yes, 0, least);
-    let no = called(env, no, 0, least);
+    let left = argument(env, same.left, least);
+    let right = argument(env, same.right, least);
+    let yes = called(env, same.yes, 0, least);
+    let no = called(env, same.no, 0, least);
     let args = Refs::from_slice(alloc, &[left, right, yes, no])?;
     Ok(Proc::msg(Ref::Known(Name::Op(SAME)), args))
 }

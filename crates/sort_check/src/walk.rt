@@ -296,24 +296,27 @@ fn adds(
     }
 }
 
+// What a `same` compares, and the names of the messages that tell the answer.
+#[derive(Clone, Copy)]
+struct Comparison<'a> {
+    left: &'a Arg,
+    right: &'a Arg,
+    yes: &'a Word,
+    no: &'a Word,
+}
+
 // A `same` of the text.
-fn compares(
-    table: &Table<'_>,
-    left: &Arg,
-    right: &Arg,
-    alike: &Word,
-    apart: &Word,
-    term: &Proc,
-    least: &mut Option<Found>,
-)
+fn compares(table: &Table<'_>, same: Comparison<'_>, term: &Proc, least: &mut Option<Found>)
     ensures { least.new ≡ first_of (kept table.now).args least.old
-        (pair (kept table.now) (source.Same left.now right.now alike.now apart.now) term.now) }
+        (pair (kept table.now)
+        (source.Same same.entry.left.now same.entry.right.now same.entry.yes.now same.entry.no.now)
+        term.now) }
 {
     match term.node() {
         Term::Msg { args: names, .. } => {
-            operands(table, left, right, names.as_slice(), least);
-            continuation(table, &[], alike, names.as_slice(), 2, least);
-            continuation(table, &[], apart, names.as_slice(), 3, least);
+            operands(table, same.left, same.right, names.as_slice(), least);
+            continuation(table, &[], same.yes, names.as_slice(), 2, least);
+            continuation(table, &[], same.no, names.as_slice(), 3, least);
         }
         _ => {}
     }
@@ -334,7 +337,15 @@ fn process(table: &Table<'_>, p: &ProcTree, term: &Proc, least: &mut Option<Foun
             right,
             yes,
             no,
-        } => compares(table, left, right, yes, no, term, least),
+        } => {
+            let same = Comparison {
+                left,
+                right,
+                yes,
+                no,
+            };
+            compares(table, same, term, least)
+        }
         ProcNode::Group(list) => body(table, list, term, least),
         ProcNode::Def { defs, body: list } => match term.node() {
             Term::Def {

@@ -1,16 +1,13 @@
 use Rattle.std.proofs.Common.{◌≡◌, ◌++◌, drop}
 use Rattle.chem_model.specs.Process.{processes, definitions}
-use Rattle.chem_model.specs.Pour.{pour_all, lay_places}
 use Rattle.chem_model.specs.ProcessSize.{process_depth, definition_depth, procs_depth, defs_depth}
-use Rattle.chem_plain.specs.inside.Names.{names_of}
+use Rattle.chem_plain.specs.inside.PouredBy.{all_poured_by, places_by}
 use Rattle.chem_plain.proofs.pour.+pour.Given as goal
 
 abbrev pub invariant-pour_all-loop-member : goal.invariant-pour_all-loop-member
 invariant-pour_all-loop-member l =
-    let rest = pour_all l.seen l.root.site l.root (names_of l.names) l.at l.made.next
-    (processes (drop l.member-index l.member-items)) in
-    let all = pour_all l.seen l.root.site l.root (names_of l.names) l.at l.initial.made.next
-    (processes l.member-items) in
+    let rest = all_poured_by l.by l.made.next (processes (drop l.member-index l.member-items)) in
+    let all = all_poured_by l.by l.initial.made.next (processes l.member-items) in
     (rest.next ≡ all.next)
     × (l.made.births ++ rest.births ≡ l.initial.made.births ++ all.births)
     × (l.made.named ++ rest.named ≡ l.initial.made.named ++ all.named)
@@ -20,10 +17,9 @@ invariant-pour_all-loop-member l =
 
 abbrev pub invariant-lay_places-loop-definition : goal.invariant-lay_places-loop-definition
 invariant-lay_places-loop-definition l =
-    let rest = lay_places l.seen l.root.site l.root (names_of l.names) l.at l.made.next
-    (definitions (drop l.definition-index l.definition-items)) in
-    let all = lay_places l.seen l.root.site l.root (names_of l.names) l.at l.initial.made.next
-    (definitions l.definition-items) in
+    let rest =
+    places_by l.by l.made.next (definitions (drop l.definition-index l.definition-items)) in
+    let all = places_by l.by l.initial.made.next (definitions l.definition-items) in
     (rest.next ≡ all.next)
     × (l.made.births ++ rest.births ≡ l.initial.made.births ++ all.births)
     × (l.made.named ++ rest.named ≡ l.initial.made.named ++ all.named)

@@ -45,13 +45,13 @@ invariant_of-result c =
     refl refl c.in_ok-least.ensures c.in_ok-sites.ensures.faults in
     let none : c.terms.new.least ≡ None = search rules in
     (answers t (subst IsTree c.tree.view_is c.tree.invariant) c.terms.new.least noted none _
-    c.in_ok-seen.seen c.in_ok-sites.sites c.in_ok-tables.tables.tops c.in_ok-tables.tables.spell
+    c.in_ok-seen.seen c.in_ok-sites.sites c.in_ok-tables.tops c.in_ok-tables.tables.spell
     (ap (λ (x : TreeOfText). x.version) c.tree.view_is)
     (c.in_ok-seen.ensures
     ∙ ap seen_decls (c.as_slice-2.ensures.members ∙ ap (λ (x : TreeOfText). x.seen) c.tree.view_is))
     (sites-made t c.as_slice-trees.result.now c.as_slice.result.now c.in_ok-sites.sites trees tables
     c.in_ok-sites.ensures.value)
-    (tops-made t c.args.names.now c.in_ok-tables.tables.tops c.requires c.in_ok-tables.ensures.tops)
+    (tops-made t c.args.names.now c.in_ok-tables.tops c.requires c.in_ok-tables.ensures.tops)
     (spell-made t c.as_slice-trees.result.now c.args.names.now c.in_ok-tables.tables.spell trees
     c.requires c.in_ok-tables.ensures.spell)).kept
 
@@ -69,12 +69,12 @@ returns-clause-program c =
     refl refl c.in_ok-least.ensures c.in_ok-sites.ensures.faults in
     let none : c.terms.new.least ≡ None = search rules in
     (answers t (subst IsTree c.tree.view_is c.tree.invariant) c.terms.new.least noted none _
-    c.in_ok-seen.seen c.in_ok-sites.sites c.in_ok-tables.tables.tops c.in_ok-tables.tables.spell
+    c.in_ok-seen.seen c.in_ok-sites.sites c.in_ok-tables.tops c.in_ok-tables.tables.spell
     (ap (λ (x : TreeOfText). x.version) c.tree.view_is)
     (c.in_ok-seen.ensures
     ∙ ap seen_decls (c.as_slice-2.ensures.members ∙ ap (λ (x : TreeOfText). x.seen) c.tree.view_is))
     (sites-made t c.as_slice-trees.result.now c.as_slice.result.now c.in_ok-sites.sites trees tables
     c.in_ok-sites.ensures.value)
-    (tops-made t c.args.names.now c.in_ok-tables.tables.tops c.requires c.in_ok-tables.ensures.tops)
+    (tops-made t c.args.names.now c.in_ok-tables.tops c.requires c.in_ok-tables.ensures.tops)
     (spell-made t c.as_slice-trees.result.now c.args.names.now c.in_ok-tables.tables.spell trees
     c.requires c.in_ok-tables.ensures.spell)).is

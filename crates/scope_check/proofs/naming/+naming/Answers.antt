@@ -38,7 +38,8 @@ walk-returns-in_ok-fill-in-Ok-clause-scopes t c =
     let is : Def (definitions c.in-Def.defs) (processes c.in-Def.body) ≡ c.args.p.now =
     search rules in
     on_ok_weaker c.walk_all-in-Ok.result
-    (λ more. def-tables _ c.in_ok-slot-in-Def.slot _ _ _ _ _ _ _ c.args.scopes.now.items _ _ _ _ is
+    (λ more.
+    def-tables _ c.in_ok-slot-in-Def.slot _ _ _ _ _ _ _ c.args.tables.now.scopes.items _ _ _ _ is
     c.in_ok-slot-in-Def.ensures.place c.in_ok-slot-in-Def.ensures.kept c.new-own.ensures
     c.in-Ok.ensures.scopes c.in-Ok.ensures.own c.in_ok-fill-in-Ok.ensures c.in-Ok.ensures.spell
     more)
@@ -65,16 +66,19 @@ walk_level-loop-d-preserved t c =
       items = inv.items;
       place = omega (arith, ap places all, e.place, inv.place);
       own = (λ i. (walk_level c.args.at (e.place i) (e.spell i) (e.own i) (definitions rest)).own)
-          ∙ ap (λ ds. (walk_level c.args.at c.loop-d.end c.loop-d.spell c.loop-d.own ds).own)
+          ∙ ap (λ ds. (walk_level c.args.at c.loop-d.end c.loop-d.tables.spell c.loop-d.own ds).own)
           (sym all) ∙ inv.own;
-      tables = level-tables c.args.at c.loop-d.end c.in_ok-end.end c.loop-d.spell
-          c.walk_one.new.spell c.loop-d.own c.walk_one.new.own d (definitions rest)
-          c.loop-d.scopes.items c.walk_one.new.scopes.items e.own e.spell e.place e.scopes
-          ∙ ap (λ ds. c.loop-d.scopes.items
-          ++ (walk_level c.args.at c.loop-d.end c.loop-d.spell c.loop-d.own ds).tables) (sym all)
+      tables = level-tables c.args.at c.loop-d.end c.in_ok-end.end c.loop-d.tables.spell
+          c.walk_one.new.tables.spell c.loop-d.own c.walk_one.new.own d (definitions rest)
+          c.loop-d.tables.scopes.items c.walk_one.new.tables.scopes.items e.own e.spell e.place
+          e.scopes
+          ∙ ap (λ ds. c.loop-d.tables.scopes.items
+          ++ (walk_level c.args.at c.loop-d.end c.loop-d.tables.spell c.loop-d.own ds).tables)
+          (sym all)
           ∙ inv.tables;
       spell =
           (λ i. (walk_level c.args.at (e.place i) (e.spell i) (e.own i) (definitions rest)).spell)
-          ∙ ap (λ ds. (walk_level c.args.at c.loop-d.end c.loop-d.spell c.loop-d.own ds).spell)
+          ∙ ap
+          (λ ds. (walk_level c.args.at c.loop-d.end c.loop-d.tables.spell c.loop-d.own ds).spell)
           (sym all) ∙ inv.spell;
     }

@@ -10,11 +10,13 @@ abbrev pub invariant-walk_all-loop-p : goal.invariant-walk_all-loop-p
 invariant-walk_all-loop-p l = record {
   items : l.p-items ≡ l.list;
   tables :
-      l.scopes.items ++ (walk_all l.spell (processes (drop l.p-index l.p-items))).tables
-      ≡ l.initial.scopes.items ++ (walk_all l.initial.spell (processes l.p-items)).tables;
+      l.tables.scopes.items
+      ++ (walk_all l.tables.spell (processes (drop l.p-index l.p-items))).tables
+      ≡ l.initial.tables.scopes.items
+      ++ (walk_all l.initial.tables.spell (processes l.p-items)).tables;
   spell :
-      (walk_all l.spell (processes (drop l.p-index l.p-items))).spell
-      ≡ (walk_all l.initial.spell (processes l.p-items)).spell;
+      (walk_all l.tables.spell (processes (drop l.p-index l.p-items))).spell
+      ≡ (walk_all l.initial.tables.spell (processes l.p-items)).spell;
 }
 
 abbrev pub invariant-walk_level-loop-d : goal.invariant-walk_level-loop-d
@@ -24,16 +26,19 @@ invariant-walk_level-loop-d l = record {
       l.end + places (definitions (drop l.d-index l.d-items))
       ≡ l.place + places (definitions l.d-items);
   own :
-      (walk_level l.at l.end l.spell l.own (definitions (drop l.d-index l.d-items))).own
-      ≡ (walk_level l.at l.place l.initial.spell l.initial.own (definitions l.d-items)).own;
+      (walk_level l.at l.end l.tables.spell l.own (definitions (drop l.d-index l.d-items))).own
+      ≡ (walk_level l.at l.place l.initial.tables.spell l.initial.own (definitions l.d-items)).own;
   tables :
-      l.scopes.items
-      ++ (walk_level l.at l.end l.spell l.own (definitions (drop l.d-index l.d-items))).tables
-      ≡ l.initial.scopes.items
-      ++ (walk_level l.at l.place l.initial.spell l.initial.own (definitions l.d-items)).tables;
+      l.tables.scopes.items
+      ++ (walk_level l.at l.end l.tables.spell l.own
+      (definitions (drop l.d-index l.d-items))).tables
+      ≡ l.initial.tables.scopes.items
+      ++ (walk_level l.at l.place l.initial.tables.spell l.initial.own
+      (definitions l.d-items)).tables;
   spell :
-      (walk_level l.at l.end l.spell l.own (definitions (drop l.d-index l.d-items))).spell
-      ≡ (walk_level l.at l.place l.initial.spell l.initial.own (definitions l.d-items)).spell;
+      (walk_level l.at l.end l.tables.spell l.own (definitions (drop l.d-index l.d-items))).spell
+      ≡ (walk_level l.at l.place l.initial.tables.spell l.initial.own
+      (definitions l.d-items)).spell;
 }
 
 abbrev pub decreases-walk : goal.decreases-walk

@@ -9,14 +9,18 @@ loop-site-preserved c =
     let e = c.in_ok-end.ensures in
     let inv = c.loop-site.invariant in
     record {
-      own = own-step c.loop-site.end c.in_ok-end.end c.loop-site.spell c.walk_place.new.spell
+      own = own-step c.loop-site.end c.in_ok-end.end c.loop-site.tables.spell
+          c.walk_place.new.tables.spell
           c.loop-site.own c.walk_place.new.own c.site-item.result _ _ next e.own e.spell e.place
           ∙ inv.own;
-      tables = tables-step c.loop-site.end c.in_ok-end.end c.loop-site.spell c.walk_place.new.spell
+      tables = tables-step c.loop-site.end c.in_ok-end.end c.loop-site.tables.spell
+          c.walk_place.new.tables.spell
           c.loop-site.own c.walk_place.new.own c.site-item.result _ _
-          c.loop-site.scopes.items c.walk_place.new.scopes.items next e.own e.spell e.place e.scopes
+          c.loop-site.tables.scopes.items c.walk_place.new.tables.scopes.items next
+          e.own e.spell e.place e.scopes
           ∙ inv.tables;
-      spell = spell-step c.loop-site.end c.in_ok-end.end c.loop-site.spell c.walk_place.new.spell
+      spell = spell-step c.loop-site.end c.in_ok-end.end c.loop-site.tables.spell
+          c.walk_place.new.tables.spell
           c.loop-site.own c.walk_place.new.own c.site-item.result _ _ next e.own e.spell e.place
           ∙ inv.spell;
     }

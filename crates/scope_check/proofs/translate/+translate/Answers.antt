@@ -52,7 +52,7 @@ body-returns t c =
     let gone : c.only.result ≡ None = search rules in
     let other : length c.args.list.now ≢ 1 =
     subst (λ o. IfNone o (length c.args.list.now ≢ 1)) gone c.only.ensures.none in
-    let j = joined c.args.scopes.now c.args.env.now c.args.at c.loop-p.end c.loop-p.p-index
+    let j = joined c.args.by.now.scopes.now c.args.env.now c.args.at c.loop-p.end c.loop-p.p-index
     c.as_slice-p-items.result.now c.args.list.now c.loop-p.members c.args.least.now c.loop-p.least
     i.items c.loop-p-test.false other i.end i.value i.least in
     record { value = c.par.ensures ∙ j.value; upto = j.upto; least = j.least }
@@ -66,21 +66,24 @@ body-loop-p-preserved t c =
     let end = c.loop-p.end in
     let e = c.in_ok-member.ensures in
     let inv = c.loop-p.invariant in
-    let more = members_in c.args.scopes.now c.args.env.now (end + scopes_in p) rest in
+    let more = members_in c.args.by.now.scopes.now c.args.env.now (end + scopes_in p) rest in
     record {
       items = inv.items;
       end = omega (arith, ap scopes_in_all all, e.upto, inv.end);
       value = (λ i.
-          c.in_ok-push.ensures.ok i ++ members_in c.args.scopes.now c.args.env.now (e.upto i) rest)
+          c.in_ok-push.ensures.ok i
+          ++ members_in c.args.by.now.scopes.now c.args.env.now (e.upto i) rest)
           ∙ append_assoc c.loop-p.members (c.in_ok-member.member ∷ []) more
           ∙ ap (λ m. c.loop-p.members ++ m ∷ more) e.value
-          ∙ ap (λ l. c.loop-p.members ++ members_in c.args.scopes.now c.args.env.now end l)
+          ∙ ap (λ l. c.loop-p.members ++ members_in c.args.by.now.scopes.now c.args.env.now end l)
           (sym all) ∙ inv.value;
       least =
-          (λ i. first_of (e.least i) (all_uses_in c.args.scopes.now c.args.env.now (e.upto i) rest))
-          ∙ sym (first-append c.loop-p.least (uses_in c.args.scopes.now c.args.env.now end p)
-          (all_uses_in c.args.scopes.now c.args.env.now (end + scopes_in p) rest))
-          ∙ ap (λ l. first_of c.loop-p.least (all_uses_in c.args.scopes.now c.args.env.now end l))
+          (λ i. first_of (e.least i)
+          (all_uses_in c.args.by.now.scopes.now c.args.env.now (e.upto i) rest))
+          ∙ sym (first-append c.loop-p.least (uses_in c.args.by.now.scopes.now c.args.env.now end p)
+          (all_uses_in c.args.by.now.scopes.now c.args.env.now (end + scopes_in p) rest))
+          ∙ ap
+          (λ l. first_of c.loop-p.least (all_uses_in c.args.by.now.scopes.now c.args.env.now end l))
           (sym all) ∙ inv.least;
     }
 
@@ -94,22 +97,26 @@ level-loop-d-preserved t c =
     let e = c.in_ok-term.ensures in
     let inv = c.loop-d.invariant in
     let more =
-    level_in c.args.scopes.now c.args.own.now c.args.env.now (end + scopes_in_def d) rest in
+    level_in c.args.by.now.scopes.now c.args.own.now c.args.env.now (end + scopes_in_def d) rest in
     record {
       items = inv.items;
       end = omega (arith, ap scopes_in_defs all, e.upto, inv.end);
       value = (λ i. c.in_ok-push.ensures.ok i
-          ++ level_in c.args.scopes.now c.args.own.now c.args.env.now (e.upto i) rest)
+          ++ level_in c.args.by.now.scopes.now c.args.own.now c.args.env.now (e.upto i) rest)
           ∙ append_assoc c.loop-d.defs (c.in_ok-term.term ∷ []) more
           ∙ ap (λ m. c.loop-d.defs ++ m ∷ more) e.value
           ∙ ap
-          (λ l. c.loop-d.defs ++ level_in c.args.scopes.now c.args.own.now c.args.env.now end l)
+          (λ l.
+          c.loop-d.defs ++ level_in c.args.by.now.scopes.now c.args.own.now c.args.env.now end l)
           (sym all) ∙ inv.value;
       least = (λ i.
-          first_of (e.least i) (level_uses_in c.args.scopes.now c.args.env.now (e.upto i) rest))
+          first_of (e.least i)
+          (level_uses_in c.args.by.now.scopes.now c.args.env.now (e.upto i) rest))
           ∙ sym
-          (first-append c.loop-d.least (definition_uses_in c.args.scopes.now c.args.env.now end d)
-          (level_uses_in c.args.scopes.now c.args.env.now (end + scopes_in_def d) rest))
-          ∙ ap (λ l. first_of c.loop-d.least (level_uses_in c.args.scopes.now c.args.env.now end l))
+          (first-append c.loop-d.least
+          (definition_uses_in c.args.by.now.scopes.now c.args.env.now end d)
+          (level_uses_in c.args.by.now.scopes.now c.args.env.now (end + scopes_in_def d) rest))
+          ∙ ap (λ l.
+          first_of c.loop-d.least (level_uses_in c.args.by.now.scopes.now c.args.env.now end l))
           (sym all) ∙ inv.least;
     }

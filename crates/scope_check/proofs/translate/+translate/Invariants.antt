@@ -14,11 +14,12 @@ invariant-body-loop-p l = record {
       l.end + scopes_in_all (processes (drop l.p-index l.p-items))
       ≡ l.at + scopes_in_all (processes l.p-items);
   value :
-      l.members ++ members_in l.scopes l.env l.end (processes (drop l.p-index l.p-items))
-      ≡ members_in l.scopes l.env l.at (processes l.p-items);
+      l.members ++ members_in l.by.scopes.now l.env l.end (processes (drop l.p-index l.p-items))
+      ≡ members_in l.by.scopes.now l.env l.at (processes l.p-items);
   least :
-      first_of l.least (all_uses_in l.scopes l.env l.end (processes (drop l.p-index l.p-items)))
-      ≡ first_of l.initial.least (all_uses_in l.scopes l.env l.at (processes l.p-items));
+      first_of l.least
+      (all_uses_in l.by.scopes.now l.env l.end (processes (drop l.p-index l.p-items)))
+      ≡ first_of l.initial.least (all_uses_in l.by.scopes.now l.env l.at (processes l.p-items));
 }
 
 abbrev pub invariant-level-loop-d : goal.invariant-level-loop-d
@@ -28,11 +29,12 @@ invariant-level-loop-d l = record {
       l.end + scopes_in_defs (definitions (drop l.d-index l.d-items))
       ≡ l.at + scopes_in_defs (definitions l.d-items);
   value :
-      l.defs ++ level_in l.scopes l.own l.env l.end (definitions (drop l.d-index l.d-items))
-      ≡ level_in l.scopes l.own l.env l.at (definitions l.d-items);
+      l.defs ++ level_in l.by.scopes.now l.own l.env l.end (definitions (drop l.d-index l.d-items))
+      ≡ level_in l.by.scopes.now l.own l.env l.at (definitions l.d-items);
   least :
-      first_of l.least (level_uses_in l.scopes l.env l.end (definitions (drop l.d-index l.d-items)))
-      ≡ first_of l.initial.least (level_uses_in l.scopes l.env l.at (definitions l.d-items));
+      first_of l.least
+      (level_uses_in l.by.scopes.now l.env l.end (definitions (drop l.d-index l.d-items)))
+      ≡ first_of l.initial.least (level_uses_in l.by.scopes.now l.env l.at (definitions l.d-items));
 }
 
 abbrev pub decreases-process : goal.decreases-process

@@ -10,9 +10,10 @@ invariant-loop-tree l = record {
       l.end + scopes_in_defs (sites_of (drop l.tree-index l.list))
       ≡ 1 + scopes_in_defs (sites_of l.list);
   value :
-      l.terms ++ site_terms_in l.scopes l.own l.env l.end (drop l.tree-index l.list)
-      ≡ site_terms_in l.scopes l.own l.env 1 l.list;
+      l.terms ++ site_terms_in l.by.scopes.now l.own l.env l.end (drop l.tree-index l.list)
+      ≡ site_terms_in l.by.scopes.now l.own l.env 1 l.list;
   least :
-      first_of l.least (level_uses_in l.scopes l.env l.end (sites_of (drop l.tree-index l.list)))
-      ≡ first_of l.initial.least (level_uses_in l.scopes l.env 1 (sites_of l.list));
+      first_of l.least
+      (level_uses_in l.by.scopes.now l.env l.end (sites_of (drop l.tree-index l.list)))
+      ≡ first_of l.initial.least (level_uses_in l.by.scopes.now l.env 1 (sites_of l.list));
 }
