@@ -219,13 +219,21 @@ module _ (c : CodeParts) (d n : ℕ) (block : Block) (fits : FitsFirst c d (Ente
             subst (λ (e : Entered). OnOk o (Adds old new e.ran)) (sym entered_is) (entered_made c s
             l k M env wide vs next old new o (up ∙ ap (λ j. k + j) (sym many)) wide_is at)
 
-        pub enter_env : (new : List Name) → OnOk o (new ≡ wide)
-            → OnOk o (new ≡ env ++ (block_entered c M s env l k (slice_get c.blocks n)).names)
-        enter_env new h =
-            let vs = numbered_levels c.levels block.levels in
-            let names_are : levels_named s l k vs ≡ entered.names =
-            ap (λ (e : Entered). e.names) (sym (entered_is ∙ levels_entered_is c s l k M env vs)) in
-            subst (λ xs. OnOk o (new ≡ xs)) (wide_is ∙ ap (λ xs. env ++ xs) names_are) h
+        pub enter_env :
+            OnOk o (wide ≡ env ++ (block_entered c M s env l k (slice_get c.blocks n)).names)
+        enter_env = go o
+          where
+            vs : List NumberedLevel
+            vs = numbered_levels c.levels block.levels
+
+            names_are : levels_named s l k vs ≡ entered.names
+            names_are =
+                ap (λ (e : Entered). e.names)
+                (sym (entered_is ∙ levels_entered_is c s l k M env vs))
+
+            go : (r : Result (Unit {0}) Memory) → OnOk r (wide ≡ env ++ entered.names)
+            go (Err m) = tt
+            go (Ok u) = wide_is ∙ ap (λ xs. env ++ xs) names_are
 
 -- ---- the places of a block that is laid
 

@@ -57,14 +57,14 @@ module _ (c : CodeParts) (kept : IsCode c) where
 
   module _ (s : ℕ) (site : SiteCode) (block : Block) (is : IsBlockAt c site.block block)
       (there : slice_get c.blocks site.block ≡ Some block) (start mid new : Run) (n : ℕ)
-      (env wide : List Name) where
+      (env : List Name) where
     levels_opened : (vs : List NumberedLevel) → 0 < length vs → start ≡ run_of (nothing_ran n)
-        → n ≡ 1 + names_made vs → env ≡ [] → wide ≡ []
+        → n ≡ 1 + names_made vs → env ≡ []
         → Adds start mid (levels_laid (code_made c s) s env (loc_at s 0) 1 start.next vs)
-        → Adds mid new (code_made c s site.body wide (loc_at s 0) mid.next)
+        → Adds mid new (code_made c s site.body env (loc_at s 0) mid.next)
         → new ≡ run_of (site_levels_ran (code_made c s) s site.body vs)
-    levels_opened [] some begins many nil wide_nil laid made = absurd (omega arith)
-    levels_opened (v ∷ vs) some begins many nil wide_nil laid made =
+    levels_opened [] some begins many nil laid made = absurd (omega arith)
+    levels_opened (v ∷ vs) some begins many nil laid made =
         let M = code_made c s in
         let l = loc_at s 0 in
         let n_is : n ≡ 1 + length (block_names s l 1 v vs) =
@@ -77,7 +77,7 @@ module _ (c : CodeParts) (kept : IsCode c) where
         (λ i. (nil i, n_is i)) at in
         let body : Adds mid new (M site.body [] l a.next) =
         subst (λ (q : List Name × ℕ). Adds mid new (M site.body q.0 l q.1))
-        (λ i. (wide_nil i, exact.0 i)) made in
+        (λ i. (nil i, exact.0 i)) made in
         from_nothing n new (then_ran a (M site.body [] l a.next))
         (adds_then (run_of (nothing_ran n)) mid new a (M site.body [] l a.next) exact body)
 
@@ -88,16 +88,16 @@ module _ (c : CodeParts) (kept : IsCode c) where
         subst (λ us. 0 < length us) (sym (numbered_first c m ns h.0.0 h.0.1)) (omega arith)
 
     pub opened : (d : ℕ) → Each (IsLevelAt c d) block.levels → slice_get c.sites s ≡ Some site
-        → start ≡ run_of (nothing_ran n) → n ≡ 1 + block.names → env ≡ [] → wide ≡ []
+        → start ≡ run_of (nothing_ran n) → n ≡ 1 + block.names → env ≡ []
         → Adds start mid (levels_laid (code_made c s) s env (loc_at s 0) 1
         start.next (numbered_levels c.levels block.levels))
-        → Adds mid new (code_made c s site.body wide (loc_at s 0) mid.next)
+        → Adds mid new (code_made c s site.body env (loc_at s 0) mid.next)
         → (other : SiteCode) → slice_get c.sites s ≡ Some other → new ≡ run_of (site_made c s other)
-    opened d levels at_site begins many nil wide_nil laid made other at_other =
+    opened d levels at_site begins many nil laid made other at_other =
         let same : site ≡ other = cc (at_site, at_other) in
         let count : n ≡ 1 + names_made (numbered_levels c.levels block.levels) =
         many ∙ ap (λ j. 1 + j) is.names in
         let whole = levels_opened (numbered_levels c.levels block.levels)
-        (some_numbered d block.levels levels is.some) begins count nil wide_nil laid made in
+        (some_numbered d block.levels levels is.some) begins count nil laid made in
         whole ∙ ap (λ o. run_of (site_block_ran c (code_made c s) s site.body o)) (sym there)
         ∙ ap (λ x. run_of (site_made c s x)) same

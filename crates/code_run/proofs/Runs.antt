@@ -55,13 +55,10 @@ pub from_nothing : (k : ℕ) (m : Run) (a : Ran) → Adds (run_of (nothing_ran k
 from_nothing k m a h =
     λ i. record { next = h.0 i; births = h.1 i; groups = h.2 i; posts = h.3 i; outs = h.4 i }
 
-pub body_run : (M : List Name → ℕ → Ran) (k : ℕ) (start new : Run) (env copy : List Name)
-    → start ≡ run_of (nothing_ran k) → copy ≡ env → Adds start new (M copy start.next)
-    → new ≡ run_of (M env k)
-body_run M k start new env copy e same h =
-    let at : Adds (run_of (nothing_ran k)) new (M env k) =
-    subst (λ (q : Run × List Name). Adds q.0 new (M q.1 q.0.next)) (λ i. (e i, same i)) h in
-    from_nothing k new (M env k) at
+pub body_run : (M : ℕ → Ran) (k : ℕ) (start new : Run) → start ≡ run_of (nothing_ran k)
+    → Adds start new (M start.next) → new ≡ run_of (M k)
+body_run M k start new e h =
+    from_nothing k new (M k) (subst (λ (q : Run). Adds q new (M q.next)) e h)
 
 -- a message that is poured has its names already
 pub filled : (args : List Name) → fill_refs [] (all_known args) ≡ all_known args

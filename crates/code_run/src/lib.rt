@@ -5,7 +5,6 @@
 mod body;
 mod made;
 mod naming;
-mod parts;
 mod posting;
 mod running;
 

@@ -5,7 +5,6 @@ ghost use Rattle.env_store.specs.Running.{channel_names, place_names, place_birt
 ghost use Rattle.env_store.specs.Running.{numbered_levels};
 ghost use Rattle.code_run.specs.inside.Steps.{IsThere, levels_named};
 
-use crate::parts::level_at;
 use chem_model::{Loc, Memory, Name, Names, Nums};
 use env_store::{Code, Level, Locs};
 
@@ -57,7 +56,7 @@ fn name_places(
 {
     let mut k = from;
     for place in places {
-        let level = level_at(code, *place);
+        let level = code.level(*place);
         let loc = Loc { site, k };
         let first = sum(k, 1)?;
         names.push(Name::Place(loc))?;
@@ -82,7 +81,7 @@ pub(crate) fn name_block(
     let [own, places @ ..] = levels else {
         return Ok(());
     };
-    let level = level_at(code, *own);
+    let level = code.level(*own);
     let first = name_channels(names, site, loc, from, &level.counts)?;
     name_places(code, site, first, places, names)
 }
@@ -101,7 +100,7 @@ pub(crate) fn bear_places(
 {
     let mut k = from;
     for place in places {
-        let level = level_at(code, *place);
+        let level = code.level(*place);
         births.push(Loc { site, k })?;
         k = after_place(k, level)?;
     }

@@ -19,3 +19,4 @@ pub mod Environments
 pub mod LevelTerms
 pub mod RuleGuards
 pub mod Tied
+pub mod GuardNumbers

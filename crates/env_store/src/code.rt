@@ -1,5 +1,6 @@
 // Compiled code: the types, and their copies.
-ghost use Rattle.std.specs.Prelude.{◌≡◌, IfOk, Ok};
+ghost use Rattle.std.specs.Prelude.{◌≡◌, ◌+◌, ◌<◌, ◌^◌, IfOk, Ok, Some, length, slice_get};
+ghost use Rattle.env_store.specs.CodeFacts.{IsCode};
 
 use chem_model::{Items, Loc, Memory, Name, Nums};
 use std::alloc::Global;
@@ -323,5 +324,61 @@ impl Code {
             tops,
             sites,
         })
+    }
+
+    /// The guard with this number. Like the other parts, it is answered with the facts of the code.
+    pub fn guard(&self, number: u32) -> &Guard
+        requires { number < length self.now.guards }
+        ensures there { slice_get self.now.guards number ≡ Some result.now }
+        ensures kept { IsCode self.now }
+    {
+        &self.guards.as_slice()[number as usize]
+    }
+
+    /// The level with this number. Its guards have numbers of 32 bits.
+    pub fn level(&self, number: u32) -> &Level
+        requires { number < length self.now.levels }
+        ensures there { slice_get self.now.levels number ≡ Some result.now }
+        ensures kept { IsCode self.now }
+        ensures fits { result.now.first + result.now.guards < 2 ^ 32 }
+    {
+        let _guards = self.guards.len();
+        let level = &self.levels.as_slice()[number as usize];
+        let _first = level.first;
+        level
+    }
+
+    /// The block with this number.
+    pub fn block(&self, number: u32) -> &Block
+        requires { number < length self.now.blocks }
+        ensures there { slice_get self.now.blocks number ≡ Some result.now }
+        ensures kept { IsCode self.now }
+    {
+        &self.blocks.as_slice()[number as usize]
+    }
+
+    /// The body with this number.
+    pub fn body(&self, number: u32) -> &Instrs
+        requires { number < length self.now.bodies }
+        ensures there { slice_get self.now.bodies number ≡ Some result.now }
+        ensures kept { IsCode self.now }
+    {
+        &self.bodies.as_slice()[number as usize]
+    }
+
+    /// The block and the body of the site with this number.
+    pub fn site(&self, number: u32) -> SiteCode
+        requires { number < length self.now.sites }
+        ensures there { slice_get self.now.sites number ≡ Some result }
+        ensures kept { IsCode self.now }
+    {
+        self.sites.as_slice()[number as usize]
+    }
+
+    /// The facts of code hold. It does nothing.
+    pub fn kept(&self)
+        ensures { IsCode self.now }
+    {
+        let _guards = &self.guards;
     }
 }

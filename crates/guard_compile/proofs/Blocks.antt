@@ -1,28 +1,25 @@
 -- What a block and a place add, put together from what their parts add.
-use Rattle.std.proofs.Common.{◌≡◌, ℕ, List, [], ◌∷◌, ◌++◌, length, Some, None, Result, Ok, Err}
+use Rattle.std.proofs.Common.{◌≡◌, ℕ, List, [], ◌∷◌, ◌++◌, length, None, Result, Ok, Err}
 use Rattle.std.proofs.Common.{OnOk, take, refl, sym, ap, ◌∙◌, subst, append_assoc}
 use Rattle.chem_model.specs.declared.memory.Memory.{Memory}
 use Rattle.chem_model.specs.declared.name.Ref.{Ref}
-use Rattle.chem_model.specs.declared.name.Pat.{Pat}
-use Rattle.chem_model.specs.Process.{Process, Def, Definitions, Rule, Place}
-use Rattle.chem_model.specs.Binders.{binder_of, params_of}
+use Rattle.chem_model.specs.Process.{Process, Def, Definitions}
+use Rattle.chem_model.specs.Binders.{binder_of}
 use Rattle.chem_model.specs.Fill.{Naming}
-use Rattle.chem_laws.proofs.Lists.{append_nil}
 use Rattle.env_store.specs.declared.code.Instr.{Instr}
 use Rattle.env_store.specs.declared.code.Instr.TheVariants as instr
-use Rattle.env_store.specs.declared.code.Guard.{Guard}
-use Rattle.env_store.specs.declared.code.Level.{Level}
 use Rattle.env_store.specs.Layout.{rules_in, new_channels, new_counts, place_order, places_order}
 use Rattle.env_store.specs.Layout.{order}
 use Rattle.guard_compile.specs.declared.layout.Opened.{Opened}
 use Rattle.guard_compile.specs.declared.write.At.{At}
 use Rattle.guard_compile.specs.declared.write.Piece.{Piece}
 use Rattle.guard_compile.specs.declared.write.Defined.{Defined}
+use Rattle.guard_compile.specs.declared.write.Writer.{Writer}
 use Rattle.guard_compile.specs.Written.{Wrote, behind, inside, no_definitions, with_body, write}
-use Rattle.guard_compile.specs.Written.{write_defs, write_def}
-use Rattle.guard_compile.specs.inside.Appends.{Appends, AppendsDefined, AreBlockNames, guard_with}
-use Rattle.guard_compile.specs.inside.Appends.{whole_block, whole_place, place_defs, place_process}
-use Rattle.guard_compile.specs.inside.Appends.{in_place, place_level}
+use Rattle.guard_compile.specs.Written.{write_defs}
+use Rattle.guard_compile.specs.inside.Appends.{Appends, AppendsDefined, AreBlockNames}
+use Rattle.guard_compile.specs.inside.Appends.{whole_block, place_defs, place_process}
+use Rattle.guard_compile.specs.inside.Appends.{in_place, Writes}
 
 pub take_front : (xs ys : List ℕ) → take (length xs) (xs ++ ys) ≡ xs
 take_front [] ys = refl
@@ -56,25 +53,25 @@ block_named (Ok u) ds old new mid e named channels counts h =
 -- what a `def` under the layout y works with: the names of its block, the layout within, and where
 -- the definitions and then the process are written
 pub record OpenedAs (at : At) (y : List ℕ) (ds : Definitions) (count : ℕ) (next : At)
-    (channels counts names inner later named : List ℕ) (depth many : ℕ) : Type 0 where
+    (channels counts names inner named : List ℕ) (depth many : ℕ) : Type 0 where
   pub count_is : count ≡ rules_in ds
   pub next_is : next ≡ behind (inside at) count
   pub channels_are : channels ≡ new_channels [] ds
   pub counts_are : counts ≡ new_counts [] ds
   pub names_are : names ≡ order ds
   pub inner_is : inner ≡ y ++ names
-  pub later_is : later ≡ inner
   pub named_is : named ≡ take (length channels) names
   pub depth_is : depth ≡ length inner
   pub many_is : many ≡ length names
 
 module _ (tops : Naming) (at : At) (y : List ℕ) (ds : Definitions) (p : Process) (count : ℕ)
-    (next : At) (channels counts names inner later named : List ℕ) (depth many : ℕ)
+    (next : At) (channels counts names inner named : List ℕ) (depth many : ℕ)
     (start d : Defined)
     (g : start ≡ no_definitions next)
-    (f : OpenedAs at y ds count next channels counts names inner later named depth many)
+    (f : OpenedAs at y ds count next channels counts names inner named depth many)
     (a : AppendsDefined start d
-    (write_defs tops start.piece.next at.block 0 at.level channels inner named ds)) where
+    (write_defs tops start.piece.next at.block (length start.places) at.level channels inner named
+    ds)) where
   abbrev z : List ℕ
   z = y ++ order ds
 
@@ -107,12 +104,12 @@ module _ (tops : Naming) (at : At) (y : List ℕ) (ds : Definitions) (p : Proces
   e = subst (λ (q : At × (List ℕ × (List ℕ × List ℕ))). AppendsDefined (no_definitions q.0) d
       (write_defs tops q.0 at.block 0 at.level q.1.0 q.1.1.0 q.1.1.1 ds))
       (λ i. (next_is i, (f.channels_are i, (inner_is i, named_is i))))
-      (subst (λ (q : Defined).
-      AppendsDefined q d (write_defs tops q.piece.next at.block 0 at.level channels inner named ds))
+      (subst (λ (q : Defined). AppendsDefined q d
+      (write_defs tops q.piece.next at.block (length q.places) at.level channels inner named ds))
       g a)
 
   pub block_written : (o : Result (Unit {0}) Memory) (old new within : Piece)
-      → Appends d.piece within (write tops d.piece.next later p).piece
+      → Appends d.piece within (write tops d.piece.next inner p).piece
       → OnOk o (Appends old new (whole_block at depth count many counts
       (record { guards = d.guards; places = d.places; piece = within })))
       → OnOk o (Appends old new (write tops at y (Def ds p)).piece)
@@ -137,20 +134,20 @@ module _ (tops : Naming) (at : At) (y : List ℕ) (ds : Definitions) (p : Proces
     where
       w : Appends d.piece within W.piece
       w = subst (λ (q : At × List ℕ). Appends d.piece within (write tops q.0 q.1 p).piece)
-          (λ i. (e.2.0 i, (f.later_is ∙ inner_is) i)) b
+          (λ i. (e.2.0 i, inner_is i)) b
 
   -- the block's instructions
   pub block_instrs : (o : Result (Unit {0}) Memory) (old entered more left : List Instr)
       → entered ≡ old ++ instr.Enter at.block ∷ []
-      → more ≡ entered ++ (write tops d.piece.next later p).instrs
+      → more ≡ entered ++ (write tops d.piece.next inner p).instrs
       → left ≡ more ++ instr.Leave many ∷ []
       → OnOk o (left ≡ old ++ (write tops at y (Def ds p)).instrs)
   block_instrs (Err m) old entered more left h1 h2 h3 = tt
   block_instrs (Ok u) old entered more left h1 h2 h3 =
       let enter = instr.Enter at.block in
       let leave = λ (n : ℕ). instr.Leave n ∷ [] in
-      let within : (write tops d.piece.next later p).instrs ≡ W.instrs =
-      (λ i. (write tops (e.2.0 i) ((f.later_is ∙ inner_is) i) p).instrs) in
+      let within : (write tops d.piece.next inner p).instrs ≡ W.instrs =
+      (λ i. (write tops (e.2.0 i) (inner_is i) p).instrs) in
       h3 ∙ (λ i. (h2 ∙ (λ j. h1 j ++ within j)) i ++ leave (many_is i))
       ∙ append_assoc (old ++ enter ∷ []) W.instrs (leave (length (order ds)))
       ∙ append_assoc old (enter ∷ []) (W.instrs ++ leave (length (order ds)))
@@ -162,38 +159,38 @@ cut_back (Err m) old more long cut count e f g = tt
 cut_back (Ok u) old more long cut count e f g = g ∙ (λ i. take (e i) (f i)) ∙ take_front old more
 
 module _ (tops : Naming) (block number : ℕ) (z acc : List ℕ) (x : Ref) (es : Definitions)
-    (p : Process) (old d : Defined) (last : Piece) (own named later : List ℕ) (done : ℕ)
+    (p : Process) (old d : Defined) (last : Piece) (own named : List ℕ) (done : ℕ)
     (own_is : own ≡ new_channels (acc ++ binder_of x) es)
-    (named_is : named ≡ acc ++ place_order acc x es) (later_is : later ≡ z)
-    (a : AppendsDefined old d (write_defs tops old.piece.next block 0 number own z named es))
-    (b : Appends d.piece last (with_body tops (write tops d.piece.next later p)))
-    (n : done ≡ (write tops d.piece.next later p).piece.next.body) where
+    (named_is : named ≡ acc ++ place_order acc x es)
+    (a : AppendsDefined old d
+    (write_defs tops old.piece.next block (length old.places) number own z named es))
+    (b : Appends d.piece last (with_body tops (write tops d.piece.next z p)))
+    (n : done ≡ (write tops d.piece.next z p).piece.next.body) where
   abbrev in_defs : Defined
-  in_defs = place_defs tops old.piece.next block number z acc x es
+  in_defs = place_defs tops old block number z acc x es
 
   abbrev in_process : Wrote
-  in_process = place_process tops old.piece.next block number z acc x es p
+  in_process = place_process tops old block number z acc x es p
 
   in_defs_are : AppendsDefined old d in_defs
-  in_defs_are = subst (λ (q : List ℕ × List ℕ).
-      AppendsDefined old d (write_defs tops old.piece.next block 0 number q.0 z q.1 es))
+  in_defs_are = subst (λ (q : List ℕ × List ℕ). AppendsDefined old d
+      (write_defs tops old.piece.next block (length old.places) number q.0 z q.1 es))
       (λ i. (own_is i, named_is i)) a
 
   abbrev in_body : Piece
   in_body = with_body tops in_process
 
   in_body_is : Appends d.piece last in_body
-  in_body_is =
-      subst (λ (q : At × List ℕ). Appends d.piece last (with_body tops (write tops q.0 q.1 p)))
-      (λ i. (in_defs_are.2.0 i, later_is i)) b
+  in_body_is = subst (λ (q : At). Appends d.piece last (with_body tops (write tops q z p)))
+      in_defs_are.2.0 b
 
   -- the number of its body
   pub place_number : done ≡ in_process.piece.next.body
-  place_number = n ∙ (λ i. (write tops (in_defs_are.2.0 i) (later_is i) p).piece.next.body)
+  place_number = n ∙ ap (λ (q : At). (write tops q z p).piece.next.body) in_defs_are.2.0
 
   pub place_within :
       AppendsDefined old (record { guards = d.guards; places = d.places; piece = last })
-      (in_place tops old.piece.next block number z acc x es p)
+      (in_place tops old block number z acc x es p)
   place_within =
       let e = in_defs_are in
       let w = in_body_is in
@@ -213,93 +210,23 @@ module _ (tops : Naming) (block number : ℕ) (z acc : List ℕ) (x : Ref) (es :
         ),
       )
 
--- a rule with its guard
-pub rule_written :
-    (o : Result (Unit {0}) Memory) (tops : Naming) (level : ℕ) (channels layout later : List ℕ)
-    (ps : List Pat) (p : Process) (old new : Defined) (number : ℕ) (made : Guard)
-    → later ≡ layout ++ params_of ps
-    → Appends old.piece new.piece (with_body tops (write tops old.piece.next later p))
-    → number ≡ (write tops old.piece.next later p).piece.next.body
-    → made ≡ guard_with level channels ps p number
-    → OnOk o (new.guards ≡ old.guards ++ made ∷ []) → new.places ≡ old.places
-    → OnOk o (AppendsDefined old new
-    (write_def tops old.piece.next 0 0 level channels layout [] (Rule ps p)))
-rule_written (Err m) tops level channels layout later ps p old new number made l a n g h same = tt
-rule_written (Ok u) tops level channels layout later ps p old new number made l a n g h same = (
-  h
-      ∙ (λ i. old.guards
-      ++ (g
-      ∙ ap (guard_with level channels ps p)
-      (n ∙ ap (λ y. (write tops old.piece.next y p).piece.next.body) l)) i ∷ []),
-  same ∙ sym (append_nil old.places),
-  subst (λ y. Appends old.piece new.piece (with_body tops (write tops old.piece.next y p))) l a,
-)
+-- ---- what writes
 
--- a place with its level, where the level begins with these
-pub place_written :
-    (o : Result (Unit {0}) Memory) (tops : Naming) (block place : ℕ) (z acc : List ℕ) (x : Ref)
-    (es : Definitions) (p : Process) (old new : Defined) (count depth : ℕ) (counts : List ℕ)
-    (next : At) (own : Level) (start d : Defined)
-    → start ≡ no_definitions next → count ≡ rules_in es → next ≡ behind old.piece.next count
-    → depth ≡ length z → counts ≡ []
-    → AppendsDefined start d
-    (in_place tops start.piece.next block old.piece.next.level z acc x es p)
-    → own ≡ place_level tops start.piece.next block old.piece.next.level z acc x es p (record {
-      block = block;
-      place = Some place;
-      counts = counts;
-      depth = depth;
-      first = old.piece.next.guard;
-      guards = count;
-      body = None;
-    })
-    → OnOk o (AppendsDefined old new (whole_place old.piece.next.level own d))
-    → OnOk o
-    (AppendsDefined old new (write_def tops old.piece.next block place 0 [] z acc (Place x es p)))
-place_written (Err m) tops block place z acc x es p old new count depth counts next own start d g
-    many from deep none a own_is h = tt
-place_written (Ok n) tops block place z acc x es p old new count depth counts next own start d g
-    many from deep none a own_is h = (
-      h.0,
-      h.1,
-      (
-        h.2.0 ∙ e.2.0,
-        h.2.1 ∙ (λ i. old.piece.levels ++ level_is i ∷ e.2.1 i),
-        h.2.2 ∙ (λ i. old.piece.guards ++ (e.0 i ++ e.2.2 i)),
-        h.2.3 ∙ ap (λ y. old.piece.blocks ++ y) e.2.3,
-        h.2.4 ∙ ap (λ y. old.piece.bodies ++ y) e.2.4,
-      ),
-    )
-  where
-    at : At
-    at = old.piece.next
+abbrev pub under : Writer → List ℕ → Writer
+under w y = record { alloc = w.alloc; tops = w.tops; layout = y }
 
-    at1 : At
-    at1 = behind at (rules_in es)
+-- what writes is as it was, once its layout is cut back
+pub writer_back : (o : Result (Unit {0}) Memory) (w u : Writer) (inner cut : List ℕ)
+    → u ≡ under w inner → OnOk o (cut ≡ w.layout) → OnOk o (under u cut ≡ w)
+writer_back (Err m) w u inner cut same h = tt
+writer_back (Ok n) w u inner cut same h =
+    λ i. record { alloc = (same i).alloc; tops = (same i).tops; layout = h i }
 
-    start_is : start ≡ no_definitions at1
-    start_is = g ∙ ap (λ (q : At). no_definitions q) (from ∙ ap (behind at) many)
-
-    e : AppendsDefined (no_definitions at1) d (in_place tops at1 block at.level z acc x es p)
-    e = subst (λ (q : Defined).
-        AppendsDefined q d (in_place tops q.piece.next block at.level z acc x es p)) start_is a
-
-    level_is : own ≡ place_level tops at1 block at.level z acc x es p (record {
-      block = block;
-      place = Some place;
-      counts = [];
-      depth = length z;
-      first = at.guard;
-      guards = rules_in es;
-      body = None;
-    })
-    level_is = own_is
-        ∙ (λ i. place_level tops ((start_is i).piece.next) block at.level z acc x es p (record {
-          block = block;
-          place = Some place;
-          counts = none i;
-          depth = deep i;
-          first = at.guard;
-          guards = many i;
-          body = None;
-        }))
+-- three facts as one
+pub all_written : (o : Result (Unit {0}) Memory) (w v : Writer) (old new : Piece)
+    (begun is : List Instr) (p : Process) → OnOk o (v ≡ w)
+    → OnOk o (Appends old new (write w.tops.now old.next w.layout p).piece)
+    → OnOk o (is ≡ begun ++ (write w.tops.now old.next w.layout p).instrs)
+    → OnOk o (Writes w v old new begun is p)
+all_written (Err m) w v old new begun is p a b c = tt
+all_written (Ok n) w v old new begun is p a b c = record { writer = a; piece = b; instrs = c }

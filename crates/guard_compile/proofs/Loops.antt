@@ -1,9 +1,9 @@
 -- The loops that write: what is there, and what is left to write, are the whole.
 use Rattle.std.proofs.Common.{◌≡◌, ℕ, ◌+◌, ◌<◌, ◌≤◌, zero, suc, List, [], ◌∷◌, ◌++◌, length, get_or}
 use Rattle.std.proofs.Common.{drop, drop-cons, add-one, refl, sym, ap, ◌∙◌, subst, append_assoc}
-use Rattle.std.proofs.Common.{arith}
+use Rattle.std.proofs.Common.{arith, length-append}
 use Rattle.chem_model.specs.declared.program.SiteTerm.{SiteTerm}
-use Rattle.chem_model.specs.Process.{Process, processes, Definition, definitions}
+use Rattle.chem_model.specs.Process.{Process, processes, Par, Definition, definitions}
 use Rattle.chem_model.specs.Fill.{Naming}
 use Rattle.chem_laws.proofs.Lists.{append_nil}
 use Rattle.env_store.specs.declared.code.Instr.{Instr}
@@ -12,10 +12,13 @@ use Rattle.env_store.specs.Layout.{place_in, places_order}
 use Rattle.guard_compile.specs.declared.write.At.{At}
 use Rattle.guard_compile.specs.declared.write.Piece.{Piece}
 use Rattle.guard_compile.specs.declared.write.Defined.{Defined}
-use Rattle.guard_compile.specs.Written.{with_bit, with_bits, WroteSites, join, no_piece, zero_at}
-use Rattle.guard_compile.specs.Written.{write, write_all, write_defs, write_def, site_piece}
+use Rattle.guard_compile.specs.declared.write.Writer.{Writer}
+use Rattle.guard_compile.specs.declared.write.Within.{Within}
+use Rattle.guard_compile.specs.Written.{with_bit, with_bits, Wrote, WroteSites, join, no_piece}
+use Rattle.guard_compile.specs.Written.{zero_at}
+use Rattle.guard_compile.specs.Written.{write, write_all, write_defs, site_piece}
 use Rattle.guard_compile.specs.Written.{site_code, write_sites}
-use Rattle.guard_compile.specs.inside.Appends.{Appends, AppendsDefined}
+use Rattle.guard_compile.specs.inside.Appends.{Appends, Writes, Defines, defs_wrote, def_wrote}
 
 -- the rest of a list begins with the member at its place
 pub drop_at : {X : Type 0} (xs : List X) (i : ℕ) (x : X) → i < length xs → x ≡ get_or xs i x
@@ -72,133 +75,144 @@ bits_more words new is js i all split set h =
 
 -- ---- processes
 
-abbrev pub Writing : Naming → Piece → List Instr → List ℕ → List Process → Piece → List Instr
-    → List ℕ → List Process → Type 0
-Writing tops old begun y whole now is z ps =
-    let all = write_all tops old.next y (processes whole) in
-    let rest = write_all tops now.next z (processes ps) in
-    Makes old all.piece now rest.piece × ((is ++ rest.instrs ≡ begun ++ all.instrs) × (z ≡ y))
+abbrev pub Writing : Writer → Piece → List Instr → List Process → Writer → Piece → List Instr
+    → List Process → Type 0
+Writing w old begun whole v now is ps =
+    let all = write_all w.tops.now old.next w.layout (processes whole) in
+    let rest = write_all w.tops.now now.next w.layout (processes ps) in
+    Makes old all.piece now rest.piece × ((is ++ rest.instrs ≡ begun ++ all.instrs) × (v ≡ w))
 
-module _ (tops : Naming) (old : Piece) (begun : List Instr) (y : List ℕ)
-    (whole : List Process) where
-  pub writing_none : Writing tops old begun y whole old begun y whole
-  writing_none = (makes_none old (write_all tops old.next y (processes whole)).piece, (refl, refl))
+module _ (w : Writer) (old : Piece) (begun : List Instr) (whole : List Process) where
+  abbrev Whole : Wrote
+  Whole = write_all w.tops.now old.next w.layout (processes whole)
+
+  pub writing_none : Writing w old begun whole w old begun whole
+  writing_none = (makes_none old Whole.piece, (refl, refl))
 
   pub writing_more :
-      (now : Piece) (is : List Instr) (z : List ℕ) (ps qs : List Process) (x : Process)
-      (new : Piece) (more : List Instr) (u : List ℕ) → ps ≡ x ∷ qs
-      → Writing tops old begun y whole now is z ps
-      → Appends now new (write tops now.next z x).piece
-      → more ≡ is ++ (write tops now.next z x).instrs → u ≡ z
-      → Writing tops old begun y whole new more u qs
-  writing_more now is z ps qs x new more u split h b m l =
-      let w = write tops now.next z x in
-      let v = write_all tops w.piece.next z (processes qs) in
-      let all = write_all tops old.next y (processes whole) in
-      let whole_is : Writing tops old begun y whole now is z (x ∷ qs) =
-      subst (λ (rs : List Process). Writing tops old begun y whole now is z rs) split h in
-      let piece_is : Makes old all.piece new v.piece =
-      makes_more old all.piece now w.piece new v.piece whole_is.0 b in
-      let instrs_are : more ++ v.instrs ≡ begun ++ all.instrs =
-      ap (λ js. js ++ v.instrs) m ∙ append_assoc is w.instrs v.instrs ∙ whole_is.1.0 in
-      let goes_on : Makes old all.piece new v.piece × (more ++ v.instrs ≡ begun ++ all.instrs) =
-      (piece_is, instrs_are) in
-      let there = subst
-      (λ (q : At × List ℕ). Makes old all.piece new (write_all tops q.0 q.1 (processes qs)).piece
-      × (more ++ (write_all tops q.0 q.1 (processes qs)).instrs ≡ begun ++ all.instrs))
-      (λ i. (sym b.0 i, sym l i)) goes_on in
-      (there.0, (there.1, l ∙ whole_is.1.1))
+      (v : Writer) (now : Piece) (is : List Instr) (ps qs : List Process) (x : Process)
+      (u : Writer) (new : Piece) (more : List Instr) → ps ≡ x ∷ qs
+      → Writing w old begun whole v now is ps → Writes v u now new is more x
+      → Writing w old begun whole u new more qs
+  writing_more v now is ps qs x u new more split h b =
+      let a = write w.tops.now now.next w.layout x in
+      let rest = write_all w.tops.now a.piece.next w.layout (processes qs) in
+      let there : Writing w old begun whole v now is (x ∷ qs) =
+      subst (λ (rs : List Process). Writing w old begun whole v now is rs) split h in
+      let here : Writes w u now new is more x =
+      subst (λ (q : Writer). Writes q u now new is more x) there.1.1 b in
+      let piece_is : Makes old Whole.piece new rest.piece =
+      makes_more old Whole.piece now a.piece new rest.piece there.0 here.piece in
+      let instrs_are : more ++ rest.instrs ≡ begun ++ Whole.instrs =
+      ap (λ js. js ++ rest.instrs) here.instrs ∙ append_assoc is a.instrs rest.instrs
+      ∙ there.1.0 in
+      let goes_on : Makes old Whole.piece new rest.piece
+      × (more ++ rest.instrs ≡ begun ++ Whole.instrs) = (piece_is, instrs_are) in
+      let behind = subst
+      (λ (q : At).
+      Makes old Whole.piece new (write_all w.tops.now q w.layout (processes qs)).piece
+      × (more ++ (write_all w.tops.now q w.layout (processes qs)).instrs ≡ begun ++ Whole.instrs))
+      (sym here.piece.0) goes_on in
+      (behind.0, (behind.1, here.writer))
 
-  module _ (now : Piece) (is : List Instr) (z : List ℕ) (ps : List Process) (done : ps ≡ [])
-      (h : Writing tops old begun y whole now is z ps) where
-    ended : Writing tops old begun y whole now is z []
-    ended = subst (λ (rs : List Process). Writing tops old begun y whole now is z rs) done h
-
-    pub written_piece : Appends old now (write_all tops old.next y (processes whole)).piece
-    written_piece = makes_all old (write_all tops old.next y (processes whole)).piece now ended.0
-
-    pub written_instrs : is ≡ begun ++ (write_all tops old.next y (processes whole)).instrs
-    written_instrs = sym (append_nil is) ∙ ended.1.0
+  pub written_whole : (v : Writer) (now : Piece) (is : List Instr) (ps : List Process) → ps ≡ []
+      → Writing w old begun whole v now is ps
+      → Writes w v old now begun is (Par (processes whole))
+  written_whole v now is ps done h =
+      let ended : Writing w old begun whole v now is [] =
+      subst (λ (rs : List Process). Writing w old begun whole v now is rs) done h in
+      record {
+        writer = ended.1.1;
+        piece = makes_all old Whole.piece now ended.0;
+        instrs = sym (append_nil is) ∙ ended.1.0;
+      }
 
 -- ---- definitions
 
-abbrev pub Defining : Naming → ℕ → ℕ → List ℕ → Defined → ℕ → List ℕ → List ℕ → List Definition
-    → Defined → ℕ → List ℕ → List ℕ → List Definition → Type 0
-Defining tops block level channels old first y acc whole now count z named ds =
-    let all = write_defs tops old.piece.next block first level channels y acc (definitions whole) in
-    let rest = write_defs tops now.piece.next block count level channels z named (definitions ds) in
+abbrev pub Defining : Writer → Within → Defined → List ℕ → List Definition → Writer → Defined
+    → List ℕ → List Definition → Type 0
+Defining w at old acc whole v now named ds =
+    let all = defs_wrote w at old acc (definitions whole) in
+    let rest = defs_wrote w at now named (definitions ds) in
     (now.guards ++ rest.guards ≡ old.guards ++ all.guards)
     × ((now.places ++ rest.places ≡ old.places ++ all.places)
     × (Makes old.piece all.piece now.piece rest.piece
     × ((named ++ places_order named (definitions ds) ≡ acc ++ places_order acc (definitions whole))
-    × (z ≡ y))))
+    × (v ≡ w))))
 
-module _ (tops : Naming) (block level : ℕ) (channels : List ℕ) (old : Defined) (first : ℕ)
-    (y acc : List ℕ) (whole : List Definition) where
+module _ (w : Writer) (at : Within) (old : Defined) (acc : List ℕ) (whole : List Definition) where
   abbrev All : Defined
-  All = write_defs tops old.piece.next block first level channels y acc (definitions whole)
+  All = defs_wrote w at old acc (definitions whole)
 
-  pub defining_none : Defining tops block level channels old first y acc whole old first y acc whole
+  pub defining_none : Defining w at old acc whole w old acc whole
   defining_none = (refl, (refl, (makes_none old.piece All.piece, (refl, refl))))
 
   pub defining_more :
-      (now : Defined) (count : ℕ) (z named : List ℕ) (ds es : List Definition) (x : Definition)
-      (new : Defined) (next : ℕ) (u more : List ℕ) → ds ≡ x ∷ es
-      → Defining tops block level channels old first y acc whole now count z named ds
-      → AppendsDefined now new (write_def tops now.piece.next block count level channels z named x)
-      → more ≡ named ++ place_in named x
-      → next
-      ≡ count + length (write_def tops now.piece.next block count level channels z named x).places
-      → u ≡ z
-      → Defining tops block level channels old first y acc whole new next u more es
-  defining_more now count z named ds es x new next u more split h b m n l =
-      let a = write_def tops now.piece.next block count level channels z named x in
+      (v : Writer) (now : Defined) (named : List ℕ) (ds es : List Definition) (x : Definition)
+      (u : Writer) (new : Defined) (more : List ℕ) → ds ≡ x ∷ es
+      → Defining w at old acc whole v now named ds
+      → Defines v u named more (place_in named x) now new (def_wrote v at now named x)
+      → Defining w at old acc whole u new more es
+  defining_more v now named ds es x u new more split h b =
+      let a = def_wrote w at now named x in
       let named1 = named ++ place_in named x in
-      let v = write_defs tops a.piece.next block (count + length a.places) level channels z named1
+      let rest = write_defs w.tops.now a.piece.next at.block
+      (length now.places + length a.places) at.level at.channels.now w.layout named1
       (definitions es) in
-      let w : Defining tops block level channels old first y acc whole now count z named (x ∷ es) =
-      subst (λ (rs : List Definition).
-      Defining tops block level channels old first y acc whole now count z named rs) split h in
-      let guards_are : new.guards ++ v.guards ≡ old.guards ++ All.guards =
-      ap (λ q. q ++ v.guards) b.0 ∙ append_assoc now.guards a.guards v.guards ∙ w.0 in
-      let places_are : new.places ++ v.places ≡ old.places ++ All.places =
-      ap (λ q. q ++ v.places) b.1 ∙ append_assoc now.places a.places v.places ∙ w.1.0 in
-      let piece_is : Makes old.piece All.piece new.piece v.piece =
-      makes_more old.piece All.piece now.piece a.piece new.piece v.piece w.1.1.0 b.2 in
+      let there : Defining w at old acc whole v now named (x ∷ es) =
+      subst (λ (rs : List Definition). Defining w at old acc whole v now named rs) split h in
+      let here : Defines w u named more (place_in named x) now new a =
+      subst
+      (λ (q : Writer).
+      Defines q u named more (place_in named x) now new (def_wrote q at now named x))
+      there.1.1.1.1 b in
+      let added = here.defined in
+      let guards_are : new.guards ++ rest.guards ≡ old.guards ++ All.guards =
+      ap (λ q. q ++ rest.guards) added.0 ∙ append_assoc now.guards a.guards rest.guards
+      ∙ there.0 in
+      let places_are : new.places ++ rest.places ≡ old.places ++ All.places =
+      ap (λ q. q ++ rest.places) added.1 ∙ append_assoc now.places a.places rest.places
+      ∙ there.1.0 in
+      let piece_is : Makes old.piece All.piece new.piece rest.piece =
+      makes_more old.piece All.piece now.piece a.piece new.piece rest.piece there.1.1.0 added.2 in
       let named_are : named1 ++ places_order named1 (definitions es)
       ≡ acc ++ places_order acc (definitions whole) =
-      append_assoc named (place_in named x) (places_order named1 (definitions es)) ∙ w.1.1.1.0 in
-      let goes_on : (new.guards ++ v.guards ≡ old.guards ++ All.guards)
-      × ((new.places ++ v.places ≡ old.places ++ All.places)
-      × (Makes old.piece All.piece new.piece v.piece
-      × ((named1 ++ places_order named1 (definitions es)
-      ≡ acc ++ places_order acc (definitions whole)) × (z ≡ y)))) =
-      (guards_are, (places_are, (piece_is, (named_are, w.1.1.1.1)))) in
-      subst (λ (q : (At × ℕ) × (List ℕ × List ℕ)).
-      let r = write_defs tops q.0.0 block q.0.1 level channels q.1.0 q.1.1 (definitions es) in
+      append_assoc named (place_in named x) (places_order named1 (definitions es))
+      ∙ there.1.1.1.0 in
+      let long : length new.places ≡ length (now.places ++ a.places) = ap length added.1 in
+      let count : length now.places + length a.places ≡ length new.places =
+      omega (arith, long, length-append now.places a.places) in
+      let goes_on : (new.guards ++ rest.guards ≡ old.guards ++ All.guards)
+      × ((new.places ++ rest.places ≡ old.places ++ All.places)
+      × (Makes old.piece All.piece new.piece rest.piece
+      × (named1 ++ places_order named1 (definitions es)
+      ≡ acc ++ places_order acc (definitions whole)))) =
+      (guards_are, (places_are, (piece_is, named_are))) in
+      let behind = subst (λ (q : (At × ℕ) × List ℕ).
+      let r = write_defs w.tops.now q.0.0 at.block q.0.1 at.level at.channels.now w.layout q.1
+      (definitions es) in
       (new.guards ++ r.guards ≡ old.guards ++ All.guards)
       × ((new.places ++ r.places ≡ old.places ++ All.places)
       × (Makes old.piece All.piece new.piece r.piece
-      ×
-      ((q.1.1 ++ places_order q.1.1 (definitions es) ≡ acc ++ places_order acc (definitions whole))
-      × (q.1.0 ≡ y)))))
-      (λ i. ((sym b.2.0 i, sym n i), (sym l i, sym m i))) goes_on
+      × (q.1 ++ places_order q.1 (definitions es) ≡ acc ++ places_order acc (definitions whole)))))
+      (λ i. ((sym added.2.0 i, count i), sym here.named i)) goes_on in
+      (behind.0, (behind.1.0, (behind.1.1.0, (behind.1.1.1, here.writer))))
 
-  module _ (now : Defined) (count : ℕ) (z named : List ℕ) (ds : List Definition) (done : ds ≡ [])
-      (h : Defining tops block level channels old first y acc whole now count z named ds) where
-    ended_defs : Defining tops block level channels old first y acc whole now count z named []
-    ended_defs = subst (λ (rs : List Definition).
-        Defining tops block level channels old first y acc whole now count z named rs) done h
-
-    pub defined_all : AppendsDefined old now All
-    defined_all = (
-      sym (append_nil now.guards) ∙ ended_defs.0,
-      sym (append_nil now.places) ∙ ended_defs.1.0,
-      makes_all old.piece All.piece now.piece ended_defs.1.1.0,
-    )
-
-    pub defined_named : named ≡ acc ++ places_order acc (definitions whole)
-    defined_named = sym (append_nil named) ∙ ended_defs.1.1.1.0
+  pub defined_whole : (v : Writer) (now : Defined) (named : List ℕ) (ds : List Definition)
+      → ds ≡ [] → Defining w at old acc whole v now named ds
+      → Defines w v acc named (places_order acc (definitions whole)) old now All
+  defined_whole v now named ds done h =
+      let ended : Defining w at old acc whole v now named [] =
+      subst (λ (rs : List Definition). Defining w at old acc whole v now named rs) done h in
+      record {
+        writer = ended.1.1.1.1;
+        named = sym (append_nil named) ∙ ended.1.1.1.0;
+        defined = (
+          sym (append_nil now.guards) ∙ ended.0,
+          sym (append_nil now.places) ∙ ended.1.0,
+          makes_all old.piece All.piece now.piece ended.1.1.0,
+        );
+      }
 
 -- ---- sites
 

@@ -11,63 +11,50 @@ use Rattle.guard_compile.specs.declared.layout.Opened.{Opened}
 use Rattle.guard_compile.specs.declared.write.At.{At}
 use Rattle.guard_compile.specs.declared.write.Piece.{Piece}
 use Rattle.guard_compile.specs.declared.write.Defined.{Defined}
+use Rattle.guard_compile.specs.declared.write.Writer.{Writer}
 use Rattle.guard_compile.specs.Written.{Wrote, behind, inside, above, no_definitions}
 use Rattle.guard_compile.specs.Written.{with_body, write, write_defs, site_body, site_piece}
 use Rattle.guard_compile.specs.inside.Appends.{Appends, AppendsDefined, AreBlockNames, whole_block}
-
--- definitions under no layout
-pub site_defs_written :
-    (o : Result (Unit {0}) Memory) (tops : Naming) (at : At) (channels layout named : List ℕ)
-    (ds : Definitions) (old d : Defined) → layout ≡ [] → named ≡ channels
-    → OnOk o (AppendsDefined old d
-    (write_defs tops old.piece.next at.block 0 at.level channels layout named ds))
-    → OnOk o (AppendsDefined old d
-    (write_defs tops old.piece.next at.block 0 at.level channels [] channels ds))
-site_defs_written o tops at channels layout named ds old d l n a =
-    subst (λ (q : List ℕ × List ℕ). OnOk o
-    (AppendsDefined old d (write_defs tops old.piece.next at.block 0 at.level channels q.0 q.1 ds)))
-    (λ i. (l i, n i)) a
+use Rattle.guard_compile.specs.inside.Appends.{Writes, WritesBody}
 
 -- a process that is a body of its own
 pub body_written :
-    (o : Result ℕ Memory) (tops : Naming) (layout : List ℕ) (p : Process) (old mid new : Piece)
-    (begun is : List Instr) → begun ≡ []
-    → Appends old mid (write tops old.next layout p).piece
-    → is ≡ begun ++ (write tops old.next layout p).instrs
+    (o : Result ℕ Memory) (w v : Writer) (p : Process) (old mid new : Piece)
+    (begun is : List Instr) → begun ≡ [] → Writes w v old mid begun is p
+    → IfOk o (λ n. n ≡ mid.next.body)
     → OnOk o (new.next ≡ above mid.next)
     → OnOk o (new.bodies ≡ mid.bodies ++ is ∷ [])
     → OnOk o (new.levels ≡ mid.levels)
     → OnOk o (new.guards ≡ mid.guards)
     → OnOk o (new.blocks ≡ mid.blocks)
-    → OnOk o (Appends old new (with_body tops (write tops old.next layout p)))
-body_written (Err m) tops layout p old mid new begun is k w b h1 h2 h3 h4 h5 = tt
-body_written (Ok n) tops layout p old mid new begun is k w b h1 h2 h3 h4 h5 = (
-  h1 ∙ ap above w.0,
-  h3 ∙ w.1 ∙ (λ i. old.levels ++ sym (append_nil W.piece.levels) i),
-  h4 ∙ w.2 ∙ (λ i. old.guards ++ sym (append_nil W.piece.guards) i),
-  h5 ∙ w.3 ∙ (λ i. old.blocks ++ sym (append_nil W.piece.blocks) i),
-  h2 ∙ (λ i. w.4 i ++ is_is i ∷ []) ∙ append_assoc old.bodies W.piece.bodies (W.instrs ∷ []),
-)
+    → IfOk o (WritesBody w v old new p)
+body_written (Err m) w v p old mid new begun is k b h0 h1 h2 h3 h4 h5 = tt
+body_written (Ok n) w v p old mid new begun is k b h0 h1 h2 h3 h4 h5 = record {
+  writer = b.writer;
+  piece = (
+    h1 ∙ ap above b.piece.0,
+    h3 ∙ b.piece.1 ∙ (λ i. old.levels ++ sym (append_nil W.piece.levels) i),
+    h4 ∙ b.piece.2 ∙ (λ i. old.guards ++ sym (append_nil W.piece.guards) i),
+    h5 ∙ b.piece.3 ∙ (λ i. old.blocks ++ sym (append_nil W.piece.blocks) i),
+    h2 ∙ (λ i. b.piece.4 i ++ is_is i ∷ [])
+        ∙ append_assoc old.bodies W.piece.bodies (W.instrs ∷ []),
+  );
+  number = h0 ∙ ap (λ (q : At). q.body) b.piece.0;
+}
   where
     W : Wrote
-    W = write tops old.next layout p
+    W = write w.tops.now old.next w.layout p
 
     is_is : is ≡ W.instrs
-    is_is = b ∙ ap (λ js. js ++ W.instrs) k
-
-pub body_number :
-    (o : Result ℕ Memory) (tops : Naming) (layout : List ℕ) (p : Process) (old mid : Piece)
-    → Appends old mid (write tops old.next layout p).piece → IfOk o (λ n. n ≡ mid.next.body)
-    → IfOk o (λ n. n ≡ (write tops old.next layout p).piece.next.body)
-body_number (Err m) tops layout p old mid w h = tt
-body_number (Ok n) tops layout p old mid w h = h ∙ ap (λ (q : At). q.body) w.0
+    is_is = b.instrs ∙ ap (λ js. js ++ W.instrs) k
 
 module _ (tops : Naming) (at : At) (ds : Definitions) (p : Process) (count : ℕ) (o : Opened)
     (many : ℕ) (start d : Defined)
     (count_is : count ≡ rules_in ds) (names : AreBlockNames ds o) (many_is : many ≡ length o.order)
     (g : start ≡ no_definitions (behind (inside at) count))
     (a : AppendsDefined start d
-    (write_defs tops start.piece.next at.block 0 at.level o.channels [] o.channels ds)) where
+    (write_defs tops start.piece.next at.block (length start.places) at.level o.channels []
+    o.channels ds)) where
   abbrev at1 : At
   at1 = behind (inside at) (rules_in ds)
 
@@ -76,7 +63,8 @@ module _ (tops : Naming) (at : At) (ds : Definitions) (p : Process) (count : ℕ
 
   e : AppendsDefined (no_definitions at1) d D
   e = subst (λ (q : Defined × List ℕ).
-      AppendsDefined q.0 d (write_defs tops q.0.piece.next at.block 0 at.level q.1 [] q.1 ds))
+      AppendsDefined q.0 d (write_defs tops q.0.piece.next at.block (length q.0.places) at.level
+      q.1 [] q.1 ds))
       (λ i. ((g ∙ ap (λ n. no_definitions (behind (inside at) n)) count_is) i, names.channels i)) a
 
   -- the number of its body

@@ -1,16 +1,14 @@
 // The members that a process adds to the code's lists.
-ghost use Rattle.std.specs.Prelude.{◌≡◌, [], ◌∷◌, ◌++◌, ◌+◌, IfOk, OnOk, Some, length};
-ghost use Rattle.chem_model.specs.Process.{definitions, processes, Def, Rule, Place};
+ghost use Rattle.std.specs.Prelude.{◌≡◌, [], ◌∷◌, ◌++◌, IfOk, OnOk, length};
+ghost use Rattle.chem_model.specs.Process.{definitions, processes, Def, Par};
 ghost use Rattle.env_store.specs.Layout.{place_in, places_order};
 ghost use Rattle.guard_compile.specs.Written.{behind, inside, above};
 ghost use Rattle.guard_compile.specs.Written.{no_definitions, no_piece};
-ghost use Rattle.guard_compile.specs.Written.{write as written, write_all as written_all};
-ghost use Rattle.guard_compile.specs.Written.{write_def as written_def};
-ghost use Rattle.guard_compile.specs.Written.{write_defs as written_defs};
-ghost use Rattle.guard_compile.specs.Written.{with_body, site_piece, site_code};
 ghost use Rattle.guard_compile.specs.inside.Appends.{Appends, AppendsDefined, IsBegun};
-ghost use Rattle.guard_compile.specs.inside.Appends.{whole_block, whole_place, in_place};
-ghost use Rattle.guard_compile.specs.inside.Appends.{place_level, guard_with};
+ghost use Rattle.guard_compile.specs.inside.Appends.{Writes, WritesBody, Defines, WritesPlace};
+ghost use Rattle.guard_compile.specs.inside.Appends.{whole_block, whole_place, begun_place};
+ghost use Rattle.guard_compile.specs.inside.Appends.{guard_with, WritesSite};
+ghost use Rattle.guard_compile.specs.inside.Appends.{defs_wrote, def_wrote};
 
 use crate::binders::Binders;
 use crate::count::{poured, rules, sum};
@@ -59,6 +57,31 @@ struct Begun {
     count: u32,
     opened: Opened,
     defined: Defined,
+}
+
+// A place of which nothing is written yet: the number of its level, what is known of that level,
+// and what its definitions add.
+#[derive(Drop)]
+struct BegunPlace {
+    number: u32,
+    level: Level,
+    inner: Defined,
+}
+
+// What writes: the names of the site level, and a layout. Whatever it writes, it is left as it was.
+#[derive(Drop)]
+struct Writer<'a> {
+    alloc: Global,
+    tops: &'a NameTable,
+    layout: Binders,
+}
+
+// Where definitions stand: in this block, in the level with this number and these channels.
+#[derive(Drop)]
+struct Within<'a> {
+    block: u32,
+    level: u32,
+    channels: &'a Binders,
 }
 
 impl At {
@@ -211,17 +234,17 @@ fn put_block(
 }
 
 // Appends a place with its level, and then what is within it.
-fn put_place(
-    number: u32,
-    level: Level,
-    inner: &mut Defined,
-    defined: &mut Defined,
-) -> Result<(), Memory>
+fn put_place(begun: BegunPlace, defined: &mut Defined) -> Result<(), Memory>
     ensures { OnOk result (AppendsDefined defined.old defined.new
-        (whole_place number level inner.old)) }
+        (whole_place begun.number begun.level begun.inner)) }
 {
+    let BegunPlace {
+        number,
+        level,
+        mut inner,
+    } = begun;
     defined.places.push(number)?;
-    put_level(&mut defined.piece, level, inner)
+    put_level(&mut defined.piece, level, &mut inner)
 }
 
 // Appends a body that is done, and answers its number.
@@ -243,20 +266,19 @@ fn put_body(piece: &mut Piece, instrs: Instrs) -> Result<u32, Memory>
 // The guard of a rule, whose body has this number.
 fn rule_guard(
     alloc: Global,
-    level: u32,
-    in_level: &Binders,
+    within: &Within<'_>,
     pats: &Pats,
     body: &Proc,
     number: u32,
 ) -> Result<Guard, Memory>
-    ensures { IfOk result (λ guard. guard ≡ guard_with level in_level.now pats.now body.now
-        number) }
+    ensures { IfOk result (λ guard. guard ≡ guard_with within.now.level within.now.channels.now
+        pats.now body.now number) }
 {
     let made = poured(body)?;
-    let chans = channels(alloc, in_level, pats)?;
-    let words = mask(alloc, in_level.len(), &chans)?;
+    let chans = channels(alloc, within.channels, pats)?;
+    let words = mask(alloc, within.channels.len(), &chans)?;
     Ok(Guard {
-        level,
+        level: within.level,
         mask: Mask { words },
         chans,
         body: number,
@@ -265,393 +287,249 @@ fn rule_guard(
     })
 }
 
-// Writes a process under a layout: its members are appended to the piece, and its instructions to
-// the body.
-#[cycle(write)]
-pub(crate) fn write(
-    alloc: Global,
-    tops: &NameTable,
-    layout: &mut Binders,
-    process: &Proc,
-    piece: &mut Piece,
-    instrs: &mut Instrs,
-) -> Result<(), Memory>
-    ensures piece { OnOk result (Appends piece.old piece.new
-        (written tops.now piece.old.next layout.old process.now).piece) }
-    ensures instrs { OnOk result (instrs.new ≡ instrs.old ++
-        (written tops.now piece.old.next layout.old process.now).instrs) }
-    ensures layout { OnOk result (layout.new ≡ layout.old) }
-{
-    match process.node() {
-        ProcNode::Msg { on, args } => {
-            let args = slots(alloc, tops, layout, args)?;
-            let on = slot(tops, layout, *on);
-            instrs.push(Instr::Send { on, args })
-        }
-        ProcNode::Par(members) => write_all(alloc, tops, layout, members, piece, instrs),
-        ProcNode::Def { defs, body } => write_block(alloc, tops, layout, defs, body, piece, instrs),
-        ProcNode::Go { target, cont } => {
-            let target = slot(tops, layout, *target);
-            let cont = slot(tops, layout, *cont);
-            instrs.push(Instr::Go { target, cont })
-        }
-        ProcNode::Fail { target, cont } => {
-            let target = slot(tops, layout, *target);
-            let cont = slot(tops, layout, *cont);
-            instrs.push(Instr::Fail { target, cont })
-        }
-        ProcNode::Halt => instrs.push(Instr::Halt),
-    }
-}
-
-#[cycle(write)]
-fn write_all(
-    alloc: Global,
-    tops: &NameTable,
-    layout: &mut Binders,
-    members: &Procs,
-    piece: &mut Piece,
-    instrs: &mut Instrs,
-) -> Result<(), Memory>
-    ensures piece { OnOk result (Appends piece.old piece.new
-        (written_all tops.now piece.old.next layout.old
-        (processes members.now)).piece) }
-    ensures instrs { OnOk result (instrs.new ≡ instrs.old ++
-        (written_all tops.now piece.old.next layout.old
-        (processes members.now)).instrs) }
-    ensures layout { OnOk result (layout.new ≡ layout.old) }
-{
-    for member in members.as_slice() {
-        write(alloc, tops, layout, member, piece, instrs)?;
-    }
-    Ok(())
-}
-
-// Writes `def`: its block with its own level come first, then what its definitions add, and then
-// what its process adds.
-#[cycle(write)]
-fn write_block(
-    alloc: Global,
-    tops: &NameTable,
-    layout: &mut Binders,
-    defs: &Defs,
-    body: &Proc,
-    piece: &mut Piece,
-    instrs: &mut Instrs,
-) -> Result<(), Memory>
-    ensures piece { OnOk result (Appends piece.old piece.new
-        (written tops.now piece.old.next layout.old (Def
-        (definitions defs.now) body.now)).piece) }
-    ensures instrs { OnOk result (instrs.new ≡ instrs.old ++
-        (written tops.now piece.old.next layout.old (Def
-        (definitions defs.now) body.now)).instrs) }
-    ensures layout { OnOk result (layout.new ≡ layout.old) }
-{
-    let mut begun = begin(alloc, piece.next, defs)?;
-    let written = write_begun(alloc, tops, &mut begun, layout, defs, body, piece, instrs);
-    drop(begun);
-    written
-}
-
-// Writes a block that is begun.
-#[cycle(write)]
-fn write_begun(
-    alloc: Global,
-    tops: &NameTable,
-    begun: &mut Begun,
-    layout: &mut Binders,
-    defs: &Defs,
-    body: &Proc,
-    piece: &mut Piece,
-    instrs: &mut Instrs,
-) -> Result<(), Memory>
-    requires { IsBegun piece.old.next (definitions defs.now) begun.old }
-    ensures piece { OnOk result (Appends piece.old piece.new
-        (written tops.now piece.old.next layout.old (Def
-        (definitions defs.now) body.now)).piece) }
-    ensures instrs { OnOk result (instrs.new ≡ instrs.old ++
-        (written tops.now piece.old.next layout.old (Def
-        (definitions defs.now) body.now)).instrs) }
-    ensures layout { OnOk result (layout.new ≡ layout.old) }
-{
-    let at = piece.next;
-    let outside = layout.len();
-    layout.extend(begun.opened.order.as_slice())?;
-    instrs.push(Instr::Enter { block: at.block })?;
-    let depth = layout.len();
-    let names = begun.opened.order.len();
-    begun.opened.order.truncate(begun.opened.channels.len());
-    write_defs(
-        alloc,
-        tops,
-        at.block,
-        &mut 0,
-        at.level,
-        &begun.opened.channels,
-        layout,
-        &mut begun.opened.order,
-        defs,
-        &mut begun.defined,
-    )?;
-    write(alloc, tops, layout, body, &mut begun.defined.piece, instrs)?;
-    instrs.push(Instr::Leave { count: names })?;
-    layout.truncate(outside);
-    put_block(alloc, at, depth, names, begun, piece)
-}
-
-// Writes definitions of one level, in a block of which so many places have been written.
-#[cycle(write)]
-fn write_defs(
-    alloc: Global,
-    tops: &NameTable,
-    block: u32,
-    count: &mut u32,
-    level: u32,
-    channels: &Binders,
-    layout: &mut Binders,
-    named: &mut Binders,
-    defs: &Defs,
-    defined: &mut Defined,
-) -> Result<(), Memory>
-    ensures defined { OnOk result (AppendsDefined defined.old defined.new
-        (written_defs tops.now defined.old.piece.next block count.old level channels.now
-        layout.old named.old (definitions defs.now))) }
-    ensures named { OnOk result (named.new ≡ named.old ++ places_order named.old
-        (definitions defs.now)) }
-    ensures layout { OnOk result (layout.new ≡ layout.old) }
-{
-    for definition in defs.as_slice() {
-        write_def(
-            alloc, tops, block, count, level, channels, layout, named, definition, defined,
-        )?;
-    }
-    Ok(())
-}
-
-#[cycle(write)]
-fn write_def(
-    alloc: Global,
-    tops: &NameTable,
-    block: u32,
-    count: &mut u32,
-    level: u32,
-    channels: &Binders,
-    layout: &mut Binders,
-    named: &mut Binders,
-    definition: &Defn,
-    defined: &mut Defined,
-) -> Result<(), Memory>
-    ensures defined { OnOk result (AppendsDefined defined.old defined.new
-        (written_def tops.now defined.old.piece.next block count.old level channels.now
-        layout.old named.old definition.now)) }
-    ensures named { OnOk result (named.new ≡ named.old ++ place_in named.old definition.now) }
-    ensures count { OnOk result (count.new ≡ count.old + length
-        (written_def tops.now defined.old.piece.next block count.old level channels.now
-        layout.old named.old definition.now).places) }
-    ensures layout { OnOk result (layout.new ≡ layout.old) }
-{
-    match definition.node() {
-        DefnNode::Rule { pats, body } => write_rule(
-            alloc, tops, level, channels, layout, pats, body, defined,
-        ),
-        DefnNode::Place { name, defs, body } => {
-            let next = sum(*count, 1)?;
-            write_place(
-                alloc, tops, block, *count, layout, named, *name, defs, body, defined,
-            )?;
-            *count = next;
-            Ok(())
+impl<'a> Writer<'a> {
+    // Writes a process: its members are appended to the piece, and its instructions to the body.
+    #[cycle(write)]
+    fn write(
+        &mut self,
+        process: &Proc,
+        piece: &mut Piece,
+        instrs: &mut Instrs,
+    ) -> Result<(), Memory>
+        ensures { OnOk result (Writes self.old self.new piece.old piece.new instrs.old instrs.new
+            process.now) }
+    {
+        match process.node() {
+            ProcNode::Msg { on, args } => {
+                let args = slots(self.alloc, self.tops, &self.layout, args)?;
+                let on = slot(self.tops, &self.layout, *on);
+                instrs.push(Instr::Send { on, args })
+            }
+            ProcNode::Par(members) => self.write_all(members, piece, instrs),
+            ProcNode::Def { defs, body } => self.write_block(defs, body, piece, instrs),
+            ProcNode::Go { target, cont } => {
+                let target = slot(self.tops, &self.layout, *target);
+                let cont = slot(self.tops, &self.layout, *cont);
+                instrs.push(Instr::Go { target, cont })
+            }
+            ProcNode::Fail { target, cont } => {
+                let target = slot(self.tops, &self.layout, *target);
+                let cont = slot(self.tops, &self.layout, *cont);
+                instrs.push(Instr::Fail { target, cont })
+            }
+            ProcNode::Halt => instrs.push(Instr::Halt),
         }
     }
-}
 
-// Writes a process that is a body of its own, and answers the number of that body.
-#[cycle(write)]
-fn write_body(
-    alloc: Global,
-    tops: &NameTable,
-    layout: &mut Binders,
-    process: &Proc,
-    piece: &mut Piece,
-) -> Result<u32, Memory>
-    ensures piece { OnOk result (Appends piece.old piece.new
-        (with_body tops.now (written tops.now piece.old.next layout.old process.now))) }
-    ensures number { IfOk result (λ number. number ≡
-        (written tops.now piece.old.next layout.old process.now).piece.next.body) }
-    ensures layout { OnOk result (layout.new ≡ layout.old) }
-{
-    let mut instrs = Items::new(alloc);
-    write(alloc, tops, layout, process, piece, &mut instrs)?;
-    put_body(piece, instrs)
-}
-
-// Writes a rule: its body, and then its guard.
-#[cycle(write)]
-fn write_rule(
-    alloc: Global,
-    tops: &NameTable,
-    level: u32,
-    in_level: &Binders,
-    layout: &mut Binders,
-    pats: &Pats,
-    body: &Proc,
-    defined: &mut Defined,
-) -> Result<(), Memory>
-    ensures defined { OnOk result (AppendsDefined defined.old defined.new
-        (written_def tops.now defined.old.piece.next 0 0 level in_level.now layout.old []
-        (Rule pats.now body.now))) }
-    ensures layout { OnOk result (layout.new ≡ layout.old) }
-{
-    let outside = layout.len();
-    push_params(layout, pats)?;
-    let number = write_body(alloc, tops, layout, body, &mut defined.piece)?;
-    layout.truncate(outside);
-    let guard = rule_guard(alloc, level, in_level, pats, body, number)?;
-    defined.guards.push(guard)
-}
-
-// Writes a place: its level, what its definitions add, and then its process.
-#[cycle(write)]
-fn write_place(
-    alloc: Global,
-    tops: &NameTable,
-    block: u32,
-    place: u32,
-    layout: &mut Binders,
-    named: &mut Binders,
-    name: Ref,
-    defs: &Defs,
-    body: &Proc,
-    defined: &mut Defined,
-) -> Result<(), Memory>
-    ensures defined { OnOk result (AppendsDefined defined.old defined.new
-        (written_def tops.now defined.old.piece.next block place 0 [] layout.old named.old
-        (Place name (definitions defs.now) body.now))) }
-    ensures named { OnOk result (named.new ≡ named.old ++ place_in named.old (Place name
-        (definitions defs.now) body.now)) }
-    ensures layout { OnOk result (layout.new ≡ layout.old) }
-{
-    let at = defined.piece.next;
-    let count = rules(defs)?;
-    let next = at.behind(count)?;
-    let mut level = Level {
-        block,
-        place: Some(place),
-        counts: Items::new(alloc),
-        depth: layout.len(),
-        first: at.guard,
-        guards: count,
-        body: None,
-    };
-    let mut inner = Defined::start(alloc, next);
-    let written = write_within(
-        alloc, tops, at.level, layout, named, name, defs, body, &mut level, &mut inner,
-    );
-    match written {
-        Ok(()) => {
-            let put = put_place(at.level, level, &mut inner, defined);
-            drop(inner);
-            put
+    #[cycle(write)]
+    fn write_all(
+        &mut self,
+        members: &Procs,
+        piece: &mut Piece,
+        instrs: &mut Instrs,
+    ) -> Result<(), Memory>
+        ensures { OnOk result (Writes self.old self.new piece.old piece.new instrs.old instrs.new
+            (Par (processes members.now))) }
+    {
+        for member in members.as_slice() {
+            self.write(member, piece, instrs)?;
         }
-        Err(memory) => {
-            drop(level);
-            drop(inner);
-            Err(memory)
+        Ok(())
+    }
+
+    // Writes `def`: its block with its own level come first, then what its definitions add, and
+    // then what its process adds.
+    #[cycle(write)]
+    fn write_block(
+        &mut self,
+        defs: &Defs,
+        body: &Proc,
+        piece: &mut Piece,
+        instrs: &mut Instrs,
+    ) -> Result<(), Memory>
+        ensures { OnOk result (Writes self.old self.new piece.old piece.new instrs.old instrs.new
+            (Def (definitions defs.now) body.now)) }
+    {
+        let mut begun = begin(self.alloc, piece.next, defs)?;
+        let written = self.write_begun(&mut begun, defs, body, piece, instrs);
+        drop(begun);
+        written
+    }
+
+    // Writes a block that is begun.
+    #[cycle(write)]
+    fn write_begun(
+        &mut self,
+        begun: &mut Begun,
+        defs: &Defs,
+        body: &Proc,
+        piece: &mut Piece,
+        instrs: &mut Instrs,
+    ) -> Result<(), Memory>
+        requires { IsBegun piece.old.next (definitions defs.now) begun.old }
+        ensures { OnOk result (Writes self.old self.new piece.old piece.new instrs.old instrs.new
+            (Def (definitions defs.now) body.now)) }
+    {
+        let at = piece.next;
+        let outside = self.layout.len();
+        self.layout.extend(begun.opened.order.as_slice())?;
+        instrs.push(Instr::Enter { block: at.block })?;
+        let depth = self.layout.len();
+        let names = begun.opened.order.len();
+        begun.opened.order.truncate(begun.opened.channels.len());
+        let within = Within {
+            block: at.block,
+            level: at.level,
+            channels: &begun.opened.channels,
+        };
+        self.write_defs(&within, &mut begun.opened.order, defs, &mut begun.defined)?;
+        self.write(body, &mut begun.defined.piece, instrs)?;
+        instrs.push(Instr::Leave { count: names })?;
+        self.layout.truncate(outside);
+        put_block(self.alloc, at, depth, names, begun, piece)
+    }
+
+    // Writes definitions of one level, where the block has named so much.
+    #[cycle(write)]
+    fn write_defs(
+        &mut self,
+        within: &Within<'_>,
+        named: &mut Binders,
+        defs: &Defs,
+        defined: &mut Defined,
+    ) -> Result<(), Memory>
+        ensures { OnOk result (Defines self.old self.new named.old named.new
+            (places_order named.old (definitions defs.now)) defined.old defined.new
+            (defs_wrote self.old within.now defined.old named.old (definitions defs.now))) }
+    {
+        for definition in defs.as_slice() {
+            self.write_def(within, named, definition, defined)?;
+        }
+        Ok(())
+    }
+
+    #[cycle(write)]
+    fn write_def(
+        &mut self,
+        within: &Within<'_>,
+        named: &mut Binders,
+        definition: &Defn,
+        defined: &mut Defined,
+    ) -> Result<(), Memory>
+        ensures { OnOk result (Defines self.old self.new named.old named.new
+            (place_in named.old definition.now) defined.old defined.new
+            (def_wrote self.old within.now defined.old named.old definition.now)) }
+    {
+        match definition.node() {
+            DefnNode::Rule { pats, body } => {
+                let outside = self.layout.len();
+                push_params(&mut self.layout, pats)?;
+                let number = self.write_body(body, &mut defined.piece)?;
+                self.layout.truncate(outside);
+                let guard = rule_guard(self.alloc, within, pats, body, number)?;
+                defined.guards.push(guard)
+            }
+            DefnNode::Place { name, defs, body } => {
+                let mut begun = self.begin_place(within.block, defs, defined)?;
+                self.write_place(&mut begun, named, *name, defs, body)?;
+                put_place(begun, defined)
+            }
         }
     }
-}
 
-// Writes what is within a place, whose level has this number, and says of it in the level how many
-// arguments its channels take, and which body it has.
-#[cycle(write)]
-fn write_within(
-    alloc: Global,
-    tops: &NameTable,
-    number: u32,
-    layout: &mut Binders,
-    named: &mut Binders,
-    name: Ref,
-    defs: &Defs,
-    body: &Proc,
-    level: &mut Level,
-    inner: &mut Defined,
-) -> Result<(), Memory>
-    ensures inner { OnOk result (AppendsDefined inner.old inner.new
-        (in_place tops.now inner.old.piece.next level.old.block number layout.old named.old name
-        (definitions defs.now) body.now)) }
-    ensures level { OnOk result (level.new ≡ place_level tops.now inner.old.piece.next
-        level.old.block number layout.old named.old name (definitions defs.now) body.now
-        level.old) }
-    ensures named { OnOk result (named.new ≡ named.old ++ place_in named.old (Place name
-        (definitions defs.now) body.now)) }
-    ensures layout { OnOk result (layout.new ≡ layout.old) }
-{
-    let mut own = Binders::new(alloc);
-    name_place(named, &mut own, &mut level.counts, name, defs)?;
-    let so_far = named.len();
-    write_defs(
-        alloc,
-        tops,
-        level.block,
-        &mut 0,
-        number,
-        &own,
-        layout,
-        named,
-        defs,
-        inner,
-    )?;
-    drop(own);
-    named.truncate(so_far);
-    let done = write_body(alloc, tops, layout, body, &mut inner.piece)?;
-    level.body = Some(done);
-    Ok(())
-}
+    // Writes a process that is a body of its own, and answers the number of that body.
+    #[cycle(write)]
+    fn write_body(&mut self, process: &Proc, piece: &mut Piece) -> Result<u32, Memory>
+        ensures { IfOk result (WritesBody self.old self.new piece.old piece.new process.now) }
+    {
+        let mut instrs = Items::new(self.alloc);
+        self.write(process, piece, &mut instrs)?;
+        put_body(piece, instrs)
+    }
 
-// Writes the definitions of a site.
-fn site_definitions(
-    alloc: Global,
-    tops: &NameTable,
-    at: At,
-    channels: &Binders,
-    named: &mut Binders,
-    defs: &Defs,
-    defined: &mut Defined,
-) -> Result<(), Memory>
-    requires { named.old ≡ channels.now }
-    ensures { OnOk result (AppendsDefined defined.old defined.new
-        (written_defs tops.now defined.old.piece.next at.block 0 at.level channels.now []
-        channels.now (definitions defs.now))) }
-{
-    let mut layout = Binders::new(alloc);
-    write_defs(
-        alloc,
-        tops,
-        at.block,
-        &mut 0,
-        at.level,
-        channels,
-        &mut layout,
-        named,
-        defs,
-        defined,
-    )
-}
+    // Begins the next place of a block, where these definitions stand.
+    fn begin_place(&self, block: u32, defs: &Defs, defined: &Defined) -> Result<BegunPlace, Memory>
+        ensures { IfOk result (λ begun. begun ≡ begun_place block (length defined.now.places)
+            defined.now.piece.next (length self.now.layout) (definitions defs.now)) }
+    {
+        let at = defined.piece.next;
+        let place = defined.places.len() as u32;
+        let count = rules(defs)?;
+        let next = at.behind(count)?;
+        Ok(BegunPlace {
+            number: at.level,
+            level: Level {
+                block,
+                place: Some(place),
+                counts: Items::new(self.alloc),
+                depth: self.layout.len(),
+                first: at.guard,
+                guards: count,
+                body: None,
+            },
+            inner: Defined::start(self.alloc, next),
+        })
+    }
 
-// Writes the process of a site, and answers the number of its body.
-fn site_process(
-    alloc: Global,
-    tops: &NameTable,
-    process: &Proc,
-    piece: &mut Piece,
-) -> Result<u32, Memory>
-    ensures piece { OnOk result (Appends piece.old piece.new
-        (with_body tops.now (written tops.now piece.old.next [] process.now))) }
-    ensures number { IfOk result (λ number. number ≡
-        (written tops.now piece.old.next [] process.now).piece.next.body) }
-{
-    let mut layout = Binders::new(alloc);
-    write_body(alloc, tops, &mut layout, process, piece)
+    // Writes what is within a place that is begun: what its definitions add, and then its process.
+    // Its level is told how many arguments its channels take, and which body it has.
+    #[cycle(write)]
+    fn write_place(
+        &mut self,
+        begun: &mut BegunPlace,
+        named: &mut Binders,
+        name: Ref,
+        defs: &Defs,
+        body: &Proc,
+    ) -> Result<(), Memory>
+        ensures { OnOk result (WritesPlace self.old self.new named.old named.new begun.old begun.new
+            name (definitions defs.now) body.now) }
+    {
+        let mut own = Binders::new(self.alloc);
+        name_place(named, &mut own, &mut begun.level.counts, name, defs)?;
+        let so_far = named.len();
+        let within = Within {
+            block: begun.level.block,
+            level: begun.number,
+            channels: &own,
+        };
+        self.write_defs(&within, named, defs, &mut begun.inner)?;
+        drop(own);
+        named.truncate(so_far);
+        let done = self.write_body(body, &mut begun.inner.piece)?;
+        begun.level.body = Some(done);
+        Ok(())
+    }
+
+    // Writes a site whose block is begun, under no layout.
+    fn write_begun_site(
+        &mut self,
+        begun: &mut Begun,
+        defs: &Defs,
+        process: &Proc,
+        piece: &mut Piece,
+    ) -> Result<SiteCode, Memory>
+        requires begun { IsBegun piece.old.next (definitions defs.now) begun.old }
+        requires layout { self.old.layout ≡ [] }
+        ensures { IfOk result (WritesSite self.old.tops.now piece.old piece.new
+            (definitions defs.now) process.now) }
+    {
+        let at = piece.next;
+        let names = begun.opened.order.len();
+        begun.opened.order.truncate(begun.opened.channels.len());
+        let within = Within {
+            block: at.block,
+            level: at.level,
+            channels: &begun.opened.channels,
+        };
+        self.write_defs(&within, &mut begun.opened.order, defs, &mut begun.defined)?;
+        let body = self.write_body(process, &mut begun.defined.piece)?;
+        put_block(self.alloc, at, 0, names, begun, piece)?;
+        Ok(SiteCode {
+            block: at.block,
+            body,
+        })
+    }
 }
 
 // Writes a site: its block with its own level come first, then what its definitions add, and then
@@ -663,48 +541,17 @@ pub(crate) fn write_site(
     process: &Proc,
     piece: &mut Piece,
 ) -> Result<SiteCode, Memory>
-    ensures piece { OnOk result (Appends piece.old piece.new
-        (site_piece tops.now piece.old.next (definitions defs.now) process.now)) }
-    ensures code { IfOk result (λ code. code ≡
-        site_code tops.now piece.old.next (definitions defs.now) process.now) }
+    ensures { IfOk result (WritesSite tops.now piece.old piece.new (definitions defs.now)
+        process.now) }
 {
     let mut begun = begin(alloc, piece.next, defs)?;
-    let code = write_begun_site(alloc, tops, &mut begun, defs, process, piece);
-    drop(begun);
-    code
-}
-
-// Writes a site whose block is begun.
-fn write_begun_site(
-    alloc: Global,
-    tops: &NameTable,
-    begun: &mut Begun,
-    defs: &Defs,
-    process: &Proc,
-    piece: &mut Piece,
-) -> Result<SiteCode, Memory>
-    requires { IsBegun piece.old.next (definitions defs.now) begun.old }
-    ensures piece { OnOk result (Appends piece.old piece.new
-        (site_piece tops.now piece.old.next (definitions defs.now) process.now)) }
-    ensures code { IfOk result (λ code. code ≡
-        site_code tops.now piece.old.next (definitions defs.now) process.now) }
-{
-    let at = piece.next;
-    let names = begun.opened.order.len();
-    begun.opened.order.truncate(begun.opened.channels.len());
-    site_definitions(
+    let mut writer = Writer {
         alloc,
         tops,
-        at,
-        &begun.opened.channels,
-        &mut begun.opened.order,
-        defs,
-        &mut begun.defined,
-    )?;
-    let body = site_process(alloc, tops, process, &mut begun.defined.piece)?;
-    put_block(alloc, at, 0, names, begun, piece)?;
-    Ok(SiteCode {
-        block: at.block,
-        body,
-    })
+        layout: Binders::new(alloc),
+    };
+    let code = writer.write_begun_site(&mut begun, defs, process, piece);
+    drop(begun);
+    drop(writer);
+    code
 }

@@ -1,18 +1,17 @@
 use Rattle.std.proofs.Common.{◌+◌, ◌*◌, max, drop}
 use Rattle.chem_model.specs.ProcessSize.{process_depth, definition_depth, procs_depth, defs_depth}
 use Rattle.guard_compile.proofs.Loops.{Writing, Defining}
-use Rattle.guard_compile.proofs.write.+write.Given as goal
+use Rattle.guard_compile.proofs.write.Writer.+write.Given as goal
 
 abbrev pub invariant-write_all-loop-member : goal.invariant-write_all-loop-member
 invariant-write_all-loop-member l =
-    Writing l.tops l.initial.piece l.initial.instrs l.initial.layout l.member-items l.piece l.instrs
-    l.layout (drop l.member-index l.member-items)
+    Writing l.initial.self l.initial.piece l.initial.instrs l.member-items l.self l.piece l.instrs
+    (drop l.member-index l.member-items)
 
 abbrev pub invariant-write_defs-loop-definition : goal.invariant-write_defs-loop-definition
 invariant-write_defs-loop-definition l =
-    Defining l.tops l.block l.level l.channels l.initial.defined l.initial.count l.initial.layout
-    l.initial.named l.definition-items
-    l.defined l.count l.layout l.named (drop l.definition-index l.definition-items)
+    Defining l.initial.self l.within l.initial.defined l.initial.named l.definition-items
+    l.self l.defined l.named (drop l.definition-index l.definition-items)
 
 -- a step to a part counts four times, so that a function may hand a term on to another, and so on
 -- three times
@@ -37,11 +36,5 @@ decreases-write_begun l = 4 * max (defs_depth l.defs.now) (process_depth l.body.
 abbrev pub decreases-write_body : goal.decreases-write_body
 decreases-write_body l = 4 * process_depth l.process.now + 1
 
-abbrev pub decreases-write_rule : goal.decreases-write_rule
-decreases-write_rule l = 4 * process_depth l.body.now + 2
-
 abbrev pub decreases-write_place : goal.decreases-write_place
-decreases-write_place l = 4 * max (defs_depth l.defs.now) (process_depth l.body.now) + 3
-
-abbrev pub decreases-write_within : goal.decreases-write_within
-decreases-write_within l = 4 * max (defs_depth l.defs.now) (process_depth l.body.now) + 2
+decreases-write_place l = 4 * max (defs_depth l.defs.now) (process_depth l.body.now) + 2
