@@ -18,12 +18,11 @@ use Rattle.chem_model.specs.Apply.{can_go, can_fall, falls, can_detect, move_ato
 use Rattle.chem_model.specs.Apply.{detect_atom}
 use Rattle.chem_laws.proofs.Lists.{either_true}
 use Rattle.chem_laws.proofs.Places.{live_parts}
-use Rattle.trace_history.specs.inside.Search.{can_act}
-use Rattle.trace_history.specs.inside.Candidates.{IsCandidate}
-use Rattle.trace_history.specs.inside.Asked.{goal, awaited, is_halt, has_host, atom_pair, IsNever}
-use Rattle.trace_history.specs.inside.Asked.{asks_nothing, at_dead, from_root, to_hosted, to_dead}
-use Rattle.trace_history.specs.inside.Asked.{IsAsked}
-use Rattle.trace_history.specs.declared.asking.Asking.{Asking}
+use Rattle.chem_causes.specs.Ready.{can_act}
+use Rattle.book_store.specs.Candidates.{IsCandidate}
+use Rattle.book_store.specs.Asked.{goal, awaited, is_halt, has_host, atom_pair, IsNever}
+use Rattle.book_store.specs.Asked.{asks_nothing, at_dead, from_root, to_hosted, to_dead, IsAsked}
+use Rattle.book_store.specs.declared.asking.Asking.{Asking}
 
 -- what can be met: a halt at a live location, a go that moves or falls, or a detection
 pub data Acts (n : Numbered) (l : Loc) (q : Process) : Type 0 where

@@ -2,7 +2,7 @@
 use Rattle.std.specs.Prelude.{◌≡◌, List, Option, Some, None}
 use Rattle.chem_model.specs.declared.numbered.NumberedAtom.{NumberedAtom}
 use Rattle.chem_model.specs.declared.numbered.Numbered.{Numbered}
-use Rattle.trace_history.specs.inside.Alike.{AreAlike}
+use Rattle.book_store.specs.Alike.{AreAlike}
 
 -- a solution in which each number finds the same, and which is this one in all else
 abbrev pub IsAlike : Numbered → Numbered → Type 0

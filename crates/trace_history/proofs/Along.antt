@@ -1,7 +1,7 @@
 -- Keys that are looked at one after another.
 use Rattle.std.proofs.Common.{◌≡◌, List, [], ◌∷◌, ◌⊎◌, inl, inr, sym, subst}
 use Rattle.chem_model.specs.Each.{IsIn}
-use Rattle.trace_history.specs.inside.Keys.{Key}
+use Rattle.book_store.specs.Keys.{Key}
 
 pub one_along : (P Q : Key → Type 0) (keys left rest : List Key) (key : Key) → left ≡ key ∷ rest
     → ((k : Key) → P k → Q k) → Q key → ((k : Key) → IsIn k keys → P k ⊎ IsIn k left) → (k : Key)

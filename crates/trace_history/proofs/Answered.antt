@@ -16,10 +16,11 @@ use Rattle.chem_laws.proofs.Places.{live_parts, root_is}
 use Rattle.chem_laws.proofs.Taking.{atom_found}
 use Rattle.trace_history.specs.declared.book.Found.{Found}
 use Rattle.trace_history.specs.First.{IsFirst}
-use Rattle.trace_history.specs.inside.Search.{IsFirstOf, is_met, is_ready, turn, rule_before}
-use Rattle.trace_history.specs.inside.Search.{can_act, request_before, IsReaction, IsMeeting}
-use Rattle.trace_history.specs.inside.Search.{IsFound}
-use Rattle.trace_history.proofs.Least.{member_found}
+use Rattle.book_store.specs.Walk.{IsFirstOf}
+use Rattle.chem_causes.specs.Ready.{is_met, is_ready, can_act}
+use Rattle.trace_history.specs.inside.Search.{turn, rule_before, request_before, IsReaction}
+use Rattle.trace_history.specs.inside.Search.{IsMeeting, IsFound}
+use Rattle.book_store.proofs.ByNumber.{member_found}
 use Rattle.chem_model.specs.Apply.{apply}
 use Rattle.trace_history.proofs.Founds.{has_event, atoms_differ, react_first, request_first}
 use Rattle.trace_history.proofs.Founds.{rule_possible, request_possible}

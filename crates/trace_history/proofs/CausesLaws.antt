@@ -23,20 +23,20 @@ use Rattle.chem_laws.proofs.Taking.{same_atom_is, same_ref_is}
 use Rattle.chem_causes.specs.declared.cause.Left.{Left}
 use Rattle.chem_causes.specs.Cause.{IsChannel, has_pattern, waits_for}
 use Rattle.chem_causes.specs.Ready.{is_ready, takes_up, is_taken_up}
-use Rattle.chem_causes.specs.Channels.{Key, has}
+use Rattle.chem_causes.specs.Channels.{Key, has, key_of}
 use Rattle.chem_causes.specs.Decided.{HasMessages, ChannelsTellWhatIsMet}
 use Rattle.chem_causes.specs.Lefts.{left_at, Files, IsRising}
 use Rattle.chem_causes.proofs.KeyLaws.{has_none}
-use Rattle.chem_causes.specs.Channels.{key_of}
 use Rattle.std.specs.Prelude.{Result, Ok, Err, IfOk}
 use Rattle.std.proofs.lemmas.List.{append_assoc}
 use Rattle.chem_model.specs.declared.memory.Memory.{Memory}
 use Rattle.chem_model.specs.declared.numbered.Placed.{Placed}
 use Rattle.chem_causes.proofs.Readiness.{some_one}
-use Rattle.trace_history.specs.inside.Older.{whole}
+use Rattle.book_store.specs.Older.{whole}
 use Rattle.trace_history.specs.inside.Causes.{found_up, AreFound, AreSorted, CoveredAt, Covers}
 use Rattle.trace_history.specs.Left.{IsLeft, IsLeftAt, AreLeft}
-use Rattle.trace_history.proofs.Least.{AtomsDiffer, member_found}
+use Rattle.chem_commit.specs.inside.Differ.{AtomsDiffer}
+use Rattle.book_store.proofs.ByNumber.{member_found}
 
 -- ---- rules
 

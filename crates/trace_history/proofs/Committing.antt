@@ -4,9 +4,10 @@ use Rattle.chem_model.specs.declared.numbered.NumberedAtom.{NumberedAtom}
 use Rattle.chem_model.specs.declared.numbered.Numbered.{Numbered}
 use Rattle.chem_model.specs.Each.{IsIn}
 use Rattle.chem_model.specs.Sound.{IsSound}
-use Rattle.trace_history.specs.inside.Older.{Holds, whole}
-use Rattle.trace_history.specs.inside.Stored.{IsStored, IsEmpty, Moves}
-use Rattle.trace_history.specs.declared.store.Store.{Store}
+use Rattle.trace_history.specs.inside.Holds.{Holds}
+use Rattle.book_store.specs.Older.{whole}
+use Rattle.book_store.specs.Stored.{IsStored, IsEmpty, Moves}
+use Rattle.book_store.specs.declared.store.Store.{Store}
 use Rattle.trace_history.proofs.Holding.{holds_on}
 
 -- where messages and requests only moved, it holds what it held
@@ -18,7 +19,6 @@ moved_holds o n m s t h k = subst (Holds o t.older.table) (sym k.rest)
 -- at the beginning the store is right
 pub empty_stored : (n : Numbered) (s : Store) → IsEmpty s → IsStored n s
 empty_stored n s e = record {
-  queued = λ a at. absurd (subst (IsIn a) e.table at);
   watched = record {
     within = omega (arith, e.noted);
     each = λ j r low at. absurd (omega (arith, e.noted, low));

@@ -3,7 +3,8 @@ use Rattle.std.proofs.Common.{◌≡◌, ℕ, ◌≤◌, length, drop, List, [],
 use Rattle.std.proofs.Common.{true, false, cond, refl, ap, sym, ◌∙◌, ◌&&◌, ◌⊎◌, inl, inr}
 use Rattle.std.proofs.lemmas.List.{drop_all}
 use Rattle.chem_model.specs.Each.{Each, IsIn}
-use Rattle.trace_history.specs.inside.Search.{IsFirstOf, first_of, beats}
+use Rattle.book_store.specs.Walk.{IsFirstOf}
+use Rattle.trace_history.specs.inside.Search.{first_of, beats}
 
 -- an order: none comes before one that comes before it, and one that comes not before a second,
 -- which comes not before a third, comes not before the third

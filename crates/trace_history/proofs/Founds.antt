@@ -25,16 +25,17 @@ use Rattle.trace_history.specs.First.{turns, atom_less, rule_less, atoms_less, r
 use Rattle.trace_history.specs.First.{requests_less, event_less, site_of, site_of_rule}
 use Rattle.trace_history.specs.First.{site_of_atom, IsFirst}
 use Rattle.chem_model.specs.Each.{IsIn}
-use Rattle.trace_history.specs.inside.Search.{IsFirstOf, AreLeast, receives, atom_before}
-use Rattle.trace_history.specs.inside.Search.{is_met, is_ready, turn, rule_before, can_act}
-use Rattle.trace_history.specs.inside.Search.{request_before, event_of}
+use Rattle.book_store.specs.Walk.{IsFirstOf}
+use Rattle.trace_history.specs.inside.Search.{AreLeast, turn, rule_before, request_before, event_of}
+use Rattle.chem_causes.specs.Ready.{receives, is_met, is_ready, can_act}
+use Rattle.book_store.specs.Older.{atom_before}
 use Rattle.trace_history.proofs.Replays.{same_some}
-use Rattle.trace_history.proofs.Order.{sooner_not, not_sooner, sooner_is, less_asym, less_trans}
-use Rattle.trace_history.proofs.Order.{less_same}
+use Rattle.trace_history.proofs.Order.{sooner_not, not_sooner, sooner_is}
+use Rattle.book_store.proofs.Order.{less_asym, less_trans, less_same}
 use Rattle.trace_history.proofs.FirstOf.{IsOrder}
-use Rattle.trace_history.proofs.Least.{AtomsDiffer, RulesDiffer, atom_has, rule_has, member_found}
-use Rattle.trace_history.proofs.Least.{rule_member_found, some_both, least_received, least_of_all}
-use Rattle.trace_history.proofs.Least.{all_met}
+use Rattle.chem_commit.specs.inside.Differ.{AtomsDiffer, RulesDiffer}
+use Rattle.book_store.proofs.ByNumber.{atom_has, rule_has, member_found, rule_member_found}
+use Rattle.trace_history.proofs.Least.{some_both, least_received, least_of_all, all_met}
 
 -- ---- the orders are orders
 

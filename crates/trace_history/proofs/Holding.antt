@@ -1,58 +1,32 @@
 -- What a journal leads to, and what the book has in its place: the same but for the order of
 -- messages and requests, of which some stand in front.
 use Rattle.std.proofs.Common.{◌≡◌, ℕ, List, [], ◌∷◌, ◌++◌, Option, Some, None, Bool, true, false}
-use Rattle.std.proofs.Common.{refl, ap, sym, ◌∙◌, subst, arith, length, is_some}
+use Rattle.std.proofs.Common.{refl, ap, sym, ◌∙◌, subst, length, is_some}
 use Rattle.chem_model.specs.declared.event.AtomId.{AtomId}
 use Rattle.chem_model.specs.declared.event.Event.{Event}
 use Rattle.chem_model.specs.declared.numbered.NumberedAtom.{NumberedAtom}
 use Rattle.chem_model.specs.declared.numbered.Numbered.{Numbered}
 use Rattle.chem_model.specs.Each.{Each}
-use Rattle.chem_model.specs.Sound.{IsSound, IsAtom, IsRule}
+use Rattle.chem_model.specs.Sound.{IsSound}
 use Rattle.chem_model.specs.Laws.{EventIsAReduction}
 use Rattle.chem_model.specs.Apply.{apply, apply_if, atom_at}
-use Rattle.chem_laws.proofs.Lists.{Each-weaker}
 use Rattle.trace_history.specs.declared.book.Found.{Found}
 use Rattle.trace_history.specs.First.{IsFirst}
 use Rattle.trace_history.specs.inside.Search.{IsFound}
 use Rattle.trace_history.proofs.Alike.{AreAlikeIf}
-use Rattle.trace_history.specs.inside.Older.{whole, Keeps, Holds, takes}
+use Rattle.book_store.specs.Older.{whole, Keeps, takes}
+use Rattle.trace_history.specs.inside.Holds.{Holds}
 use Rattle.trace_history.specs.Kept.{BookKept, solution, is_enabled}
 use Rattle.trace_history.specs.declared.book.Commit.TheVariants.{Place, NotEnabled}
 use Rattle.trace_history.specs.Book.{Finds, Commits}
 use Rattle.chem_model.specs.ProgramFacts.{ProgramTerms}
 use Rattle.chem_commit.specs.Replaces.{Replaces}
-use Rattle.trace_history.proofs.Least.{AtomsDiffer}
+use Rattle.chem_commit.specs.inside.Differ.{AtomsDiffer}
 use Rattle.trace_history.proofs.Replays.{same_some}
 use Rattle.trace_history.proofs.ApplyAlike.{apply_alike}
-use Rattle.trace_history.proofs.BorderLaws.{sound_alike, possible_alike, first_alike, stuck_alike}
-use Rattle.trace_history.proofs.Apart.{pairs_both}
+use Rattle.book_store.proofs.SoundLaws.{sound_alike, sound_rest, differ_of}
+use Rattle.trace_history.proofs.BorderLaws.{possible_alike, first_alike, stuck_alike}
 use Rattle.trace_history.proofs.Front.{front, apply_front}
-
--- ---- fewer messages and requests
-
-each_last : {X : Type 0} (P : X → Type 0) (xs ys : List X) → Each P (xs ++ ys) → Each P ys
-each_last P [] ys h = h
-each_last P (x ∷ xs) ys h = each_last P xs ys h.1
-
-pub sound_rest : (old : List NumberedAtom) (n : Numbered) → IsSound (whole old n) → IsSound n
-sound_rest old n sound = record {
-  roots = sound.roots;
-  hosted = sound.hosted;
-  below = λ p f. sound.below p (let both = pairs_both old n.atoms p in omega arith);
-  different = λ p.
-      let both = pairs_both old n.atoms p in
-      let most = sound.different p in
-      omega arith;
-  named = sound.named;
-  atoms = each_last (IsAtom n) old n.atoms sound.atoms;
-  rules = Each-weaker (IsRule (whole old n)) (IsRule n)
-      (λ r is. record { channels = is.channels; is = is.is; bound_once = is.bound_once })
-      n.rules sound.rules;
-  trace = sound.trace;
-}
-
-pub differ_of : (n : Numbered) → IsSound n → AtomsDiffer n.atoms
-differ_of n sound p = omega (arith, sound.different p)
 
 -- ---- at the beginning, and where messages only moved
 

@@ -1,99 +1,26 @@
 -- The least messages for the patterns of a rule are received, and none that are received come
 -- before them.
-use Rattle.std.proofs.Common.{◌≡◌, ℕ, zero, suc, ◌+◌, ◌<◌, ◌≤◌, length, take, get_or, add-one, List}
-use Rattle.std.proofs.Common.{[], ◌∷◌, ◌++◌, Option, Some, None, Bool, true, false, cond, refl, ap}
-use Rattle.std.proofs.Common.{sym, ◌∙◌, subst, arith, ◌&&◌, ◌||◌, inl, inr, is_some}
+use Rattle.std.proofs.Common.{◌≡◌, ℕ, zero, suc, ◌+◌, ◌<◌, length, take, get_or, add-one, List, []}
+use Rattle.std.proofs.Common.{◌∷◌, ◌++◌, Option, Some, None, Bool, true, false, cond, refl, ap, sym}
+use Rattle.std.proofs.Common.{◌∙◌, subst, arith, ◌&&◌, ◌||◌, is_some}
 use Rattle.std.proofs.lemmas.Bool.{and_parts}
 use Rattle.std.specs.List.{list_any, list_all}
 use Rattle.std.proofs.Math.Seq.{take-suc}
 use Rattle.chem_model.specs.declared.name.Loc.{Loc}
 use Rattle.chem_model.specs.declared.name.Pat.{Pat}
 use Rattle.chem_model.specs.declared.event.AtomId.{AtomId}
-use Rattle.chem_model.specs.declared.event.RuleId.{RuleId}
-use Rattle.chem_model.specs.declared.numbered.NumberedRule.{NumberedRule}
 use Rattle.chem_model.specs.declared.numbered.NumberedAtom.{NumberedAtom}
-use Rattle.chem_model.specs.Each.{Each, IsIn}
-use Rattle.chem_model.specs.Bag.{one, bag}
-use Rattle.chem_model.specs.NewNames.{coded_pair}
+use Rattle.chem_model.specs.Each.{Each}
 use Rattle.chem_model.specs.Fill.{Naming}
-use Rattle.chem_model.specs.Numbered.{atom_pairs, rule_pairs}
-use Rattle.chem_model.specs.Apply.{same_atom, same_rule, atom_at, rule_at, received_at}
-use Rattle.chem_model.specs.Apply.{both_received, received_all}
-use Rattle.chem_laws.proofs.Bags.{one_self}
-use Rattle.chem_laws.proofs.Taking.{same_atom_is, same_atom_refl, same_rule_is, same_rule_refl}
-use Rattle.chem_laws.proofs.Taking.{atom_found, atom_pair_found, rule_pair_found}
+use Rattle.chem_model.specs.Apply.{same_atom, atom_at, received_at, both_received, received_all}
+use Rattle.chem_laws.proofs.Taking.{atom_found}
 use Rattle.trace_history.specs.First.{atom_less, atoms_less}
-use Rattle.trace_history.specs.inside.Search.{IsFirstOf, receives, atom_before, is_met}
+use Rattle.book_store.specs.Walk.{IsFirstOf}
+use Rattle.chem_causes.specs.Ready.{receives, is_met}
+use Rattle.book_store.specs.Older.{atom_before}
 use Rattle.trace_history.specs.inside.Search.{IsLeast, AreLeast}
-
--- ---- what is found by a number has it, and a member is found by its number where all are
--- different
-
-pub atom_has : (atoms : List NumberedAtom) (i : AtomId) (a : NumberedAtom)
-    → atom_at atoms i ≡ Some a → a.id ≡ i
-atom_has [] i a e = cc
-atom_has (b ∷ atoms) i a e = go (same_atom b.id i) refl (atom_has atoms i a) e
-  where
-    go : (t : Bool) → same_atom b.id i ≡ t → (atom_at atoms i ≡ Some a → a.id ≡ i)
-        → cond t (Some b) (atom_at atoms i) ≡ Some a → a.id ≡ i
-    go true c ih e' =
-        let same : b ≡ a = cc in
-        ap (λ (x : NumberedAtom). x.id) (sym same) ∙ same_atom_is b.id i c
-    go false c ih e' = ih e'
-
-pub rule_has : (rules : List NumberedRule) (i : RuleId) (r : NumberedRule)
-    → rule_at rules i ≡ Some r → r.id ≡ i
-rule_has [] i r e = cc
-rule_has (q ∷ rules) i r e = go (same_rule q.id i) refl (rule_has rules i r) e
-  where
-    go : (t : Bool) → same_rule q.id i ≡ t → (rule_at rules i ≡ Some r → r.id ≡ i)
-        → cond t (Some q) (rule_at rules i) ≡ Some r → r.id ≡ i
-    go true c ih e' =
-        let same : q ≡ r = cc in
-        ap (λ (x : NumberedRule). x.id) (sym same) ∙ same_rule_is q.id i c
-    go false c ih e' = ih e'
-
-abbrev pub AtomsDiffer : List NumberedAtom → Type 0
-AtomsDiffer atoms = (p : ℕ × ℕ) → bag coded_pair (atom_pairs atoms) p ≤ 1
-
-pub member_found : (atoms : List NumberedAtom) → AtomsDiffer atoms → (a : NumberedAtom)
-    → IsIn a atoms → atom_at atoms a.id ≡ Some a
-member_found [] d a h = absurd h
-member_found (b ∷ atoms) d a (inl e) = ap (λ t. cond t (Some b) (atom_at atoms a.id))
-    (ap (λ (x : NumberedAtom). same_atom b.id x.id) e ∙ same_atom_refl b.id) ∙ ap Some (sym e)
-member_found (b ∷ atoms) d a (inr h) =
-    let found = member_found atoms (λ p. omega (arith, d p)) a h in
-    ap (λ t. cond t (Some b) (atom_at atoms a.id)) (other found (same_atom b.id a.id) refl) ∙ found
-  where
-    other : atom_at atoms a.id ≡ Some a → (t : Bool) → same_atom b.id a.id ≡ t → t ≡ false
-    other found false c = refl
-    other found true c =
-        let later = atom_pair_found atoms a.id a found in
-        let here : one coded_pair (b.id.site, b.id.k) (a.id.site, a.id.k) ≡ 1 =
-        ap (λ (j : AtomId). one coded_pair (j.site, j.k) (a.id.site, a.id.k))
-        (same_atom_is b.id a.id c) ∙ one_self coded_pair (a.id.site, a.id.k) in
-        absurd (omega (arith, d (a.id.site, a.id.k)))
-
-abbrev pub RulesDiffer : List NumberedRule → Type 0
-RulesDiffer rules = (p : ℕ × ℕ) → bag coded_pair (rule_pairs rules) p ≤ 1
-
-pub rule_member_found : (rules : List NumberedRule) → RulesDiffer rules → (r : NumberedRule)
-    → IsIn r rules → rule_at rules r.id ≡ Some r
-rule_member_found [] d r h = absurd h
-rule_member_found (q ∷ rules) d r (inl e) = ap (λ t. cond t (Some q) (rule_at rules r.id))
-    (ap (λ (x : NumberedRule). same_rule q.id x.id) e ∙ same_rule_refl q.id) ∙ ap Some (sym e)
-rule_member_found (q ∷ rules) d r (inr h) =
-    let found = rule_member_found rules (λ p. omega (arith, d p)) r h in
-    ap (λ t. cond t (Some q) (rule_at rules r.id)) (other found (same_rule q.id r.id) refl) ∙ found
-  where
-    other : rule_at rules r.id ≡ Some r → (t : Bool) → same_rule q.id r.id ≡ t → t ≡ false
-    other found false c = refl
-    other found true c =
-        let later = rule_pair_found rules r.id r found in
-        let here : one coded_pair (q.id.site, q.id.k) (r.id.site, r.id.k) ≡ 1 =
-        ap (λ (j : RuleId). one coded_pair (j.site, j.k) (r.id.site, r.id.k))
-        (same_rule_is q.id r.id c) ∙ one_self coded_pair (r.id.site, r.id.k) in
-        absurd (omega (arith, d (r.id.site, r.id.k)))
+use Rattle.book_store.proofs.ByNumber.{atom_has, member_found}
+use Rattle.chem_commit.specs.inside.Differ.{AtomsDiffer}
 
 -- ---- receiving
 

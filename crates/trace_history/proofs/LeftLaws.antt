@@ -1,33 +1,21 @@
 -- What is left: the causes over the border of a book.
-use Rattle.std.proofs.Common.{◌≡◌, List, [], ◌∷◌, ◌++◌, Option, Some, None, Bool, true, false, cond}
-use Rattle.std.proofs.Common.{ap, sym, ◌∙◌, subst, ◌⊎◌, inl, inr, is_some}
+use Rattle.std.proofs.Common.{◌≡◌, List, ◌++◌, Option, Some, None, ap, sym, ◌∙◌, subst, is_some}
 use Rattle.chem_model.specs.declared.event.AtomId.{AtomId}
 use Rattle.chem_model.specs.declared.event.Event.{Event}
 use Rattle.chem_model.specs.declared.numbered.NumberedAtom.{NumberedAtom}
 use Rattle.chem_model.specs.declared.numbered.Numbered.{Numbered}
-use Rattle.chem_model.specs.Each.{IsIn}
-use Rattle.chem_model.specs.Apply.{same_atom, atom_at, apply}
+use Rattle.chem_model.specs.Apply.{atom_at, apply}
 use Rattle.chem_causes.specs.declared.cause.Cause.{Cause}
 use Rattle.chem_causes.specs.declared.cause.Cause.TheVariants as cause
 use Rattle.chem_causes.specs.declared.cause.Left.{Left}
 use Rattle.chem_causes.specs.Cause.{IsTrueOf}
-use Rattle.trace_history.specs.inside.Older.{whole, Holds}
+use Rattle.book_store.specs.Older.{whole}
+use Rattle.trace_history.specs.inside.Holds.{Holds}
 use Rattle.trace_history.specs.Kept.{BookKept, solution}
 use Rattle.trace_history.specs.Book.{OnItsSolution}
 use Rattle.trace_history.specs.Left.{IsLeft, IsLeftAt, AreLeft}
 use Rattle.chem_causes.specs.Lefts.{left_at}
 use Rattle.trace_history.proofs.Replays.{same_some}
-
--- what is found stands in the list
-pub found_in : (atoms : List NumberedAtom) (i : AtomId) (a : NumberedAtom)
-    → atom_at atoms i ≡ Some a → IsIn a atoms
-found_in [] i a e = cc
-found_in (b ∷ atoms) i a e = go (same_atom b.id i) (found_in atoms i a) e
-  where
-    go : (t : Bool) → (atom_at atoms i ≡ Some a → IsIn a atoms)
-        → cond t (Some b) (atom_at atoms i) ≡ Some a → (a ≡ b) ⊎ IsIn a atoms
-    go true later e' = inl (sym (same_some b a e'))
-    go false later e' = inr (later e')
 
 -- where an event is possible in the one exactly where it is in the other, the same causes are true
 module _ (n : Numbered) (ys : List NumberedAtom) (possible : (e : Event)

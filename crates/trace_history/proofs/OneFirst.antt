@@ -21,7 +21,7 @@ use Rattle.trace_history.specs.First.{turns, atom_less, rule_less, atoms_less, r
 use Rattle.trace_history.specs.First.{event_less, site_of, IsFirst}
 use Rattle.trace_history.specs.inside.Search.{event_of}
 use Rattle.trace_history.proofs.Replays.{same_some}
-use Rattle.trace_history.proofs.Order.{less_same}
+use Rattle.book_store.proofs.Order.{less_same}
 use Rattle.trace_history.proofs.Founds.{reacting, requesting, less_by_request, Kind, reaction}
 use Rattle.trace_history.proofs.Founds.{request, kind, rule_ids, rule_site, request_site}
 

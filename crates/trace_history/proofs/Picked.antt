@@ -6,17 +6,19 @@ use Rattle.chem_model.specs.declared.numbered.Numbered.{Numbered}
 use Rattle.chem_model.specs.Each.{IsIn}
 use Rattle.chem_model.specs.Numbered.{standing}
 use Rattle.chem_laws.proofs.Lists.{Each-weaker}
-use Rattle.trace_history.specs.inside.Search.{IsFirstOf, beats, can_act, request_before}
-use Rattle.trace_history.specs.inside.Older.{whole}
+use Rattle.book_store.specs.Walk.{IsFirstOf}
+use Rattle.trace_history.specs.inside.Search.{beats, request_before}
+use Rattle.chem_causes.specs.Ready.{can_act}
+use Rattle.book_store.specs.Older.{whole}
 use Rattle.trace_history.specs.inside.Passed.{Beaten, IsOne}
-use Rattle.trace_history.specs.inside.Asked.{AreAsked}
+use Rattle.book_store.specs.Asked.{AreAsked}
 use Rattle.trace_history.specs.inside.Chosen.{IsFirstAsking}
-use Rattle.trace_history.specs.declared.asking.Asking.{Asking}
+use Rattle.book_store.specs.declared.asking.Asking.{Asking}
 use Rattle.trace_history.proofs.Acting.{asked_candidate}
 use Rattle.trace_history.proofs.FirstOf.{IsOrder}
 use Rattle.trace_history.proofs.Joined.{act_same}
-use Rattle.trace_history.proofs.Members.{in_first, in_last, in_either}
-use Rattle.trace_history.proofs.WalkLaws.{each_in, in_each}
+use Rattle.book_store.proofs.Members.{in_first, in_last, in_either}
+use Rattle.book_store.proofs.WalkLaws.{each_in, in_each}
 
 module _ {X : Type 0} (before : X → X → Bool) where
   -- the better one of two

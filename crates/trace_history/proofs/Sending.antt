@@ -7,7 +7,8 @@ use Rattle.chem_model.specs.contracts.program.Program as program
 use Rattle.trace_history.specs.contracts.book.Book as book
 use Rattle.trace_history.specs.declared.book.Book as declared
 use Rattle.trace_history.specs.inside.Crosses.{ProgramCrosses, JournalCrosses, NumberedCrosses}
-use Rattle.trace_history.specs.inside.Crosses.{GuessesCross, StoreCrosses}
+use Rattle.trace_history.specs.inside.Crosses.{GuessesCross}
+use Rattle.book_store.specs.Crosses.{StoreCrosses}
 use Rattle.trace_history.specs.Crosses.{BookCrosses}
 
 pub book_send : ProgramCrosses → JournalCrosses → NumberedCrosses → GuessesCross → StoreCrosses

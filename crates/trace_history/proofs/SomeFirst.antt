@@ -15,9 +15,11 @@ use Rattle.chem_model.specs.Solution.{live, root}
 use Rattle.chem_model.specs.Numbered.{standing}
 use Rattle.chem_model.specs.Sound.{IsSound}
 use Rattle.trace_history.specs.declared.book.Found.{Found}
-use Rattle.trace_history.specs.inside.Search.{first_of, IsFirstOf, IsLeast, AreLeast, receives}
-use Rattle.trace_history.specs.inside.Search.{atom_before, is_met, is_ready, turn, rule_before}
-use Rattle.trace_history.specs.inside.Search.{can_act, request_before, event_of, IsFound}
+use Rattle.trace_history.specs.inside.Search.{first_of, IsLeast, AreLeast, turn, rule_before}
+use Rattle.trace_history.specs.inside.Search.{request_before, event_of, IsFound}
+use Rattle.book_store.specs.Walk.{IsFirstOf}
+use Rattle.chem_causes.specs.Ready.{receives, is_met, is_ready, can_act}
+use Rattle.book_store.specs.Older.{atom_before}
 use Rattle.trace_history.proofs.FirstOf.{finds_first}
 use Rattle.trace_history.proofs.Least.{not_met}
 use Rattle.trace_history.proofs.Founds.{messages_order, rules_order, requests_order, has_event}

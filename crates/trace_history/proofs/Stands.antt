@@ -1,7 +1,7 @@
 -- What a key stands for: a rule at its site that is ready, or a request there that can be met. The
 -- first that is found along keys in turn is the first of all candidates.
-use Rattle.std.proofs.Common.{◌≡◌, ℕ, length, List, [], ◌∷◌, Option, Some, None, Bool, true}
-use Rattle.std.proofs.Common.{false, cond, refl, ap, sym, ◌∙◌, subst, arith, ◌&&◌, ◌==◌, inl, inr}
+use Rattle.std.proofs.Common.{◌≡◌, ℕ, length, List, [], ◌∷◌, Option, Some, None, Bool, true, false}
+use Rattle.std.proofs.Common.{cond, refl, ap, sym, ◌∙◌, subst, arith, ◌&&◌, ◌==◌, inl, inr}
 use Rattle.std.specs.List.{list_all, filter}
 use Rattle.std.specs.List.Sorted.{IsStrictlySortedBy}
 use Rattle.std.proofs.lemmas.Bool.{and_parts, and_from}
@@ -17,21 +17,21 @@ use Rattle.chem_model.specs.Numbered.{standing}
 use Rattle.chem_model.specs.Apply.{same_rule, atom_at, rule_at}
 use Rattle.chem_model.specs.Sound.{IsSound}
 use Rattle.chem_laws.proofs.Places.{live_parts, root_is}
-use Rattle.trace_history.specs.inside.Search.{is_met, is_ready, can_act}
-use Rattle.trace_history.specs.inside.Walk.{or_else, walk}
-use Rattle.trace_history.specs.inside.Keys.{Key}
-use Rattle.trace_history.specs.inside.Older.{whole}
+use Rattle.chem_causes.specs.Ready.{is_met, is_ready, can_act}
+use Rattle.book_store.specs.Walk.{or_else, walk}
+use Rattle.book_store.specs.Keys.{Key}
+use Rattle.book_store.specs.Older.{whole}
 use Rattle.trace_history.specs.inside.Chosen.{kept_at, rule_site, rule_for, atom_site, request_for}
 use Rattle.trace_history.specs.inside.Chosen.{IsFirstReady, IsFirstAsking}
-use Rattle.trace_history.specs.declared.candidates.Candidates.{Candidates}
+use Rattle.book_store.specs.declared.candidates.Candidates.{Candidates}
 use Rattle.trace_history.proofs.Acting.{acts, acts_live}
 use Rattle.trace_history.proofs.Founds.{rules_differ}
-use Rattle.trace_history.proofs.KeyLaws.{key_cmp}
-use Rattle.trace_history.proofs.Least.{AtomsDiffer, atom_has, rule_has, member_found}
-use Rattle.trace_history.proofs.Least.{rule_member_found}
-use Rattle.trace_history.proofs.Queued.{id_of, atom_in}
+use Rattle.book_store.proofs.KeyLaws.{key_cmp}
+use Rattle.chem_commit.specs.inside.Differ.{AtomsDiffer}
+use Rattle.book_store.proofs.ByNumber.{atom_has, rule_has, member_found, rule_member_found}
+use Rattle.book_store.proofs.Queued.{id_of, atom_in}
 use Rattle.trace_history.proofs.Turned.{is_late, is_early, turned, IsAtKey, first_in_turn}
-use Rattle.trace_history.proofs.WalkLaws.{walk-append}
+use Rattle.book_store.proofs.WalkLaws.{walk-append}
 
 -- ---- one that is found is at the key's site, and passes
 

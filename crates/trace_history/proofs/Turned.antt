@@ -10,15 +10,17 @@ use Rattle.std.proofs.lemmas.Bool.Decides.{nat_tests}
 use Rattle.chem_model.specs.Each.{Each, IsIn}
 use Rattle.chem_laws.proofs.Lists.{Each-weaker}
 use Rattle.trace_history.specs.First.{turns, less}
-use Rattle.trace_history.specs.inside.Walk.{walk}
-use Rattle.trace_history.specs.inside.Keys.{Key}
+use Rattle.book_store.specs.Walk.{walk}
+use Rattle.book_store.specs.Keys.{Key}
 use Rattle.trace_history.specs.inside.Passed.{Beaten, IsOne}
-use Rattle.trace_history.proofs.Order.{less_asym, not_less, sooner, not_sooner}
-use Rattle.trace_history.proofs.KeyLaws.{key_cmp}
-use Rattle.trace_history.proofs.Members.{in_first, in_last}
-use Rattle.trace_history.proofs.Queued.{from_site, key_less, sorted_in_order, sorted_filter}
-use Rattle.trace_history.proofs.Queued.{each_filter, in_filter}
-use Rattle.trace_history.proofs.WalkLaws.{InOrder, joined_order, walked}
+use Rattle.book_store.proofs.Order.{less_asym, not_less}
+use Rattle.trace_history.proofs.Order.{sooner, not_sooner}
+use Rattle.book_store.proofs.KeyLaws.{key_cmp}
+use Rattle.book_store.proofs.Members.{in_first, in_last}
+use Rattle.book_store.proofs.Queued.{from_site, key_less, sorted_in_order, sorted_filter}
+use Rattle.book_store.proofs.Queued.{each_filter, in_filter}
+use Rattle.book_store.proofs.WalkLaws.{InOrder, joined_order}
+use Rattle.trace_history.proofs.Walked.{walked}
 
 -- whether a key is at a site from f on, or before it: as ranges say it
 abbrev pub is_late : ℕ → Key → Bool

@@ -1,15 +1,7 @@
+pub mod Holds
 pub mod Search
-pub mod Alike
 pub mod Crosses
-pub mod Table
-pub mod Walk
-pub mod Keys
-pub mod Older
-pub mod Candidates
 pub mod Passed
-pub mod Watched
-pub mod Asked
-pub mod Stored
 pub mod Looked
 pub mod Chosen
 pub mod Causes

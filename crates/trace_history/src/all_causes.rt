@@ -9,13 +9,11 @@ ghost use Rattle.chem_causes.specs.Cause.{has_pattern, waits_for};
 ghost use Rattle.chem_causes.specs.Ready.{is_taken_up, is_ready_atom};
 ghost use Rattle.chem_causes.specs.Channels.{Adds, is_on};
 ghost use Rattle.chem_causes.specs.Decided.{is_waited_for, HasMessages};
-ghost use Rattle.trace_history.specs.inside.Older.{AreQueued, whole};
+ghost use Rattle.book_store.specs.Older.{whole};
 ghost use Rattle.trace_history.specs.inside.Causes.{is_found, Covers, AreSorted, AreFound};
 ghost use Rattle.trace_history.specs.Left.{IsLeft, AreLeft};
 
-use crate::older::Older;
-use crate::search::can_act;
-use crate::table::AtomTable;
+use book_store::{AtomTable, Older, can_act};
 use chem_causes::{
     Channels, Left, LeftTable, Lefts, cause_by, causes_are_decided, channels_tell_what_is_met,
 };

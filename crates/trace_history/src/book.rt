@@ -1,6 +1,6 @@
 // A book: what contracts see of it is a program and a journal alone.
-ghost use Rattle.std.specs.Prelude.{◌≡◌, [], ◌<◌, ◌-◌, ◌^◌, length, Ok, Some};
-ghost use Rattle.std.specs.Prelude.{IfOk, IfSome, OnErr, IsTrue, ◌↔◌};
+ghost use Rattle.std.specs.Prelude.{◌≡◌, [], ◌<◌, ◌-◌, ◌^◌, length, Ok, Some, IfOk, IfSome, OnErr};
+ghost use Rattle.std.specs.Prelude.{IsTrue, ◌↔◌};
 ghost use Rattle.chem_model.specs.Numbered.{binder_in};
 ghost use Rattle.chem_model.specs.Sound.{IsSound};
 ghost use Rattle.chem_model.specs.Runs.{IsRun};
@@ -8,17 +8,17 @@ ghost use Rattle.chem_model.specs.Laws.{erase_all};
 ghost use Rattle.chem_model.specs.Apply.{states};
 ghost use Rattle.chem_model.specs.Opening.{opening};
 ghost use Rattle.trace_history.specs.Kept.{is_enabled};
-ghost use Rattle.trace_history.specs.inside.Older.{Holds, whole};
-ghost use Rattle.trace_history.specs.inside.Stored.{IsStored, Moves};
-ghost use Rattle.trace_history.specs.Book.{Commits, IsAStart, IsAReduction, OnItsSolution};
+ghost use Rattle.trace_history.specs.inside.Holds.{Holds};
+ghost use Rattle.book_store.specs.Older.{whole};
+ghost use Rattle.book_store.specs.Stored.{IsStored, Moves};
+ghost use Rattle.trace_history.specs.Book.{Commits, IsAStart, IsAReduction, OnItsSolution, IsStuck};
+ghost use Rattle.trace_history.specs.Book.{IsQuiet, Finds, Replays};
 ghost use Rattle.trace_history.specs.Left.{IsLeftAt, AreLeft, AreAtomsOf};
-ghost use Rattle.trace_history.specs.Book.{IsStuck, IsQuiet, Finds, Replays};
 
 use crate::all_causes::{all_left, ids_of};
 use crate::causes::left_at;
-use crate::possible::is_possible;
 use crate::search::{first_event, is_stuck};
-use crate::store::{Store, ready, settle_all, site_of, tidy};
+use book_store::{Store, is_possible, ready, settle_all, site_of, tidy};
 use chem_causes::{Left, Lefts};
 use chem_commit::{Guesses, make_event, note};
 use chem_laws::{event_is_a_reduction, opening_is_a_start, replay_is_a_run, stuck_is_quiet};
@@ -89,8 +89,8 @@ impl Model for Book {
 
     ghost view = { λ b. record { program = b.program; journal = b.journal } };
 
-    ghost use Rattle.trace_history.specs.inside.Older.{Holds};
-    ghost use Rattle.trace_history.specs.inside.Stored.{IsStored};
+    ghost use Rattle.trace_history.specs.inside.Holds.{Holds};
+    ghost use Rattle.book_store.specs.Stored.{IsStored};
 
     ghost invariant = { λ b. Holds (replay b.program b.journal) b.store.older.table b.solution
         × IsStored b.solution b.store };

@@ -1,16 +1,14 @@
 // Why a message or a request is left.
-ghost use Rattle.std.specs.Prelude.{◌≡◌, ◌++◌, false, IfOk, IfSome};
+ghost use Rattle.std.specs.Prelude.{◌≡◌, ◌++◌, false};
 ghost use Rattle.chem_model.specs.Sound.{IsSound};
 ghost use Rattle.chem_model.specs.Each.{IsIn};
 ghost use Rattle.chem_causes.specs.Cause.{has_pattern};
 ghost use Rattle.chem_causes.specs.Ready.{is_taken_up, is_ready_atom};
 ghost use Rattle.chem_causes.specs.Decided.{is_waited_for};
-ghost use Rattle.trace_history.specs.inside.Older.{AreQueued, whole};
+ghost use Rattle.book_store.specs.Older.{whole};
 ghost use Rattle.trace_history.specs.Left.{IsLeft, IsLeftAt};
 
-use crate::older::Older;
-use crate::possible::atom_of;
-use crate::search::{can_act, is_ready};
+use book_store::{Older, atom_of, can_act, is_ready};
 use chem_causes::{Left, cause_by, causes_are_decided, one_waits_for};
 use chem_commit::{Guesses, is_live};
 use chem_model::{AtomId, Numbered, NumberedAtom, ProcNode, Ref};
@@ -24,8 +22,7 @@ fn rules_for(
     on: Ref,
     count: usize,
 ) -> (bool, bool)
-    requires sound { IsSound numbered.now }
-    requires queued { AreQueued older.now.table older.now.keys.keys }
+    requires { IsSound numbered.now }
     ensures ready { result.0 ≡ is_taken_up (whole older.now.table numbered.now) on count }
     ensures waited { result.0 ≡ false → result.1 ≡ has_pattern numbered.now.rules on count }
 {
@@ -49,8 +46,7 @@ fn found_of(
     older: &Older,
     atom: &NumberedAtom,
 ) -> (bool, bool)
-    requires sound { IsSound numbered.now }
-    requires queued { AreQueued older.now.table older.now.keys.keys }
+    requires { IsSound numbered.now }
     ensures ready { result.0 ≡
         is_ready_atom (whole older.now.table numbered.now) atom.now atom.now.term }
     ensures waited { result.0 ≡ false → result.1 ≡ is_waited_for numbered.now.rules atom.now.term }
@@ -69,7 +65,6 @@ fn found_of(
 fn left_of(numbered: &Numbered, guesses: &Guesses, older: &Older, atom: &NumberedAtom) -> Left
     requires all { IsSound (whole older.now.table numbered.now) }
     requires sound { IsSound numbered.now }
-    requires queued { AreQueued older.now.table older.now.keys.keys }
     requires there { IsIn atom.now (older.now.table ++ numbered.now.atoms) }
     ensures { IsLeft (whole older.now.table numbered.now) atom.now result }
 {
@@ -92,7 +87,6 @@ pub(crate) fn left_at(
 ) -> Option<Left>
     requires all { IsSound (whole older.now.table numbered.now) }
     requires sound { IsSound numbered.now }
-    requires queued { AreQueued older.now.table older.now.keys.keys }
     ensures { IsLeftAt (whole older.now.table numbered.now) id result }
 {
     match atom_of(numbered, older, id) {

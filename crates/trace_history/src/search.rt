@@ -1,36 +1,33 @@
 // The search for the event that comes first: of the rules and requests that may be possible.
-ghost use Rattle.std.specs.Prelude.{◌≡◌, ◌<◌, ◌≤◌, ◌^◌, ◌++◌, ◌&&◌, ◌↔◌, length, true, Some};
-ghost use Rattle.std.specs.Prelude.{IfOk, IfSome, IsTrue, OnErr, None};
+ghost use Rattle.std.specs.Prelude.{◌≡◌, ◌<◌, ◌≤◌, ◌^◌, ◌++◌, ◌&&◌, ◌↔◌, length, true, Some, IfOk};
+ghost use Rattle.std.specs.Prelude.{IfSome, IsTrue, OnErr, None};
 ghost use Rattle.std.specs.List.{list_all};
 ghost use Rattle.std.specs.Option.{option_copied};
 ghost use Rattle.chem_model.specs.Sound.{IsSound};
 ghost use Rattle.chem_model.specs.Each.{IsIn};
 ghost use Rattle.trace_history.specs.First.{turns, less};
-ghost use Rattle.trace_history.specs.inside.Search.{IsFirstOf, first_of, beats, receives};
-ghost use Rattle.trace_history.specs.inside.Search.{atom_before};
-ghost use Rattle.trace_history.specs.inside.Search.{is_met, AreLeast, is_ready, turn};
-ghost use Rattle.trace_history.specs.inside.Search.{rule_before, can_act, request_before};
-ghost use Rattle.trace_history.specs.inside.Search.{event_of, IsReaction, IsMeeting, IsFound};
-ghost use Rattle.trace_history.specs.inside.Walk.{walk};
-ghost use Rattle.trace_history.specs.inside.Older.{AreQueued, whole};
+ghost use Rattle.book_store.specs.Walk.{IsFirstOf, walk};
+ghost use Rattle.trace_history.specs.inside.Search.{first_of, beats, AreLeast, turn, rule_before};
+ghost use Rattle.trace_history.specs.inside.Search.{request_before, event_of, IsReaction};
+ghost use Rattle.trace_history.specs.inside.Search.{IsMeeting, IsFound};
+ghost use Rattle.chem_causes.specs.Ready.{receives, is_met, is_ready, can_act};
+ghost use Rattle.book_store.specs.Older.{atom_before, whole};
 ghost use Rattle.trace_history.specs.inside.Passed.{Betters, IsPassed, ArePassed, IsPassedAt};
-ghost use Rattle.trace_history.specs.inside.Stored.{IsStored};
+ghost use Rattle.book_store.specs.Stored.{IsStored};
 ghost use Rattle.trace_history.specs.inside.Looked.{AreFiledPassed, LooksAtNewest};
 ghost use Rattle.trace_history.specs.inside.Chosen.{rule_for, request_for, IsFirstReady};
 ghost use Rattle.trace_history.specs.inside.Chosen.{IsFirstAsking};
 
 use crate::book::Found;
-use crate::candidates::Candidates;
-use crate::keys::{Key, channel_of};
-use crate::older::{Older, first_older};
-use crate::store::Store;
-use crate::table::AtomTable;
-use chem_commit::{Guesses, can_detect, can_go, falls, find_rule, is_live, root_of};
+use book_store::{
+    AtomTable, Candidates, Key, Older, Store, Waiting, can_act, channel_of, first_older, is_ready,
+};
+use chem_commit::{Guesses, find_rule, root_of};
 use chem_model::{
     AtomId, Atoms, Event, Items, Loc, Memory, Numbered, NumberedAtom, NumberedRule, Pat, Pats,
     Proc, ProcNode, RuleId,
 };
-use chem_plain::{location_of, meets};
+use chem_plain::meets;
 use std::alloc::Global;
 use std::collections::btree_set::Range;
 use std::ops::Bound;
@@ -106,7 +103,6 @@ fn least_message<'a>(
     at: Loc,
     pat: &Pat,
 ) -> Option<&'a NumberedAtom>
-    requires queued { AreQueued older.now.table older.now.keys.keys }
     ensures { IsFirstOf (receives at pat.now) atom_before
         (older.now.table ++ numbered.now.atoms) (option_copied result) }
 {
@@ -122,8 +118,7 @@ fn least_messages(
     at: Loc,
     pats: &Pats,
 ) -> Result<Atoms, Memory>
-    requires met { list_all (is_met (older.now.table ++ numbered.now.atoms) at) pats.now ≡ true }
-    requires queued { AreQueued older.now.table older.now.keys.keys }
+    requires { list_all (is_met (older.now.table ++ numbered.now.atoms) at) pats.now ≡ true }
     ensures { IfOk result (λ took.
         AreLeast (older.now.table ++ numbered.now.atoms) at pats.now took) }
 {
@@ -135,56 +130,6 @@ fn least_messages(
         }
     }
     Ok(took)
-}
-
-// Whether a pattern receives one of these at a location. The newest ones are tried first.
-fn is_met_by(atoms: &[NumberedAtom], at: Loc, pat: &Pat) -> bool
-    ensures { result ≡ is_met atoms.now at pat.now }
-{
-    let mut left = atoms.len();
-    while left > 0 {
-        left -= 1;
-        if meets(at, pat, &atoms[left]) {
-            return true;
-        }
-    }
-    false
-}
-
-// Whether a pattern receives a message at a location.
-fn is_met(numbered: &Numbered, older: &Older, at: Loc, pat: &Pat) -> bool
-    requires { AreQueued older.now.table older.now.keys.keys }
-    ensures { result ≡ is_met (older.now.table ++ numbered.now.atoms) at pat.now }
-{
-    if is_met_by(numbered.atoms.as_slice(), at, pat) {
-        return true;
-    }
-    match first_older(older, at, pat) {
-        Some(_) => true,
-        None => false,
-    }
-}
-
-// Whether a rule stands at a live location and each of its patterns receives a message.
-pub(crate) fn is_ready(
-    numbered: &Numbered,
-    guesses: &Guesses,
-    older: &Older,
-    rule: &NumberedRule,
-) -> bool
-    requires sound { IsSound numbered.now }
-    requires queued { AreQueued older.now.table older.now.keys.keys }
-    ensures { result ≡ is_ready (whole older.now.table numbered.now) rule.now }
-{
-    if !is_live(numbered, guesses, rule.loc) {
-        return false;
-    }
-    for pat in rule.pats.as_slice() {
-        if !is_met(numbered, older, rule.loc, pat) {
-            return false;
-        }
-    }
-    true
 }
 
 // Whether a rule comes before the one that was found so far.
@@ -209,22 +154,27 @@ fn is_earlier_rule(
     }
 }
 
-// The first of the rules that are ready, where there are few rules.
-fn first_of_few<'a>(
+// What the search for the first rule goes by: the solution with what is guessed of it, the older
+// messages, and the site that is looked at first.
+#[derive(Clone, Copy)]
+struct Sight<'a, 's> {
     numbered: &'a Numbered,
-    guesses: &Guesses,
-    older: &Older,
+    guesses: &'s Guesses,
+    older: &'s Older,
     from: u32,
-) -> Option<&'a NumberedRule>
-    requires sound { IsSound numbered.now }
-    requires queued { AreQueued older.now.table older.now.keys.keys }
-    ensures { IsFirstOf (is_ready (whole older.now.table numbered.now))
-        (rule_before numbered.now from) numbered.now.rules (option_copied result) }
+}
+
+// The first of the rules that are ready, where there are few rules.
+fn first_of_few<'a>(sight: Sight<'a, '_>) -> Option<&'a NumberedRule>
+    requires { IsSound sight.numbered.now }
+    ensures { IsFirstOf (is_ready (whole sight.entry.older.now.table sight.entry.numbered.now))
+        (rule_before sight.entry.numbered.now sight.entry.from) sight.entry.numbered.now.rules
+        (option_copied result) }
 {
     let mut first: Option<&NumberedRule> = None;
-    for rule in numbered.rules.as_slice() {
-        if is_earlier_rule(numbered, guesses, from, rule, first)
-            && is_ready(numbered, guesses, older, rule)
+    for rule in sight.numbered.rules.as_slice() {
+        if is_earlier_rule(sight.numbered, sight.guesses, sight.from, rule, first)
+            && is_ready(sight.numbered, sight.guesses, sight.older, rule)
         {
             first = Some(rule);
         }
@@ -234,23 +184,19 @@ fn first_of_few<'a>(
 
 // The better one of a rule, where it is ready, and of the one that was found so far.
 fn better<'a>(
-    numbered: &Numbered,
-    guesses: &Guesses,
-    older: &Older,
-    from: u32,
+    sight: Sight<'a, '_>,
     rule: &'a NumberedRule,
     found: Option<&'a NumberedRule>,
 ) -> Option<&'a NumberedRule>
-    requires sound { IsSound numbered.now }
-    requires queued { AreQueued older.now.table older.now.keys.keys }
-    requires there { IsIn rule.now numbered.now.rules }
-    ensures better { Betters (whole older.now.table numbered.now) from (option_copied found.entry)
-        (option_copied result) }
-    ensures passed { IsPassed (whole older.now.table numbered.now) from (option_copied result)
-        rule.now }
+    requires sound { IsSound sight.numbered.now }
+    requires there { IsIn rule.now sight.numbered.now.rules }
+    ensures better { Betters (whole sight.entry.older.now.table sight.entry.numbered.now)
+        sight.entry.from (option_copied found.entry) (option_copied result) }
+    ensures passed { IsPassed (whole sight.entry.older.now.table sight.entry.numbered.now)
+        sight.entry.from (option_copied result) rule.now }
 {
-    if is_earlier_rule(numbered, guesses, from, rule, found)
-        && is_ready(numbered, guesses, older, rule)
+    if is_earlier_rule(sight.numbered, sight.guesses, sight.from, rule, found)
+        && is_ready(sight.numbered, sight.guesses, sight.older, rule)
     {
         Some(rule)
     } else {
@@ -259,24 +205,17 @@ fn better<'a>(
 }
 
 // The best one of the rules that were not noted.
-fn best_of_rest<'a>(
-    numbered: &'a Numbered,
-    guesses: &Guesses,
-    older: &Older,
-    noted: usize,
-    from: u32,
-) -> Option<&'a NumberedRule>
-    requires sound { IsSound numbered.now }
-    requires queued { AreQueued older.now.table older.now.keys.keys }
-    ensures better { Betters (whole older.now.table numbered.now) from None
-        (option_copied result) }
-    ensures passed { ArePassed (whole older.now.table numbered.now) from noted
-        (length numbered.now.rules) (option_copied result) }
+fn best_of_rest<'a>(sight: Sight<'a, '_>, noted: usize) -> Option<&'a NumberedRule>
+    requires { IsSound sight.numbered.now }
+    ensures better { Betters (whole sight.entry.older.now.table sight.entry.numbered.now)
+        sight.entry.from None (option_copied result) }
+    ensures passed { ArePassed (whole sight.entry.older.now.table sight.entry.numbered.now)
+        sight.entry.from noted (length sight.entry.numbered.now.rules) (option_copied result) }
 {
-    let rules = numbered.rules.as_slice();
+    let rules = sight.numbered.rules.as_slice();
     let mut best = None;
     for place in noted..rules.len() {
-        best = better(numbered, guesses, older, from, &rules[place], best);
+        best = better(sight, &rules[place], best);
     }
     best
 }
@@ -284,44 +223,37 @@ fn best_of_rest<'a>(
 // The better one of the rule with this number, where it is ready, and of the one that was found so
 // far.
 fn better_at<'a>(
-    numbered: &'a Numbered,
-    guesses: &Guesses,
-    older: &Older,
-    from: u32,
+    sight: Sight<'a, '_>,
     id: RuleId,
     found: Option<&'a NumberedRule>,
 ) -> Option<&'a NumberedRule>
-    requires sound { IsSound numbered.now }
-    requires queued { AreQueued older.now.table older.now.keys.keys }
-    ensures better { Betters (whole older.now.table numbered.now) from (option_copied found.entry)
-        (option_copied result) }
-    ensures passed { IsPassedAt (whole older.now.table numbered.now) from (option_copied result)
-        id }
+    requires { IsSound sight.numbered.now }
+    ensures better { Betters (whole sight.entry.older.now.table sight.entry.numbered.now)
+        sight.entry.from (option_copied found.entry) (option_copied result) }
+    ensures passed { IsPassedAt (whole sight.entry.older.now.table sight.entry.numbered.now)
+        sight.entry.from (option_copied result) id }
 {
-    match find_rule(numbered, guesses, id) {
-        Some(rule) => better(numbered, guesses, older, from, rule, found),
+    match find_rule(sight.numbered, sight.guesses, id) {
+        Some(rule) => better(sight, rule, found),
         None => found,
     }
 }
 
 // The best one of the rules that are filed at a channel, and of the one that was found so far.
 fn best_of_channel<'a>(
-    numbered: &'a Numbered,
-    guesses: &Guesses,
-    store: &Store,
-    from: u32,
+    sight: Sight<'a, '_>,
+    waiting: &Waiting,
     channel: u64,
     found: Option<&'a NumberedRule>,
 ) -> Option<&'a NumberedRule>
-    requires sound { IsSound numbered.now }
-    requires stored { IsStored numbered.now store.now }
+    requires sound { IsSound sight.numbered.now }
     requires small { channel ≤ 2 ^ 63 }
-    ensures better { Betters (whole store.now.older.table numbered.now) from
-        (option_copied found.entry) (option_copied result) }
-    ensures passed { AreFiledPassed (whole store.now.older.table numbered.now) from
-        store.now.waiting (Some channel) (option_copied result) }
+    ensures better { Betters (whole sight.entry.older.now.table sight.entry.numbered.now)
+        sight.entry.from (option_copied found.entry) (option_copied result) }
+    ensures passed { AreFiledPassed (whole sight.entry.older.now.table sight.entry.numbered.now)
+        sight.entry.from waiting.now (Some channel) (option_copied result) }
 {
-    let filed = store.waiting.filed.range((
+    let filed = waiting.filed.range((
         Bound::Included((channel, (0, 0))),
         Bound::Excluded((channel + 1, (0, 0))),
     ));
@@ -331,37 +263,34 @@ fn best_of_channel<'a>(
             site: key.1.0,
             k: key.1.1,
         };
-        best = better_at(numbered, guesses, &store.older, from, id, best);
+        best = better_at(sight, id, best);
     }
     best
 }
 
 // The same where those of another channel were looked at, which may be this one, or there is none.
 fn best_of_next<'a>(
-    numbered: &'a Numbered,
-    guesses: &Guesses,
-    store: &Store,
-    from: u32,
+    sight: Sight<'a, '_>,
+    waiting: &Waiting,
     channel: Option<u64>,
     last: Option<u64>,
     found: Option<&'a NumberedRule>,
 ) -> Option<&'a NumberedRule>
-    requires sound { IsSound numbered.now }
-    requires stored { IsStored numbered.now store.now }
+    requires sound { IsSound sight.numbered.now }
     requires small { IfSome channel (λ c. c ≤ 2 ^ 63) }
-    requires last { AreFiledPassed (whole store.now.older.table numbered.now) from
-        store.now.waiting last (option_copied found) }
-    ensures better { Betters (whole store.now.older.table numbered.now) from
-        (option_copied found.entry) (option_copied result) }
-    ensures passed { AreFiledPassed (whole store.now.older.table numbered.now) from
-        store.now.waiting channel (option_copied result) }
+    requires last { AreFiledPassed (whole sight.older.now.table sight.numbered.now) sight.from
+        waiting.now last (option_copied found) }
+    ensures better { Betters (whole sight.entry.older.now.table sight.entry.numbered.now)
+        sight.entry.from (option_copied found.entry) (option_copied result) }
+    ensures passed { AreFiledPassed (whole sight.entry.older.now.table sight.entry.numbered.now)
+        sight.entry.from waiting.now channel (option_copied result) }
 {
     match channel {
         Some(number) => {
             if is_same(number, last) {
                 found
             } else {
-                best_of_channel(numbered, guesses, store, from, number, found)
+                best_of_channel(sight, waiting, number, found)
             }
         }
         None => found,
@@ -380,23 +309,16 @@ fn is_same(number: u64, last: Option<u64>) -> bool
 
 // The best one of the rules that were not noted, and of those that are filed at the channel of a
 // newest message.
-fn best_of_newest<'a>(
-    numbered: &'a Numbered,
-    guesses: &Guesses,
-    store: &Store,
-    from: u32,
-) -> Option<&'a NumberedRule>
-    requires sound { IsSound numbered.now }
-    requires stored { IsStored numbered.now store.now }
-    ensures { LooksAtNewest (whole store.now.older.table numbered.now) from store.now.waiting
-        numbered.now.atoms (option_copied result) }
+fn best_of_newest<'a>(sight: Sight<'a, '_>, waiting: &Waiting) -> Option<&'a NumberedRule>
+    requires { IsSound sight.numbered.now }
+    ensures { LooksAtNewest (whole sight.entry.older.now.table sight.entry.numbered.now)
+        sight.entry.from waiting.now sight.entry.numbered.now.atoms (option_copied result) }
 {
-    let noted = store.waiting.noted;
-    let mut best = best_of_rest(numbered, guesses, &store.older, noted, from);
+    let mut best = best_of_rest(sight, waiting.noted);
     let mut last = None;
-    for atom in numbered.atoms.as_slice() {
+    for atom in sight.numbered.atoms.as_slice() {
         let channel = channel_of(&atom.term);
-        best = best_of_next(numbered, guesses, store, from, channel, last, best);
+        best = best_of_next(sight, waiting, channel, last, best);
         last = channel;
     }
     best
@@ -409,8 +331,7 @@ fn rule_of<'a>(
     older: &Older,
     key: Key,
 ) -> Option<&'a NumberedRule>
-    requires sound { IsSound numbered.now }
-    requires queued { AreQueued older.now.table older.now.keys.keys }
+    requires { IsSound numbered.now }
     ensures { option_copied result ≡ rule_for (whole older.now.table numbered.now) key }
 {
     let id = RuleId {
@@ -438,8 +359,7 @@ fn walk_rules<'a>(
     guesses: &Guesses,
     older: &Older,
 ) -> Option<&'a NumberedRule>
-    requires sound { IsSound numbered.now }
-    requires queued { AreQueued older.now.table older.now.keys.keys }
+    requires { IsSound numbered.now }
     ensures { option_copied result
         ≡ walk (rule_for (whole older.now.table numbered.now)) keys.entry }
 {
@@ -453,32 +373,25 @@ fn walk_rules<'a>(
 }
 
 // The first of the candidates that are ready.
-fn first_ready<'a>(
-    numbered: &'a Numbered,
-    guesses: &Guesses,
-    older: &Older,
-    candidates: &Candidates,
-    from: u32,
-) -> Option<&'a NumberedRule>
-    requires sound { IsSound numbered.now }
-    requires queued { AreQueued older.now.table older.now.keys.keys }
-    ensures { IsFirstReady (whole older.now.table numbered.now) from candidates.now
-        (option_copied result) }
+fn first_ready<'a>(sight: Sight<'a, '_>, candidates: &Candidates) -> Option<&'a NumberedRule>
+    requires { IsSound sight.numbered.now }
+    ensures { IsFirstReady (whole sight.entry.older.now.table sight.entry.numbered.now)
+        sight.entry.from candidates.now (option_copied result) }
 {
     if candidates.sites.is_empty() {
         return None;
     }
-    let first = (from as u64, (0, 0));
+    let first = (sight.from as u64, (0, 0));
     let later = candidates
         .sites
         .range((Bound::Included(first), Bound::Unbounded));
-    match walk_rules(later, numbered, guesses, older) {
+    match walk_rules(later, sight.numbered, sight.guesses, sight.older) {
         Some(rule) => Some(rule),
         None => {
             let earlier = candidates
                 .sites
                 .range((Bound::Unbounded, Bound::Excluded(first)));
-            walk_rules(earlier, numbered, guesses, older)
+            walk_rules(earlier, sight.numbered, sight.guesses, sight.older)
         }
     }
 }
@@ -497,8 +410,14 @@ fn first_watched<'a>(
     ensures { IsFirstOf (is_ready (whole store.now.older.table numbered.now))
         (rule_before numbered.now from) numbered.now.rules (option_copied result) }
 {
-    let best = best_of_newest(numbered, guesses, store, from);
-    match first_ready(numbered, guesses, &store.older, &store.waiting.ready, from) {
+    let sight = Sight {
+        numbered,
+        guesses,
+        older: &store.older,
+        from,
+    };
+    let best = best_of_newest(sight, &store.waiting);
+    match first_ready(sight, &store.waiting.ready) {
         Some(rule) => {
             if is_earlier_rule(numbered, guesses, from, rule, best) {
                 Some(rule)
@@ -524,30 +443,14 @@ fn first_rule<'a>(
         (rule_before numbered.now from) numbered.now.rules (option_copied result) }
 {
     if numbered.rules.len() < FEW {
-        first_of_few(numbered, guesses, &store.older, from)
+        first_of_few(Sight {
+            numbered,
+            guesses,
+            older: &store.older,
+            from,
+        })
     } else {
         first_watched(numbered, guesses, store, from)
-    }
-}
-
-// Whether this is a request that can be met.
-pub(crate) fn can_act(numbered: &Numbered, guesses: &Guesses, atom: &NumberedAtom) -> bool
-    requires { IsSound numbered.now }
-    ensures { result ≡ can_act numbered.now atom.now }
-{
-    match atom.term.node() {
-        ProcNode::Go { target, .. } => match location_of(*target) {
-            Some(to) => {
-                can_go(numbered, guesses, atom.loc, to) || falls(numbered, guesses, atom.loc, to)
-            }
-            None => false,
-        },
-        ProcNode::Halt => is_live(numbered, guesses, atom.loc),
-        ProcNode::Fail { target, .. } => match location_of(*target) {
-            Some(of) => can_detect(numbered, guesses, atom.loc, of),
-            None => false,
-        },
-        _ => false,
     }
 }
 
@@ -710,7 +613,6 @@ fn reaction(
     rule: &NumberedRule,
 ) -> Result<Found, Memory>
     requires sound { IsSound numbered.now }
-    requires queued { AreQueued older.now.table older.now.keys.keys }
     requires ready { is_ready (whole older.now.table numbered.now) rule.now ≡ true }
     ensures { IfOk result (λ found.
         IsReaction (whole older.now.table numbered.now) rule.now found) }

@@ -7,13 +7,14 @@ use Rattle.chem_model.specs.Each.{IsIn}
 use Rattle.chem_model.specs.Solution.{root}
 use Rattle.chem_model.specs.Numbered.{standing}
 use Rattle.chem_model.specs.Apply.{rule_at, atom_at}
-use Rattle.trace_history.specs.inside.Search.{is_ready, can_act, rule_before, request_before}
-use Rattle.trace_history.specs.inside.Keys.{Key}
-use Rattle.trace_history.specs.inside.Candidates.{IsCandidate}
+use Rattle.chem_causes.specs.Ready.{is_ready, can_act}
+use Rattle.trace_history.specs.inside.Search.{rule_before, request_before}
+use Rattle.book_store.specs.Keys.{Key}
+use Rattle.book_store.specs.Candidates.{IsCandidate}
 use Rattle.trace_history.specs.inside.Passed.{Beaten, IsOne}
-use Rattle.trace_history.specs.inside.Watched.{rule_pair}
-use Rattle.trace_history.specs.inside.Asked.{atom_pair}
-use Rattle.trace_history.specs.declared.candidates.Candidates.{Candidates}
+use Rattle.book_store.specs.Watched.{rule_pair}
+use Rattle.book_store.specs.Asked.{atom_pair}
+use Rattle.book_store.specs.declared.candidates.Candidates.{Candidates}
 
 -- a member that is at this site and passes
 abbrev pub kept_at : {X : Type 0} → (X → ℕ) → (X → Bool) → ℕ → Option X → Option X

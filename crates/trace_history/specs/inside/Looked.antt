@@ -5,11 +5,11 @@ use Rattle.chem_model.specs.declared.numbered.NumberedRule.{NumberedRule}
 use Rattle.chem_model.specs.declared.numbered.NumberedAtom.{NumberedAtom}
 use Rattle.chem_model.specs.declared.numbered.Numbered.{Numbered}
 use Rattle.chem_model.specs.Each.{Each, IsIn}
-use Rattle.trace_history.specs.inside.Search.{is_ready}
-use Rattle.trace_history.specs.inside.Keys.{Key, channel_of}
+use Rattle.chem_causes.specs.Ready.{is_ready}
+use Rattle.book_store.specs.Keys.{Key, channel_of}
 use Rattle.trace_history.specs.inside.Passed.{IsOne, IsPassed, ArePassed}
-use Rattle.trace_history.specs.inside.Watched.{rule_pair}
-use Rattle.trace_history.specs.declared.waiting.Waiting.{Waiting}
+use Rattle.book_store.specs.Watched.{rule_pair}
+use Rattle.book_store.specs.declared.waiting.Waiting.{Waiting}
 
 -- the rules that are filed at this channel, if it is one
 abbrev pub AreFiledPassed :

@@ -1,16 +1,13 @@
 -- What a search for the first rule that is ready found so far.
-use Rattle.std.specs.Prelude.{◌≡◌, ℕ, ◌<◌, ◌≤◌, List, Option, Some, None, Bool, true, false, length}
-use Rattle.std.specs.Prelude.{get_or}
+use Rattle.std.specs.Prelude.{◌≡◌, ℕ, ◌<◌, ◌≤◌, List, Option, Some, None, Bool, true, false}
 use Rattle.chem_model.specs.declared.event.RuleId.{RuleId}
 use Rattle.chem_model.specs.declared.numbered.NumberedRule.{NumberedRule}
 use Rattle.chem_model.specs.declared.numbered.Numbered.{Numbered}
 use Rattle.chem_model.specs.Each.{IsIn}
 use Rattle.chem_model.specs.Apply.{rule_at}
-use Rattle.trace_history.specs.inside.Search.{is_ready, rule_before}
-
--- the member of a list at this place
-abbrev pub IsAt : {X : Type 0} → List X → ℕ → X → Type 0
-IsAt xs j x = (j < length xs) × (x ≡ get_or xs j x)
+use Rattle.book_store.specs.Watched.{IsAt}
+use Rattle.chem_causes.specs.Ready.{is_ready}
+use Rattle.trace_history.specs.inside.Search.{rule_before}
 
 -- what was found doesn't come after this member
 abbrev pub Beaten : {X : Type 0} → (X → X → Bool) → X → Option X → Type 0

@@ -2,7 +2,6 @@
 -- be met, and of the messages that a pattern receives, the first of each.
 use Rattle.std.specs.Prelude.{◌≡◌, ℕ, ◌<◌, List, [], ◌∷◌, Option, Some, None, is_some, Bool, true}
 use Rattle.std.specs.Prelude.{false, cond, nat_lt, ◌==◌, ◌&&◌, ◌||◌, length}
-use Rattle.std.specs.List.{list_any, list_all}
 use Rattle.chem_model.specs.declared.name.Loc.{Loc}
 use Rattle.chem_model.specs.declared.name.Pat.{Pat}
 use Rattle.chem_model.specs.declared.event.AtomId.{AtomId}
@@ -12,18 +11,14 @@ use Rattle.chem_model.specs.declared.numbered.NumberedRule.{NumberedRule}
 use Rattle.chem_model.specs.declared.numbered.NumberedAtom.{NumberedAtom}
 use Rattle.chem_model.specs.declared.numbered.Numbered.{Numbered}
 use Rattle.chem_model.specs.Process.{Process, Msg, Par, Def, Go, Fail, Halt}
-use Rattle.chem_model.specs.Each.{Each, IsIn}
-use Rattle.chem_model.specs.Solution.{live, root}
+use Rattle.chem_model.specs.Solution.{root}
 use Rattle.chem_model.specs.Numbered.{standing}
-use Rattle.chem_model.specs.Apply.{received_at, move_atom, halt_atom, detect_atom, apply}
+use Rattle.chem_model.specs.Apply.{apply}
+use Rattle.chem_causes.specs.Ready.{receives}
+use Rattle.book_store.specs.Walk.{IsFirstOf}
+use Rattle.book_store.specs.Older.{atom_before}
 use Rattle.trace_history.specs.declared.book.Found.{Found}
 use Rattle.trace_history.specs.First.{turns, atom_less, rule_less, IsFirst}
-
--- among the members that pass a test, one before which none comes; or there is none
-abbrev pub IsFirstOf : {X : Type 0} → (X → Bool) → (X → X → Bool) → List X → Option X → Type 0
-IsFirstOf test before xs None = Each (λ x. test x ≡ false) xs
-IsFirstOf test before xs (Some y) =
-    IsIn y xs × (test y ≡ true) × Each (λ x. test x ≡ true → before x y ≡ false) xs
 
 -- whether a member comes before the one that was found so far
 abbrev pub beats : {X : Type 0} → (X → X → Bool) → X → Option X → Bool
@@ -37,16 +32,6 @@ first_of test before found (x ∷ xs) =
     first_of test before (cond (beats before x found && test x) (Some x) found) xs
 
 -- ---- messages
-
-abbrev pub receives : Loc → Pat → NumberedAtom → Bool
-receives l p a = is_some (received_at l p (Some a))
-
-abbrev pub atom_before : NumberedAtom → NumberedAtom → Bool
-atom_before a b = atom_less a.id b.id
-
--- a message at the location is received by the pattern
-abbrev pub is_met : List NumberedAtom → Loc → Pat → Bool
-is_met atoms l p = list_any (receives l p) atoms
 
 -- the message with the least number that the pattern receives has this number
 abbrev pub IsLeast : List NumberedAtom → Loc → Pat → AtomId → Type 0
@@ -62,10 +47,6 @@ AreLeast atoms l (p ∷ ps) [] = ⊥
 
 -- ---- rules
 
--- a rule stands at a live location, and each of its patterns is met
-abbrev pub is_ready : Numbered → NumberedRule → Bool
-is_ready n r = live (standing n.places) r.loc && list_all (is_met n.atoms r.loc) r.pats
-
 -- the turn of the site at which a location is
 abbrev pub turn : Numbered → ℕ → Loc → ℕ
 turn n from l = turns (length n.counts) from (root (standing n.places) l).site
@@ -76,12 +57,6 @@ rule_before n from r s =
     || ((turn n from r.loc == turn n from s.loc) && rule_less r.id s.id)
 
 -- ---- requests
-
--- a request that can be met
-abbrev pub can_act : Numbered → NumberedAtom → Bool
-can_act n a =
-    is_some (move_atom n a.id a.loc a.term)
-    || (is_some (halt_atom n a.id a.loc a.term) || is_some (detect_atom n a.id a.loc a.term))
 
 abbrev pub request_before : Numbered → ℕ → NumberedAtom → NumberedAtom → Bool
 request_before n from a b =

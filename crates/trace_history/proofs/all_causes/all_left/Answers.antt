@@ -1,5 +1,5 @@
 use Rattle.std.proofs.Common.{refl}
-use Rattle.trace_history.specs.inside.Older.{whole}
+use Rattle.book_store.specs.Older.{whole}
 use Rattle.trace_history.proofs.CausesLaws.{sorted_of, left_all}
 use Rattle.trace_history.proofs.all_causes.all_left.Goals as goal
 

@@ -1,4 +1,4 @@
-use Rattle.trace_history.specs.inside.Older.{whole}
+use Rattle.book_store.specs.Older.{whole}
 use Rattle.trace_history.proofs.CausesLaws.{there_newest, newest_more}
 use Rattle.trace_history.proofs.all_causes.file_newest.Goals as goal
 

@@ -1,5 +1,5 @@
 use Rattle.std.proofs.Common.{◌++◌, take}
-use Rattle.trace_history.specs.inside.Older.{whole}
+use Rattle.book_store.specs.Older.{whole}
 use Rattle.trace_history.specs.inside.Causes.{Covers}
 use Rattle.trace_history.proofs.all_causes.file_newest.Given as goal
 

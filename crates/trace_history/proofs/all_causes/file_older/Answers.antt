@@ -1,5 +1,5 @@
 use Rattle.std.proofs.Common.{◌++◌, [], ◌∷◌}
-use Rattle.trace_history.specs.inside.Older.{whole}
+use Rattle.book_store.specs.Older.{whole}
 use Rattle.trace_history.proofs.CausesLaws.{there_older, done_more, covers_more}
 use Rattle.trace_history.proofs.all_causes.file_older.Goals as goal
 

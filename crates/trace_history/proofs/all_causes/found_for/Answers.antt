@@ -1,5 +1,5 @@
 use Rattle.std.proofs.Common.{◌∙◌}
-use Rattle.trace_history.specs.inside.Older.{whole}
+use Rattle.book_store.specs.Older.{whole}
 use Rattle.trace_history.proofs.CausesLaws.{sorted_has}
 use Rattle.trace_history.proofs.all_causes.found_for.Goals as goal
 

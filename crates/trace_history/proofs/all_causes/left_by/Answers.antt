@@ -1,7 +1,7 @@
 use Rattle.std.proofs.Common.{refl, sym, subst}
 use Rattle.chem_causes.specs.declared.cause.Cause.{Cause}
 use Rattle.chem_causes.specs.Cause.{IsCause}
-use Rattle.trace_history.specs.inside.Older.{whole}
+use Rattle.book_store.specs.Older.{whole}
 use Rattle.trace_history.proofs.all_causes.left_by.Goals as goal
 
 pub returns : goal.returns

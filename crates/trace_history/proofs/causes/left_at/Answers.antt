@@ -1,5 +1,5 @@
 use Rattle.std.proofs.Common.{◌++◌, sym}
-use Rattle.trace_history.proofs.LeftLaws.{found_in}
+use Rattle.book_store.proofs.ByNumber.{found_in}
 use Rattle.trace_history.proofs.causes.left_at.Goals as goal
 
 pub left_of-requires-clause-there : goal.left_of-requires-clause-there

@@ -2,7 +2,7 @@ use Rattle.std.proofs.Common.{◌≡◌, drop, ◌||◌}
 use Rattle.std.specs.List.{list_any}
 use Rattle.chem_causes.specs.Cause.{has_pattern}
 use Rattle.chem_causes.specs.Ready.{takes_up}
-use Rattle.trace_history.specs.inside.Older.{whole}
+use Rattle.book_store.specs.Older.{whole}
 use Rattle.trace_history.proofs.causes.rules_for.Given as goal
 
 abbrev pub invariant-loop-rule : goal.invariant-loop-rule

@@ -4,10 +4,10 @@ use Rattle.std.specs.Prelude.{None}
 use Rattle.std.specs.Option.{option_copied}
 use Rattle.chem_model.specs.declared.numbered.NumberedRule.{NumberedRule}
 use Rattle.chem_model.specs.Each.{IsIn}
-use Rattle.trace_history.specs.inside.Older.{whole}
-use Rattle.trace_history.specs.inside.Passed.{IsAt}
+use Rattle.book_store.specs.Older.{whole}
+use Rattle.book_store.specs.Watched.{IsAt}
 use Rattle.trace_history.proofs.Looked.{betters_along, rest_next}
-use Rattle.trace_history.proofs.Members.{at_in}
+use Rattle.book_store.proofs.Members.{at_in}
 use Rattle.trace_history.proofs.search.best_of_rest.Goals as goal
 
 pub better-best-requires-clause-there : goal.better-best-requires-clause-there
@@ -19,15 +19,15 @@ better-best-requires-clause-there c =
 
 pub loop-place-preserved : goal.loop-place-preserved
 loop-place-preserved c =
-    let n = whole c.args.older.now.table c.args.numbered.now in
+    let n = whole c.args.sight.older.now.table c.args.sight.numbered.now in
     let old = option_copied c.loop-place.best in
     let new = option_copied c.better-best.result in
     let r = c.index-rules-place.result in
     let at : IsAt n.rules c.loop-place.place r =
     subst (λ (l : List NumberedRule). IsAt l c.loop-place.place r) c.as_slice-rules.ensures.members
     (c.loop-place-test.true, c.index-rules-place.is) in (
-      betters_along n c.args.from None old new
+      betters_along n c.args.sight.from None old new
           c.loop-place.invariant.0 c.better-best.ensures.better,
-      rest_next n c.args.from c.args.noted c.loop-place.place old new r
+      rest_next n c.args.sight.from c.args.noted c.loop-place.place old new r
           c.better-best.ensures.better at c.better-best.ensures.passed c.loop-place.invariant.1,
     )

@@ -2,7 +2,7 @@
 use Rattle.std.proofs.Common.{Some, refl, ap, sym, ◌∙◌}
 use Rattle.std.specs.List.{filter}
 use Rattle.std.specs.Option.{option_copied}
-use Rattle.trace_history.specs.inside.Walk.{or_else, walk}
+use Rattle.book_store.specs.Walk.{or_else, walk}
 use Rattle.trace_history.specs.inside.Chosen.{request_for}
 use Rattle.trace_history.proofs.Turned.{is_early}
 use Rattle.trace_history.proofs.Stands.{two_walks, first_asking_is, none_asking}

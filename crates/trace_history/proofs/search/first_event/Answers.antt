@@ -1,7 +1,7 @@
 -- The reaction or the request that comes first, or none.
 use Rattle.std.proofs.Common.{◌<◌, ◌≤◌, ℕ, Some, None, subst}
 use Rattle.trace_history.specs.inside.Search.{turn}
-use Rattle.trace_history.specs.inside.Older.{whole}
+use Rattle.book_store.specs.Older.{whole}
 use Rattle.trace_history.proofs.Founds.{none_possible}
 use Rattle.trace_history.proofs.Answered.{reaction_found, meeting_found, none_is, ready_on_err}
 use Rattle.trace_history.proofs.Answered.{turn_rule, turn_atom}

@@ -1,7 +1,8 @@
 -- All members were looked at.
 use Rattle.std.proofs.Common.{refl}
 use Rattle.std.specs.Option.{option_copied}
-use Rattle.trace_history.specs.inside.Search.{can_act, request_before}
+use Rattle.chem_causes.specs.Ready.{can_act}
+use Rattle.trace_history.specs.inside.Search.{request_before}
 use Rattle.trace_history.proofs.FirstOf.{finds_at_end}
 use Rattle.trace_history.proofs.Founds.{requests_order}
 use Rattle.trace_history.proofs.search.first_request_of.Goals as goal

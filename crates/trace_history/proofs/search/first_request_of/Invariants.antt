@@ -1,7 +1,8 @@
 use Rattle.std.proofs.Common.{◌≡◌, drop}
 use Rattle.std.specs.Prelude.{None}
 use Rattle.std.specs.Option.{option_copied}
-use Rattle.trace_history.specs.inside.Search.{first_of, can_act, request_before}
+use Rattle.trace_history.specs.inside.Search.{first_of, request_before}
+use Rattle.chem_causes.specs.Ready.{can_act}
 use Rattle.trace_history.proofs.search.first_request_of.Given as goal
 
 abbrev pub invariant-loop-atom : goal.invariant-loop-atom

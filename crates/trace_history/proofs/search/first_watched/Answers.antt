@@ -2,6 +2,7 @@
 use Rattle.std.proofs.Common.{Some, None, sym, ◌∙◌}
 use Rattle.std.specs.Option.{option_copied}
 use Rattle.trace_history.specs.inside.Search.{rule_before}
+use Rattle.book_store.proofs.KeptKeys.{are_queued_is}
 use Rattle.trace_history.proofs.Founds.{rules_order}
 use Rattle.trace_history.proofs.Looked.{first_of_all}
 use Rattle.trace_history.proofs.Picked.{pick_one, pick_other, pick_only}
@@ -13,7 +14,8 @@ returns-then-is_earlier_rule c =
     let s = c.args.store.now in
     let best = option_copied c.best_of_newest-best.result in
     let r = c.in-Some.rule.now in
-    first_of_all m s.older.table s.older.keys.keys c.requires.stored.queued s.waiting
+    first_of_all m s.older.table s.older.keys.keys
+    (are_queued_is s.older.table s.older.keys.keys s.older.queued) s.waiting
     c.requires.stored.watched c.args.from best (Some r) c.best_of_newest-best.ensures
     c.in-Some.ensures (Some r)
     (pick_other (rule_before m c.args.from) (rules_order m c.args.from) best r
@@ -25,7 +27,8 @@ returns-else-is_earlier_rule c =
     let s = c.args.store.now in
     let best = option_copied c.best_of_newest-best.result in
     let r = c.in-Some.rule.now in
-    first_of_all m s.older.table s.older.keys.keys c.requires.stored.queued s.waiting
+    first_of_all m s.older.table s.older.keys.keys
+    (are_queued_is s.older.table s.older.keys.keys s.older.queued) s.waiting
     c.requires.stored.watched c.args.from best (Some r) c.best_of_newest-best.ensures
     c.in-Some.ensures best
     (pick_one (rule_before m c.args.from) (rules_order m c.args.from) best r
@@ -36,6 +39,7 @@ returns-in-None c =
     let m = c.args.numbered.now in
     let s = c.args.store.now in
     let best = option_copied c.best_of_newest-best.result in
-    first_of_all m s.older.table s.older.keys.keys c.requires.stored.queued s.waiting
+    first_of_all m s.older.table s.older.keys.keys
+    (are_queued_is s.older.table s.older.keys.keys s.older.queued) s.waiting
     c.requires.stored.watched c.args.from best None c.best_of_newest-best.ensures
     c.in-None.ensures best (pick_only (rule_before m c.args.from) (rules_order m c.args.from) best)

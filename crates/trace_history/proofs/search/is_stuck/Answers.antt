@@ -1,5 +1,5 @@
 -- Where a rule is ready or a request can be met, an event is possible.
-use Rattle.trace_history.specs.inside.Older.{whole}
+use Rattle.book_store.specs.Older.{whole}
 use Rattle.trace_history.proofs.Founds.{none_possible}
 use Rattle.trace_history.proofs.Answered.{rule_not_stuck, request_not_stuck, is_stuck_then}
 use Rattle.trace_history.proofs.search.is_stuck.Goals as goal

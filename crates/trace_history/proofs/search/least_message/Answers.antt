@@ -2,7 +2,9 @@
 use Rattle.std.proofs.Common.{List, ◌++◌, subst}
 use Rattle.std.specs.Option.{option_copied}
 use Rattle.chem_model.specs.declared.numbered.NumberedAtom.{NumberedAtom}
-use Rattle.trace_history.specs.inside.Search.{IsFirstOf, receives, atom_before}
+use Rattle.book_store.specs.Walk.{IsFirstOf}
+use Rattle.chem_causes.specs.Ready.{receives}
+use Rattle.book_store.specs.Older.{atom_before}
 use Rattle.trace_history.proofs.Founds.{messages_order}
 use Rattle.trace_history.proofs.Joined.{first_joined}
 use Rattle.trace_history.proofs.search.least_message.Goals as goal

@@ -15,5 +15,5 @@ loop-pat-preserved c =
           w.in-Some.ensures (w.took-is ∙ w.in_ok-push-in-Some.ensures.ok)
       | in-None w ↦ absurd (none_least atoms c.args.at pats
           c.loop-pat.pat-index c.pat-item.result c.loop-pat-test.true c.pat-item.is
-          (rw c.as_slice-pat-items.ensures.members c.requires.met) w.in-None.ensures)
+          (rw c.as_slice-pat-items.ensures.members c.requires) w.in-None.ensures)
     ]

@@ -3,7 +3,9 @@ use Rattle.std.proofs.Common.{List, ap, sym, ◌∙◌}
 use Rattle.std.specs.Option.{option_copied}
 use Rattle.std.proofs.lemmas.List.{drop_all}
 use Rattle.chem_model.specs.declared.numbered.NumberedAtom.{NumberedAtom}
-use Rattle.trace_history.specs.inside.Search.{first_of, receives, atom_before}
+use Rattle.trace_history.specs.inside.Search.{first_of}
+use Rattle.chem_causes.specs.Ready.{receives}
+use Rattle.book_store.specs.Older.{atom_before}
 use Rattle.trace_history.proofs.search.least_of.Goals as goal
 
 pub returns : goal.returns

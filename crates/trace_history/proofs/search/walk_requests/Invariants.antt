@@ -1,5 +1,5 @@
 use Rattle.std.proofs.Common.{◌≡◌}
-use Rattle.trace_history.specs.inside.Walk.{walk}
+use Rattle.book_store.specs.Walk.{walk}
 use Rattle.trace_history.specs.inside.Chosen.{request_for}
 use Rattle.trace_history.proofs.search.walk_requests.Given as goal
 

@@ -1,7 +1,7 @@
 use Rattle.std.proofs.Common.{◌≡◌}
-use Rattle.trace_history.specs.inside.Walk.{walk}
+use Rattle.book_store.specs.Walk.{walk}
 use Rattle.trace_history.specs.inside.Chosen.{rule_for}
-use Rattle.trace_history.specs.inside.Older.{whole}
+use Rattle.book_store.specs.Older.{whole}
 use Rattle.trace_history.proofs.search.walk_rules.Given as goal
 
 abbrev pub invariant-loop-key : goal.invariant-loop-key

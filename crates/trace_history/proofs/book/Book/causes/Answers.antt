@@ -2,7 +2,7 @@
 use Rattle.std.proofs.Common.{◌≡◌, Some, sym, subst}
 use Rattle.std.proofs.lemmas.Result.{IfOk-weaker}
 use Rattle.trace_history.specs.Book.{OnItsSolution}
-use Rattle.trace_history.specs.inside.Older.{whole}
+use Rattle.book_store.specs.Older.{whole}
 use Rattle.trace_history.specs.Left.{AreLeft}
 use Rattle.chem_model.specs.declared.numbered.Numbered.{Numbered}
 use Rattle.chem_model.specs.Sound.{IsSound}

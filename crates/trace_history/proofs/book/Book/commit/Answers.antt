@@ -8,14 +8,15 @@ use Rattle.chem_model.specs.declared.numbered.Numbered.{Numbered}
 use Rattle.chem_model.specs.Sound.{IsSound}
 use Rattle.chem_model.specs.Apply.{apply, replay}
 use Rattle.trace_history.specs.Kept.{BookKept, solution}
-use Rattle.trace_history.specs.inside.Older.{Holds, whole}
-use Rattle.trace_history.specs.declared.older.Older.{Older}
+use Rattle.trace_history.specs.inside.Holds.{Holds}
+use Rattle.book_store.specs.Older.{whole}
+use Rattle.book_store.specs.declared.older.Older.{Older}
 use Rattle.trace_history.proofs.Replays.{replaced, replay_pushed, unchanged}
 use Rattle.trace_history.proofs.Committing.{moved_holds, stored_as}
-use Rattle.trace_history.proofs.Holding.{left_sound, whole_sound, base_sound, sound_rest}
-use Rattle.trace_history.proofs.Holding.{sound_made, event_made}
-use Rattle.trace_history.proofs.Holding.{event_not_made, not_replaced, enabled_in, commits_place}
-use Rattle.trace_history.proofs.Holding.{commits_none}
+use Rattle.trace_history.proofs.Holding.{left_sound, whole_sound, base_sound, sound_made}
+use Rattle.trace_history.proofs.Holding.{event_made, event_not_made, not_replaced, enabled_in}
+use Rattle.trace_history.proofs.Holding.{commits_place, commits_none}
+use Rattle.book_store.proofs.SoundLaws.{sound_rest}
 use Rattle.trace_history.proofs.Quiets.{one_reduction}
 use Rattle.trace_history.proofs.book.Book.commit.Goals as goal
 

@@ -8,7 +8,7 @@ use Rattle.chem_model.specs.Apply.{replay}
 use Rattle.trace_history.specs.Kept.{BookKept, solution}
 use Rattle.trace_history.specs.Book.{IsStuck, Finds}
 use Rattle.trace_history.specs.inside.Search.{IsFound}
-use Rattle.trace_history.specs.inside.Older.{whole}
+use Rattle.book_store.specs.Older.{whole}
 use Rattle.trace_history.proofs.Quiets.{found_site, stuck_found}
 use Rattle.trace_history.proofs.Holding.{whole_sound, base_sound, found_left, stuck_whole, finds_of}
 use Rattle.trace_history.proofs.book.Book.first_enabled.Goals as goal

@@ -1,0 +1,10 @@
+pub mod Keys
+pub mod Alike
+pub mod Walk
+pub mod Older
+pub mod Candidates
+pub mod Watched
+pub mod Asked
+pub mod Stored
+pub mod Crosses
+pub mod inside

@@ -1,7 +1,0 @@
--- One key goes, of this request.
-use Rattle.trace_history.proofs.AskLaws.{keeps_but}
-use Rattle.trace_history.proofs.asking.forget_awaited.Goals as goal
-
-pub returns-in-Some : goal.returns-in-Some
-returns-in-Some c = keeps_but c.args.atom.now.id c.place_number.result c.args.awaits.now.keys
-    c.drop_key.new.keys.keys c.drop_key.ensures.kept

@@ -1,7 +1,0 @@
--- All were copied.
-use Rattle.trace_history.proofs.KeyRange.{all_listed}
-use Rattle.trace_history.proofs.keys.all_keys.Goals as goal
-
-pub returns : goal.returns
-returns c = all_listed c.args.keys.now.keys c.loop-key.list.items c.loop-key.key-iterator
-    c.in-None.ensures.steps.0 c.loop-key.invariant

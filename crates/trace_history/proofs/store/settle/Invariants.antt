@@ -1,9 +1,0 @@
-use Rattle.trace_history.specs.inside.Stored.{IsStored, Moves}
-use Rattle.trace_history.proofs.store.settle.Given as goal
-
-abbrev pub decreases-loop-left : goal.decreases-loop-left
-decreases-loop-left l = l.left
-
-abbrev pub invariant-loop-left : goal.invariant-loop-left
-invariant-loop-left l =
-    IsStored l.solution l.store × Moves l.fn.solution l.fn.store l.solution l.store

@@ -1,8 +1,0 @@
-use Rattle.std.proofs.Common.{ap, ◌∙◌}
-use Rattle.chem_model.specs.Apply.{atom_at}
-use Rattle.trace_history.proofs.TableLaws.{lookup_atom}
-use Rattle.trace_history.proofs.table.AtomTable.get.Goals as goal
-
-pub returns : goal.returns
-returns c = c.get.ensures.value ∙ lookup_atom c.args.id c.self.inside.map.entries c.self.invariant
-    ∙ ap (λ l. atom_at l c.args.id) c.self.view_is

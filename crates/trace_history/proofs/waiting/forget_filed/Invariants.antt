@@ -1,8 +1,0 @@
-use Rattle.std.proofs.Common.{◌⊎◌, take}
-use Rattle.chem_model.specs.Each.{IsIn}
-use Rattle.trace_history.specs.inside.Keys.{Key}
-use Rattle.trace_history.proofs.waiting.forget_filed.Given as goal
-
-abbrev pub invariant-loop-key : goal.invariant-loop-key
-invariant-loop-key l = (k : Key) → IsIn k l.fn.filed.keys
-    → IsIn k (take l.key-index l.keys) ⊎ IsIn k l.filed.keys
