@@ -105,7 +105,7 @@ fn arrive(
         → HasReceived code.now u into.new) }
 {
     if lives {
-        into.receive(alloc, code, tree, &code.seen, parcel, &parcel.loc, cont)
+        into.receive(alloc, code, tree, parcel, cont)
     } else {
         into.take_in(alloc, code, parcel)?;
         Ok(no_effects(alloc))

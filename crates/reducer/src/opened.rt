@@ -15,7 +15,7 @@ use chem_model::{Items, Loc, Memory};
 use code_run::open;
 use env_store::{Code, Locs};
 use loc_tree::LocTree;
-use site_solution::{Effects, Site};
+use site_solution::{Effects, Site, Taking};
 use std::alloc::Global;
 
 /// The tree with the roots of all sites and with all site-level locations, before any site is
@@ -66,7 +66,11 @@ fn open_in(
 {
     code_is_kept(code);
     let run = open(alloc, code, number)?;
-    let made = site.commit(alloc, code, tree, run, 0, &[])?;
+    let none = Taking {
+        group: 0,
+        chans: &[],
+    };
+    let made = site.commit(alloc, code, tree, run, &none)?;
     let births = not_in(alloc, tree, made.births.as_slice())?;
     Ok(Effects {
         sends: made.sends,

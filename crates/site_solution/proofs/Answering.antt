@@ -19,13 +19,18 @@ use Rattle.code_run.proofs.Runs.{posted_back}
 use Rattle.site_solution.specs.declared.effects.Effects.{Effects}
 use Rattle.site_solution.specs.Answers.{AreFlights, Answers}
 use Rattle.site_solution.specs.inside.Leave.{IsLeft}
-use Rattle.site_solution.specs.Held.{taken_at}
-use Rattle.site_solution.proofs.Fronts.{taken-nothing}
+use Rattle.site_shelves.specs.Held.{taken_at}
+use Rattle.site_shelves.proofs.Fronts.{taken-nothing}
 
 pub ok-more : {A E : Type 0} (r : Result A E) (P Q : A → Type 0) → ((a : A) → P a → Q a) → IfOk r P
     → IfOk r Q
 ok-more (Ok a) P Q f h = f a h
 ok-more (Err e) P Q f h = tt
+
+pub ok-both : {A E : Type 0} (r : Result A E) (P Q R : A → Type 0)
+    → ((a : A) → P a → Q a → R a) → IfOk r P → IfOk r Q → IfOk r R
+ok-both (Ok a) P Q R f h g = f a h g
+ok-both (Err e) P Q R f h g = tt
 
 -- flights and effects of one outcome
 pub left-answers :

@@ -31,20 +31,20 @@ use Rattle.net_laws.specs.Parcels.{Load, all_told, load_of}
 use Rattle.net_laws.specs.Posting.{posted_of}
 use Rattle.net_laws.specs.Moves.{continuation_made}
 use Rattle.net_laws.proofs.Posting.{among_append}
-use Rattle.site_solution.specs.declared.more.More.{More}
-use Rattle.site_solution.specs.Named.{name_in, names_in, message_in, request_in, in_tree}
-use Rattle.site_solution.specs.InTree.{is_number, has_number, name_stands, is_in_tree}
-use Rattle.site_solution.specs.InCode.{is_told_by, is_in_code}
-use Rattle.site_solution.specs.Draws.{is_drawn, are_drawn, message_drawn, told_drawn, all_drawn}
-use Rattle.site_solution.specs.Draws.{CanDraw}
+use Rattle.site_solution.specs.declared.coming.Coming.{Coming}
+use Rattle.site_shelves.specs.Named.{name_in, names_in, message_in, request_in, in_tree}
+use Rattle.site_shelves.specs.InTree.{is_number, has_number, name_stands, is_in_tree}
+use Rattle.site_shelves.specs.InCode.{is_told_by, is_in_code}
+use Rattle.site_shelves.specs.Draws.{is_drawn, are_drawn, message_drawn, told_drawn, all_drawn}
+use Rattle.site_shelves.specs.Draws.{CanDraw}
 use Rattle.site_solution.specs.inside.Split.{waits_in, asked_in}
-use Rattle.site_solution.specs.inside.New.{told_of_new}
-use Rattle.site_solution.specs.Held.{taken_at}
-use Rattle.site_solution.specs.inside.More.{CanAdd, added}
+use Rattle.site_shelves.specs.inside.New.{told_of_new}
+use Rattle.site_shelves.specs.Held.{taken_at}
+use Rattle.site_solution.specs.inside.Coming.{CanAdd, added}
 use Rattle.site_solution.specs.inside.Carried.{IsCarried, IsBeside}
 use Rattle.site_solution.specs.Staying.{AgreeBut, StillFits, HasReceived}
 use Rattle.site_solution.specs.Arriving.{FitsInto}
-use Rattle.site_solution.proofs.Fronts.{taken-nothing}
+use Rattle.site_shelves.proofs.Fronts.{taken-nothing}
 use Rattle.site_solution.proofs.Adding.{HasCome, come-is, may-come}
 use Rattle.site_solution.proofs.AllHold.{AllHold, all-both, all-weaker, holds-weaker, come-holds}
 use Rattle.site_solution.proofs.Leaves.{drawn-later}
@@ -53,7 +53,7 @@ use Rattle.site_solution.proofs.Together.{tree_same, code_same, fresh_same}
 
 -- ---- what has come to a site
 
-pub has_come : (ls : List Loc) (m : More) (s new : Site) → CanAdd ls m s → IsKept s
+pub has_come : (ls : List Loc) (m : Coming) (s new : Site) → CanAdd ls m s → IsKept s
     → new ≡ added ls m (taken_at 0 [] s)
     → HasCome m.next ls (told_of_new m.groups.items) m.waiting.items m.requests.items s new
 has_come ls m s new can kept is =
@@ -326,7 +326,7 @@ pub on_ok : {A E X : Type 0} (Q : Type 0) (r : Result A E) (new done : X) → On
 on_ok Q (Ok a) new done is then = then is
 on_ok Q (Err e) new done is then = tt
 
-pub taken_fits : (c : CodeParts) (p : ParcelParts) (m : More) (s new : Site)
+pub taken_fits : (c : CodeParts) (p : ParcelParts) (m : Coming) (s new : Site)
     → CanAdd (p.loc ∷ []) m s → IsKept s → IsCarried c p s.made m
     → new ≡ added (p.loc ∷ []) m (taken_at 0 [] s)
     → (t u : Tree) → AgreeBut p.loc t u → FitsInto c u (load_of (told_by c) p) s
@@ -351,7 +351,7 @@ taken_fits c p m s new can kept is was t u agree fits =
     m.waiting.items m.requests.items s new come fit' is.next_is
 
 pub received_fits :
-    (c : CodeParts) (p : ParcelParts) (l : Loc) (seen : List ℕ) (cont : Name) (before m : More)
+    (c : CodeParts) (p : ParcelParts) (l : Loc) (seen : List ℕ) (cont : Name) (before m : Coming)
     (s new : Site) (ls : List Loc) → p.loc ≡ l → CanAdd (l ∷ []) m s → IsKept s
     → new ≡ added (l ∷ []) m (taken_at 0 [] s)
     → let a = continuation_made seen s.number l s.made cont in IsCarried c p a.next before

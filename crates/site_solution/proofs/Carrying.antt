@@ -17,16 +17,16 @@ use Rattle.net_laws.specs.Net.{among, home_or}
 use Rattle.net_laws.specs.Kept.{AreApart}
 use Rattle.net_laws.specs.ByCode.{told_by}
 use Rattle.net_laws.specs.Parcels.{all_told, load_of, take_in}
-use Rattle.site_solution.specs.declared.more.More.{More}
-use Rattle.site_solution.specs.CanLay.{HasNumbers}
-use Rattle.site_solution.specs.Held.{taken_at}
-use Rattle.site_solution.specs.Counted.{over_stuck, id_of, over_requests}
-use Rattle.site_solution.specs.inside.New.{told_of_new}
+use Rattle.site_solution.specs.declared.coming.Coming.{Coming}
+use Rattle.site_shelves.specs.CanLay.{HasNumbers}
+use Rattle.site_shelves.specs.Held.{taken_at}
+use Rattle.site_shelves.specs.Counted.{over_stuck, id_of, over_requests}
+use Rattle.site_shelves.specs.inside.New.{told_of_new}
 use Rattle.site_solution.specs.inside.Split.{with_more}
-use Rattle.site_solution.specs.inside.More.{CanAdd, IsAt, added}
+use Rattle.site_solution.specs.inside.Coming.{CanAdd, IsAt, added}
 use Rattle.site_solution.specs.Parcels.{CanTakeIn}
 use Rattle.site_solution.specs.inside.Carried.{IsCarried}
-use Rattle.site_solution.proofs.Fronts.{taken-nothing}
+use Rattle.site_shelves.proofs.Fronts.{taken-nothing}
 
 pub among-last : (xs : List Loc) (l : Loc) → among (xs ++ l ∷ []) l ≡ true
 among-last [] l = ap (λ b. b || false) (same_loc_refl l)
@@ -69,7 +69,7 @@ requests-here : (xs : List Loc) (l : Loc) (qs : List RequestParts)
 requests-here xs l [] here = tt
 requests-here xs l (q ∷ qs) here = (among-at xs l q.loc here.0, requests-here xs l qs here.1)
 
-pub carried-can : (c : CodeParts) (p : ParcelParts) (next : ℕ) (m : More) (s : Site) → IsParcel p
+pub carried-can : (c : CodeParts) (p : ParcelParts) (next : ℕ) (m : Coming) (s : Site) → IsParcel p
     → CanTakeIn (load_of (told_by c) p) s → IsCarried c p next m → CanAdd (p.loc ∷ []) m s
 carried-can c p next m s parcel can is = record {
   locs = (can.new, tt);
@@ -90,7 +90,7 @@ carried-can c p next m s parcel can is = record {
       omega (arith, ap (over_stuck (id_of i)) is.waiting_are, ap (over_requests i) is.requests_are);
 }
 
-pub carried-in : (c : CodeParts) (p : ParcelParts) (m : More) (s : Site) → IsCarried c p s.made m
+pub carried-in : (c : CodeParts) (p : ParcelParts) (m : Coming) (s : Site) → IsCarried c p s.made m
     → added (p.loc ∷ []) m (taken_at 0 [] s) ≡ take_in (load_of (told_by c) p) s
 carried-in c p m s is =
     ap (added (p.loc ∷ []) m) (taken-nothing 0 s)

@@ -26,10 +26,10 @@ use Rattle.net_laws.specs.Kept.{IsKept}
 use Rattle.net_laws.specs.Holding.{precedes}
 use Rattle.net_laws.specs.Parcels.{groups_at, stuck_at, requests_at, in_queue, in_queues}
 use Rattle.net_laws.specs.Parcels.{in_all_queues, insts_in, pack, parcel_of}
-use Rattle.site_solution.specs.Counted.{over_queue, over_queues, over_groups, over_stuck}
-use Rattle.site_solution.specs.Counted.{over_requests, is_id, id_of, times}
+use Rattle.site_shelves.specs.Counted.{over_queue, over_queues, over_groups, over_stuck}
+use Rattle.site_shelves.specs.Counted.{over_requests, is_id, id_of, times}
 use Rattle.site_solution.specs.Rising.{AllAfter, Rising, AreAsked}
-use Rattle.site_solution.specs.inside.Packed.{HasFewNames}
+use Rattle.site_shelves.specs.inside.Packed.{HasFewNames}
 
 -- ---- how often something is counted among what is packed
 

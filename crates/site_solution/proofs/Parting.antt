@@ -14,12 +14,12 @@ use Rattle.net_laws.specs.Site.{Told, Group, Site, told_in}
 use Rattle.net_laws.specs.Parcels.{groups_at, stuck_at, requests_at, in_queue, in_queues}
 use Rattle.net_laws.specs.Parcels.{in_all_queues, pack}
 use Rattle.net_laws.specs.Net.{among}
-use Rattle.site_solution.specs.Draws.{is_drawn}
-use Rattle.site_solution.specs.inside.Index.{Rows, groups_of}
+use Rattle.site_shelves.specs.Draws.{is_drawn}
+use Rattle.site_shelves.specs.inside.Index.{Rows, groups_of}
 use Rattle.site_solution.specs.Apart.{told_apart, atom_apart, is_apart}
 use Rattle.site_solution.specs.inside.Parted.{message_apart, told_parted, queues_parted}
 use Rattle.site_solution.specs.inside.Parted.{stuck_parted, request_parted, is_parted}
-use Rattle.site_solution.proofs.Walked.{group-is}
+use Rattle.site_shelves.proofs.Walked.{group-is}
 
 assoc : (a b c : Bool) → a && (b && c) ≡ (a && b) && c
 assoc true b c = refl

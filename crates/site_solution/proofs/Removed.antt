@@ -11,10 +11,9 @@ use Rattle.wire_packet.specs.declared.packet.Waiting.{Waiting}
 use Rattle.wire_packet.specs.GroupFacts.{RequestParts}
 use Rattle.net_laws.specs.Site.{Group, Site}
 use Rattle.net_laws.specs.Parcels.{groups_but, stuck_but, requests_but, locs_but, remove}
-use Rattle.net_laws.proofs.Parcels.{each_laid_but, removed_kept}
-use Rattle.site_solution.specs.CanLay.{HasNumbers}
-use Rattle.site_solution.specs.Counted.{over_queues, over_groups, over_stuck, over_requests, is_id}
-use Rattle.site_solution.specs.Counted.{id_of, one_each}
+use Rattle.net_laws.proofs.Parcels.{removed_kept}
+use Rattle.site_shelves.specs.Counted.{over_queues, over_groups, over_stuck, over_requests, is_id}
+use Rattle.site_shelves.specs.Counted.{id_of, one_each}
 use Rattle.site_solution.specs.inside.Hosted.{locs_of}
 use Rattle.site_solution.specs.Rising.{AllAfter, Rising, AreAsked}
 use Rattle.site_solution.proofs.Adding.{IsWhole}
@@ -66,31 +65,9 @@ removed-whole l s whole = record {
   few_waiting =
       let few = whole.few_waiting in
       omega (arith, over-groups_but one_each l s.groups, over-stuck_but one_each l s.stuck);
-  numbers = each_laid_but l HasNumbers s.groups whole.numbers;
 }
 
-pub length-groups_but : (l : Loc) (gs : List Group) → length (groups_but l gs) ≤ length gs
-length-groups_but l [] = omega arith
-length-groups_but l (g ∷ gs) = by_test (same_loc l g.told.inst.loc) (length-groups_but l gs)
-  where
-    by_test : (b : Bool) → length (groups_but l gs) ≤ length gs
-        → length (cond b (groups_but l gs) (g ∷ groups_but l gs)) ≤ suc (length gs)
-    by_test true rest = omega arith
-    by_test false rest = omega arith
-
 -- ---- what the code filters
-
-pub stuck-kept : (l : Loc) (ws : List Waiting)
-    → filter (λ (w : Waiting). not (same_loc l w.loc)) ws ≡ stuck_but l ws
-stuck-kept l [] = refl
-stuck-kept l (w ∷ ws) = by_test (same_loc l w.loc) (stuck-kept l ws)
-  where
-    by_test : (b : Bool) → filter (λ (v : Waiting). not (same_loc l v.loc)) ws ≡ stuck_but l ws
-        → cond (not b) (w ∷ filter (λ (v : Waiting). not (same_loc l v.loc)) ws)
-        (filter (λ (v : Waiting). not (same_loc l v.loc)) ws)
-        ≡ cond b (stuck_but l ws) (w ∷ stuck_but l ws)
-    by_test true rest = rest
-    by_test false rest = ap (λ vs. w ∷ vs) rest
 
 pub requests-kept : (l : Loc) (qs : List RequestParts)
     → filter (λ (q : RequestParts). not (same_loc l q.loc)) qs ≡ requests_but l qs

@@ -12,7 +12,7 @@ use Rattle.net_laws.specs.Posting.{Posted, a_message}
 use Rattle.site_solution.specs.Answers.{IsFlightOf, AreFlights}
 use Rattle.site_solution.specs.inside.Split.{waits_in, asked_in, away_from}
 use Rattle.site_solution.specs.inside.Leave.{Sorting}
-use Rattle.site_solution.proofs.LaidAll.{append-one}
+use Rattle.site_shelves.proofs.LaidAll.{append-one}
 
 module _ (t : Tree) (ls : List Loc) (whole : List Posted) where
   pub sort-waits :

@@ -27,11 +27,11 @@ use Rattle.net_laws.specs.Site.{Told, Group, told_in, Site}
 use Rattle.net_laws.specs.Net.{among, with_births}
 use Rattle.net_laws.specs.Parcels.{Load, locs_but, groups_but, stuck_but, requests_but, remove}
 use Rattle.net_laws.proofs.Trees.{or_else, lookup_behind, number_spot, number_renumbered}
-use Rattle.site_solution.specs.InTree.{is_number, has_number, message_stands}
-use Rattle.site_solution.specs.inside.InTree.{group_stands, request_stands}
-use Rattle.site_solution.specs.InCode.{is_told_by, is_in_code}
-use Rattle.site_solution.specs.Named.{name_in, names_in, message_in, ask_in, request_in, in_tree}
-use Rattle.site_solution.specs.Draws.{is_drawn, message_drawn, group_drawn}
+use Rattle.site_shelves.specs.InTree.{is_number, has_number, message_stands}
+use Rattle.site_shelves.specs.inside.InTree.{group_stands, request_stands}
+use Rattle.site_shelves.specs.InCode.{is_told_by, is_in_code}
+use Rattle.site_shelves.specs.Named.{name_in, names_in, message_in, ask_in, request_in, in_tree}
+use Rattle.site_shelves.specs.Draws.{is_drawn, message_drawn, group_drawn}
 use Rattle.site_solution.specs.Staying.{AgreeBut, StillFits, SameNumbersKeep, BirthsKeepOthers}
 use Rattle.site_solution.specs.Arriving.{load_in}
 use Rattle.site_solution.proofs.AllHold.{AllHold, all-weaker, holds-weaker}

@@ -7,8 +7,8 @@ use Rattle.net_laws.specs.Site.{Told, Site, told_in}
 use Rattle.net_laws.specs.Net.{among, home_or}
 use Rattle.net_laws.specs.Kept.{AreApart}
 use Rattle.net_laws.specs.Posting.{Posted, a_message, a_request}
-use Rattle.site_solution.specs.CanLay.{HasNumbers}
-use Rattle.site_solution.specs.Counted.{is_id, times}
+use Rattle.site_shelves.specs.CanLay.{HasNumbers}
+use Rattle.site_shelves.specs.Counted.{is_id, times}
 
 -- none of these is among the locations, and all are different
 abbrev pub AreNew : List Loc → List Loc → Type 0

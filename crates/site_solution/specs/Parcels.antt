@@ -6,8 +6,8 @@ use Rattle.net_laws.specs.Site.{Site, told_in}
 use Rattle.net_laws.specs.Net.{among}
 use Rattle.net_laws.specs.Kept.{AreApart}
 use Rattle.net_laws.specs.Parcels.{Load}
-use Rattle.site_solution.specs.CanLay.{HasNumbers}
-use Rattle.site_solution.specs.Counted.{over_stuck, id_of, over_requests, times}
+use Rattle.site_shelves.specs.CanLay.{HasNumbers}
+use Rattle.site_shelves.specs.Counted.{over_stuck, id_of, over_requests, times}
 
 -- how often an id occurs here and in what is carried
 abbrev pub times_with : AtomId → Load → Site → ℕ

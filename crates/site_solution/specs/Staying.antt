@@ -7,9 +7,9 @@ use Rattle.env_store.specs.CodeParts.{CodeParts}
 use Rattle.loc_tree.specs.Tree.{Tree, spot, number_in, IsFresh}
 use Rattle.net_laws.specs.Site.{Site}
 use Rattle.net_laws.specs.Net.{with_births}
-use Rattle.site_solution.specs.InTree.{is_in_tree}
-use Rattle.site_solution.specs.InCode.{is_in_code}
-use Rattle.site_solution.specs.Draws.{all_drawn, CanDraw}
+use Rattle.site_shelves.specs.InTree.{is_in_tree}
+use Rattle.site_shelves.specs.InCode.{is_in_code}
+use Rattle.site_shelves.specs.Draws.{all_drawn, CanDraw}
 
 -- both trees have the same locations, and all but this one have the same number in both
 pub record AgreeBut (l : Loc) (t u : Tree) : Type 0 where

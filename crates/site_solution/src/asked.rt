@@ -5,12 +5,20 @@ ghost use Rattle.chem_model.specs.Apply.{same_atom};
 ghost use Rattle.net_laws.specs.Holding.{precedes, request_with, with_request, without_request};
 ghost use Rattle.site_solution.specs.inside.Rising.{rank, with_requests, AreNewIn};
 ghost use Rattle.site_solution.specs.Rising.{AreAsked};
-ghost use Rattle.net_laws.specs.Parcels.{requests_but};
+ghost use Rattle.net_laws.specs.Parcels.{requests_but, requests_at};
+ghost use Rattle.std.specs.Prelude.{◌++◌, ◌∷◌, cond, IfOk};
+ghost use Rattle.std.specs.List.{list_all};
+ghost use Rattle.chem_model.specs.Solution.{same_loc};
+ghost use Rattle.wire_packet.specs.GroupFacts.{RequestParts};
+ghost use Rattle.site_shelves.specs.Draws.{is_drawn};
+ghost use Rattle.site_shelves.specs.inside.InTree.{request_stands};
 
-use chem_model::{AtomId, Loc, Memory, same_loc};
+use chem_model::{AtomId, Items, Loc, Memory, same_loc};
+use loc_tree::LocTree;
+use site_shelves::{Count, is_drawn, is_same, name_is_there};
 use std::alloc::Global;
 use std::marker::Model;
-use wire_packet::Request;
+use wire_packet::{Ask, Request, Requests};
 
 // Requests, fewer than 2^32, whose ids rise.
 #[derive(Drop)]
@@ -37,12 +45,6 @@ fn comes_before(one: AtomId, other: AtomId) -> bool
     ensures { result ≡ precedes one other }
 {
     one.site < other.site || one.site == other.site && one.k < other.k
-}
-
-pub(crate) fn is_same(one: AtomId, other: AtomId) -> bool
-    ensures { result ≡ same_atom one other }
-{
-    one.site == other.site && one.k == other.k
 }
 
 impl Asked {
@@ -166,4 +168,65 @@ impl Asked {
     {
         self.items.retain(|request| !same_loc(loc, request.loc));
     }
+}
+
+fn request_is_there(tree: &LocTree, request: &Request) -> bool
+    ensures { result ≡ request_stands tree.now request.now }
+{
+    match request.ask {
+        Ask::Go { target, cont } => name_is_there(tree, target) && name_is_there(tree, cont),
+        Ask::Fail { target, cont } => name_is_there(tree, target) && name_is_there(tree, cont),
+        Ask::Halt => true,
+    }
+}
+
+// Whether all that requests name is in the tree.
+pub(crate) fn requests_are_there(tree: &LocTree, requests: &[Request]) -> bool
+    ensures { result ≡ list_all (request_stands tree.now) requests.now }
+{
+    for request in requests {
+        if !request_is_there(tree, request) {
+            return false;
+        }
+    }
+    true
+}
+
+pub(crate) fn requests_are_drawn(count: Count, requests: &[Request]) -> bool
+    ensures { result
+        ≡ list_all (λ (q : RequestParts). is_drawn count.number count.made q.id.site q.id.k)
+        requests.now }
+{
+    for request in requests {
+        if !is_drawn(count, request.id.site, request.id.k) {
+            return false;
+        }
+    }
+    true
+}
+
+// Appends a request where it stands at the location.
+fn copy_request(members: &mut Requests, request: Request, loc: Loc) -> Result<(), Memory>
+    ensures { OnOk result (
+        members.new ≡ members.old ++ cond (same_loc loc request.loc) (request ∷ []) []) }
+{
+    if same_loc(loc, request.loc) {
+        members.push(request)?;
+    }
+    Ok(())
+}
+
+// The requests at a location.
+pub(crate) fn copy_requests_at(
+    alloc: Global,
+    requests: &[Request],
+    loc: Loc,
+) -> Result<Requests, Memory>
+    ensures { IfOk result (λ r. r ≡ requests_at loc requests.now) }
+{
+    let mut members = Items::new(alloc);
+    for request in requests {
+        copy_request(&mut members, *request, loc)?;
+    }
+    Ok(members)
 }

@@ -8,19 +8,19 @@ ghost use Rattle.net_laws.specs.Posting.{a_message, pour_here};
 ghost use Rattle.code_run.specs.Posts.{posted, all_posted};
 ghost use Rattle.site_solution.specs.Answers.{IsFlightOf, Answers};
 ghost use Rattle.site_solution.specs.Commit.{AreNew, CanLeave};
-ghost use Rattle.site_solution.specs.Held.{taken_at};
-ghost use Rattle.site_solution.specs.inside.New.{told_of_new, IsNewGroup};
+ghost use Rattle.site_shelves.specs.Held.{taken_at};
+ghost use Rattle.site_shelves.specs.inside.New.{told_of_new, IsNewGroup};
 ghost use Rattle.site_solution.specs.inside.Leave.{IsSorted, Sorts, IsLeft};
 
+use crate::coming::{Coming, Taking};
 use crate::effects::Effects;
-use crate::more::{More, new_groups};
 use crate::places::Places;
 use crate::site::Site;
-use crate::told::NewGroup;
 use chem_model::{Items, Loc, Memory};
 use code_run::{Post, Posts, Run};
 use env_store::{Code, Locs};
 use loc_tree::LocTree;
+use site_shelves::{NewGroup, new_groups};
 use std::alloc::Global;
 use wire_packet::{Flight, Flights, Packet, Request, Waiting, encode};
 
@@ -151,24 +151,22 @@ pub(crate) fn sort_with_births(
 }
 
 impl Site {
-    // Drops the fronts of these queues of a group in turn, where there are any, and then leaves
-    // here what a run made, with these groups, of which the code tells the masks. Where there is no
-    // memory, nothing changes.
+    // Drops these fronts, and then leaves here what a run made, with these groups. Where there is
+    // no memory, nothing changes.
     pub(crate) fn leave(
         &mut self,
         alloc: Global,
-        code: Option<&Code>,
         tree: &LocTree,
         run: Run,
         groups: Vec<NewGroup>,
-        group: u32,
-        chans: &[u32],
+        fronts: &Taking<'_>,
     ) -> Result<Effects, Memory>
         requires new { Each IsNewGroup groups.items }
         requires can { CanLeave run.births (told_of_new groups.items) (all_posted run.posts)
             self.old }
         ensures ok { IfOk result (λ e. Answers (pour_here tree.now run.next run.births
-            (told_of_new groups.items) (all_posted run.posts) (taken_at group chans.now self.old))
+            (told_of_new groups.items) (all_posted run.posts)
+            (taken_at fronts.now.group fronts.now.chans.now self.old))
             run.outs run.births self.new e) }
         ensures err { OnErr result (self.new ≡ self.old) }
     {
@@ -184,13 +182,13 @@ impl Site {
             requests,
             flights,
         } = sort_with_births(alloc, tree, self.places(), births.as_slice(), posts)?;
-        let more = More {
+        let coming = Coming {
             next,
             groups,
             waiting,
             requests,
         };
-        self.add_all(alloc, code, births.as_slice(), more, group, chans)?;
+        self.add_all(alloc, births.as_slice(), coming, fronts)?;
         Ok(Effects {
             sends: flights,
             outs,
@@ -198,28 +196,27 @@ impl Site {
         })
     }
 
-    /// Drops the fronts of these queues of a group in turn, where there are any, and then leaves
-    /// here what a run made: its births are hosted, its groups laid, its requests added, and its
-    /// messages put where they are hosted here; the others go away. Where there is no memory for
-    /// all of it, nothing changes.
+    /// Drops these fronts, and then leaves here what a run made: its births are hosted, its groups
+    /// laid, its requests added, and its messages put where they are hosted here; the others go
+    /// away. Where there is no memory for all of it, nothing changes.
     pub fn commit(
         &mut self,
         alloc: Global,
         code: &Code,
         tree: &LocTree,
         run: Run,
-        group: u32,
-        chans: &[u32],
+        fronts: &Taking<'_>,
     ) -> Result<Effects, Memory>
         requires { CanLeave run.births (all_told (told_by code.now) run.groups)
             (all_posted run.posts) self.old }
         ensures ok { IfOk result (λ e. Answers
             (pour_here tree.now run.next run.births (all_told (told_by code.now) run.groups)
-            (all_posted run.posts) (taken_at group chans.now self.old))
+            (all_posted run.posts) (taken_at fronts.now.group fronts.now.chans.now self.old))
             run.outs run.births self.new e) }
         ensures err { OnErr result (self.new ≡ self.old) }
     {
         let groups = new_groups(alloc, code, run.groups.as_slice())?;
-        self.leave(alloc, Some(code), tree, run, groups, group, chans)
+        self.expect_all(alloc, code, &groups);
+        self.leave(alloc, tree, run, groups, fronts)
     }
 }

@@ -6,25 +6,18 @@
 
 mod apart;
 mod asked;
-mod choosing;
+mod coming;
 mod commit;
-mod covering;
 mod effects;
-mod finding;
-mod forgetting;
 mod laws;
-mod more;
-mod packing;
 mod parcels;
 mod places;
 mod pouring;
 mod site;
-mod testing;
-mod told;
-mod walking;
 
-pub use choosing::Search;
+pub use coming::Taking;
 pub use effects::Effects;
 pub use laws::{births_keep_others, same_numbers_keep};
+pub use pouring::BodyAt;
 pub use site::{Site, site_is_kept};
-pub use walking::message_is_there;
+pub use site_shelves::{Search, message_is_there};

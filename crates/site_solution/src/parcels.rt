@@ -13,22 +13,23 @@ ghost use Rattle.site_solution.specs.Answers.{Answers};
 ghost use Rattle.site_solution.specs.Parcels.{CanTakeIn, CanReceive};
 ghost use Rattle.site_solution.specs.inside.Carried.{IsCarried, IsBeside, ArriveBeside};
 ghost use Rattle.site_solution.specs.inside.Carried.{IsContinued, IsTakenBeside};
-ghost use Rattle.site_solution.specs.InTree.{name_stands, is_in_tree};
-ghost use Rattle.site_solution.specs.InCode.{is_in_code};
-ghost use Rattle.site_solution.specs.Draws.{CanDraw};
+ghost use Rattle.site_shelves.specs.InTree.{name_stands, is_in_tree};
+ghost use Rattle.site_shelves.specs.InCode.{is_in_code};
+ghost use Rattle.site_shelves.specs.Draws.{CanDraw};
 ghost use Rattle.site_solution.specs.Staying.{AgreeBut, StillFits, HasReceived};
 ghost use Rattle.site_solution.specs.Arriving.{FitsInto};
 
+use crate::coming::{Coming, Taking};
 use crate::commit::{Sorted, sort_with_births};
 use crate::effects::Effects;
-use crate::more::{More, new_groups};
 use crate::site::{Site, site_is_kept};
 use chem_model::{Items, Loc, Memory, Name, Nums};
-use code_run::{Posts, Run, message};
+use code_run::{Run, message};
 use env_store::Code;
 use loc_tree::LocTree;
+use site_shelves::new_groups;
 use std::alloc::Global;
-use wire_packet::{Flights, Parcel, Request, Waiting};
+use wire_packet::{Parcel, Request, Waiting};
 
 // Copies of messages.
 fn copies(alloc: Global, messages: &[Waiting]) -> Result<Vec<Waiting>, Memory>
@@ -42,14 +43,14 @@ fn copies(alloc: Global, messages: &[Waiting]) -> Result<Vec<Waiting>, Memory>
 }
 
 // What a parcel brings, copied, with this count.
-fn carried(alloc: Global, code: &Code, parcel: &Parcel, next: u64) -> Result<More, Memory>
+fn carried(alloc: Global, code: &Code, parcel: &Parcel, next: u64) -> Result<Coming, Memory>
     ensures kept { IsParcel parcel.now }
     ensures carried { IfOk result (IsCarried code.now parcel.now next) }
 {
     let groups = new_groups(alloc, code, parcel.groups.as_slice())?;
     let waiting = copies(alloc, parcel.waiting.as_slice())?;
     let requests = Vec::from_slice(alloc, parcel.requests.as_slice())?;
-    Ok(More {
+    Ok(Coming {
         next,
         groups,
         waiting,
@@ -58,10 +59,14 @@ fn carried(alloc: Global, code: &Code, parcel: &Parcel, next: u64) -> Result<Mor
 }
 
 // Messages and requests behind what a parcel brings.
-fn beside(before: More, mut later: Vec<Waiting>, mut asked: Vec<Request>) -> Result<More, Memory>
+fn beside(
+    before: Coming,
+    mut later: Vec<Waiting>,
+    mut asked: Vec<Request>,
+) -> Result<Coming, Memory>
     ensures { IfOk result (IsBeside before later.items asked.items) }
 {
-    let More {
+    let Coming {
         next,
         groups,
         mut waiting,
@@ -69,7 +74,7 @@ fn beside(before: More, mut later: Vec<Waiting>, mut asked: Vec<Request>) -> Res
     } = before;
     waiting.append(&mut later)?;
     requests.append(&mut asked)?;
-    Ok(More {
+    Ok(Coming {
         next,
         groups,
         waiting,
@@ -85,7 +90,7 @@ fn carried_beside(
     next: u64,
     waiting: Vec<Waiting>,
     requests: Vec<Request>,
-) -> Result<More, Memory>
+) -> Result<Coming, Memory>
     ensures kept { IsParcel parcel.now }
     ensures more { IfOk result
         (ArriveBeside code.now parcel.now next waiting.items requests.items) }
@@ -132,35 +137,56 @@ impl Site {
             → StillFits code.now t self.old u self.new) }
     {
         site_is_kept(self);
-        let more = carried(alloc, code, parcel, self.made())?;
-        self.add_all(alloc, Some(code), &[parcel.loc], more, 0, &[])
+        let coming = carried(alloc, code, parcel, self.made())?;
+        self.expect_all(alloc, code, &coming.groups);
+        let none = Taking {
+            group: 0,
+            chans: &[],
+        };
+        self.add_all(alloc, &[parcel.loc], coming, &none)
     }
 
-    // Takes in a location, and leaves there what a run with this next number posted. Where there is
-    // no memory for all of it, nothing changes.
+    // Takes in a location, and leaves there what a run posted. Where there is no memory for all of
+    // it, nothing changes.
     fn take_in_beside(
         &mut self,
         alloc: Global,
         code: &Code,
         tree: &LocTree,
         parcel: &Parcel,
-        next: u64,
-        posts: Posts,
-    ) -> Result<Flights, Memory>
+        run: Run,
+    ) -> Result<Effects, Memory>
         requires can { CanReceive (load_of (told_by code.now) parcel.now) self.old }
-        requires posts { IsContinued self.old.number self.old.made (all_posted posts) }
-        ensures ok { IfOk result (IsTakenBeside tree.now code.now parcel.now next
-            (all_posted posts) self.old self.new) }
+        requires posts { IsContinued self.old.number self.old.made (all_posted run.posts) }
+        ensures ok { IfOk result (λ e. IsTakenBeside tree.now code.now parcel.now run.next
+            (all_posted run.posts) self.old self.new e.sends) }
+        ensures rest { IfOk result (λ e. (e.outs ≡ run.outs) × (e.births ≡ run.births)) }
         ensures err { OnErr result (self.new ≡ self.old) }
     {
+        let Run {
+            next,
+            births,
+            posts,
+            outs,
+            ..
+        } = run;
         let Sorted {
             waiting,
             requests,
             flights,
         } = sort_with_births(alloc, tree, self.places(), &[parcel.loc], posts)?;
-        let more = carried_beside(alloc, code, parcel, next, waiting, requests)?;
-        self.add_all(alloc, Some(code), &[parcel.loc], more, 0, &[])?;
-        Ok(flights)
+        let coming = carried_beside(alloc, code, parcel, next, waiting, requests)?;
+        self.expect_all(alloc, code, &coming.groups);
+        let none = Taking {
+            group: 0,
+            chans: &[],
+        };
+        self.add_all(alloc, &[parcel.loc], coming, &none)?;
+        Ok(Effects {
+            sends: flights,
+            outs,
+            births,
+        })
     }
 
     /// Takes in a location, and then pours there the continuation of the request that brought it.
@@ -172,38 +198,24 @@ impl Site {
         alloc: Global,
         code: &Code,
         tree: &LocTree,
-        counts: &Nums,
         parcel: &Parcel,
-        loc: &Loc,
         cont: Name,
     ) -> Result<Effects, Memory>
         requires can { CanReceive (load_of (told_by code.now) parcel.now) self.old }
-        requires loc { parcel.now.loc ≡ loc.now }
         requires plain { IsPlain cont }
         ensures ok { IfOk result (λ e.
-            let a = continuation_made counts.now self.old.number loc.now self.old.made cont in
             let load = load_of (told_by code.now) parcel.now in
+            let a = continuation_made code.now.seen self.old.number load.loc self.old.made cont in
             Answers (sent_here tree.now a (take_in load self.old)) a.outs [] self.new e) }
         ensures err { OnErr result (self.new ≡ self.old) }
-        ensures keeps { IfOk result (λ _. (t u : Tree) → AgreeBut loc.now t u
+        ensures keeps { IfOk result (λ _. (t u : Tree) → AgreeBut parcel.now.loc t u
             → FitsInto code.now u (load_of (told_by code.now) parcel.now) self.old
             → name_stands u cont ≡ true → is_in_tree t self.old ≡ true
             → is_in_code code.now t self.old ≡ true → CanDraw t self.old
             → HasReceived code.now u self.new) }
     {
         site_is_kept(self);
-        let Run {
-            next,
-            births,
-            posts,
-            outs,
-            ..
-        } = continued(alloc, counts, self, loc, cont)?;
-        let sends = self.take_in_beside(alloc, code, tree, parcel, next, posts)?;
-        Ok(Effects {
-            sends,
-            outs,
-            births,
-        })
+        let made = continued(alloc, &code.seen, self, &parcel.loc, cont)?;
+        self.take_in_beside(alloc, code, tree, parcel, made)
     }
 }

@@ -5,9 +5,13 @@ ghost use Rattle.net_laws.specs.Net.{among};
 ghost use Rattle.net_laws.specs.Parcels.{locs_but};
 ghost use Rattle.site_solution.specs.inside.Hosted.{locs_of};
 ghost use Rattle.site_solution.specs.Commit.{AreNew};
+ghost use Rattle.std.specs.List.{list_all};
+ghost use Rattle.chem_model.specs.declared.name.Loc.{Loc};
+ghost use Rattle.site_shelves.specs.Draws.{is_drawn};
 
 use chem_model::{Loc, Memory};
 use indexmap::IndexSet;
+use site_shelves::{Count, is_drawn};
 use std::alloc::Global;
 use std::marker::Model;
 
@@ -112,4 +116,17 @@ impl Places {
             self.add_reserved(*loc);
         }
     }
+}
+
+pub(crate) fn locs_are_drawn(count: Count, pairs: &[(u32, u64)]) -> bool
+    ensures { result
+        ≡ list_all (λ (l : Loc). is_drawn count.number count.made l.site l.k)
+        (locs_of pairs.now) }
+{
+    for pair in pairs {
+        if !is_drawn(count, pair.0, pair.1) {
+            return false;
+        }
+    }
+    true
 }

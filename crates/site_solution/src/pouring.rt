@@ -12,10 +12,11 @@ ghost use Rattle.net_laws.specs.Net.{among, with_births};
 ghost use Rattle.net_laws.specs.ByCode.{run_here};
 ghost use Rattle.net_laws.specs.Meeting.{sent_here};
 ghost use Rattle.site_solution.specs.Answers.{Answers};
-ghost use Rattle.site_solution.specs.Held.{taken_at};
-ghost use Rattle.site_solution.specs.InTree.{is_in_tree};
+ghost use Rattle.site_shelves.specs.Held.{taken_at};
+ghost use Rattle.site_shelves.specs.InTree.{is_in_tree};
 ghost use Rattle.site_solution.specs.Pours.{CanPour, HasPoured, CanEmit, HasEmitted};
 
+use crate::coming::Taking;
 use crate::effects::Effects;
 use crate::site::{Site, site_is_kept};
 use chem_model::{Loc, Memory, Name, Names, Nums};
@@ -23,6 +24,14 @@ use code_run::{message, run};
 use env_store::{Code, Env};
 use loc_tree::LocTree;
 use std::alloc::Global;
+
+/// A body of the code that is poured: at which location, which one, and under which environment.
+#[derive(Clone, Copy)]
+pub struct BodyAt<'a> {
+    pub loc: &'a Loc,
+    pub body: u32,
+    pub env: &'a Env,
+}
 
 impl Site {
     /// Runs a body of the code at a location here, under an environment as long as the body begins
@@ -49,29 +58,32 @@ impl Site {
         ensures in_tree { IfOk result (λ e. is_in_tree tree.now self.old ≡ true
             → is_in_tree (with_births tree.now self.old.number e.births) self.new ≡ true) }
     {
-        self.pour_taking(alloc, code, tree, 0, &[], loc, body, env)
+        let poured = BodyAt { loc, body, env };
+        let none = Taking {
+            group: 0,
+            chans: &[],
+        };
+        self.pour_taking(alloc, code, tree, &none, &poured)
     }
 
-    /// Drops the fronts of these queues of a group in turn, where there are any, and then pours.
-    /// Where there is no memory for all of it, nothing changes.
+    /// Drops these fronts, and then pours. Where there is no memory for all of it, nothing changes.
     pub fn pour_taking(
         &mut self,
         alloc: Global,
         code: &Code,
         tree: &LocTree,
-        group: u32,
-        chans: &[u32],
-        loc: &Loc,
-        body: u32,
-        env: &Env,
+        fronts: &Taking<'_>,
+        poured: &BodyAt<'_>,
     ) -> Result<Effects, Memory>
-        requires body { IsBodyAt code.now (length env.now) body }
-        requires here { among self.old.locs loc.now ≡ true }
-        requires alive { is_alive tree.now loc.now ≡ true }
-        requires can { CanPour code.now tree.now env.now self.old }
+        requires body { IsBodyAt code.now (length poured.now.env.now) poured.now.body }
+        requires here { among self.old.locs poured.now.loc.now ≡ true }
+        requires alive { is_alive tree.now poured.now.loc.now ≡ true }
+        requires can { CanPour code.now tree.now poured.now.env.now self.old }
         ensures ok { IfOk result (λ e.
-            let a = code_made code.now self.old.number body env.now loc.now self.old.made in
-            Answers (run_here code.now tree.now a (taken_at group chans.now self.old))
+            let a = code_made code.now self.old.number poured.now.body poured.now.env.now
+            poured.now.loc.now self.old.made in
+            Answers (run_here code.now tree.now a
+            (taken_at fronts.now.group fronts.now.chans.now self.old))
             a.outs a.births self.new e) }
         ensures err { OnErr result (self.new ≡ self.old) }
         ensures keeps { IfOk result (λ e.
@@ -80,8 +92,17 @@ impl Site {
             → is_in_tree (with_births tree.now self.old.number e.births) self.new ≡ true) }
     {
         site_is_kept(self);
-        let made = run(alloc, code, self.number(), body, env, loc, self.made())?;
-        self.commit(alloc, code, tree, made, group, chans)
+        let number = self.number();
+        let made = run(
+            alloc,
+            code,
+            number,
+            poured.body,
+            poured.env,
+            poured.loc,
+            self.made(),
+        )?;
+        self.commit(alloc, code, tree, made, fronts)
     }
 
     /// Pours one message at a location here. Where there is no memory, nothing changes.
@@ -106,6 +127,10 @@ impl Site {
     {
         site_is_kept(self);
         let made = message(alloc, counts, self.number(), loc, on, args, self.made())?;
-        self.leave(alloc, None, tree, made, Vec::new(alloc), 0, &[])
+        let none = Taking {
+            group: 0,
+            chans: &[],
+        };
+        self.leave(alloc, tree, made, Vec::new(alloc), &none)
     }
 }

@@ -10,7 +10,7 @@ ghost use Rattle.net_laws.specs.Posting.{with_queues};
 ghost use Rattle.net_laws.specs.ByCode.{told_by};
 ghost use Rattle.net_laws.specs.Kept.{IsKept};
 ghost use Rattle.chem_model.specs.Each.{Each};
-ghost use Rattle.site_solution.specs.CanLay.{CanLay, HasNumbers};
+ghost use Rattle.site_shelves.specs.CanLay.{CanLay, HasNumbers};
 ghost use Rattle.net_laws.specs.Holding.{put, ask, lay, host_all, request_with, drop_request};
 ghost use Rattle.queue_cells.specs.Grouped.{AllHeld};
 ghost use Rattle.status_words.specs.Words.{number_of_words};
@@ -19,18 +19,18 @@ ghost use Rattle.std.specs.Prelude.{is_some};
 ghost use Rattle.loc_tree.specs.Tree.{spot};
 ghost use Rattle.chem_model.specs.declared.name.Loc.{Loc};
 ghost use Rattle.chem_model.specs.declared.event.AtomId.{AtomId};
-ghost use Rattle.site_solution.specs.InCode.{is_in_code};
-ghost use Rattle.site_solution.specs.Draws.{all_drawn, CanDraw};
-ghost use Rattle.site_solution.specs.InTree.{has_number, is_in_tree};
-ghost use Rattle.site_solution.specs.Held.{queues_of, queue_of, without_front, inst_in, has_atom};
-ghost use Rattle.site_solution.specs.Held.{taken_at};
-ghost use Rattle.site_solution.specs.Guards.{Tells};
-ghost use Rattle.net_laws.specs.Parcels.{pack, parcel_of, remove, stuck_but};
+ghost use Rattle.site_shelves.specs.InCode.{is_in_code};
+ghost use Rattle.site_shelves.specs.Draws.{all_drawn, CanDraw};
+ghost use Rattle.site_shelves.specs.InTree.{has_number, is_in_tree};
+ghost use Rattle.site_shelves.specs.Held.{queues_of, queue_of, without_front, inst_in, has_atom};
+ghost use Rattle.site_shelves.specs.Held.{taken_at};
+ghost use Rattle.site_shelves.specs.Guards.{Tells};
+ghost use Rattle.net_laws.specs.Parcels.{pack, parcel_of, remove};
 ghost use Rattle.site_solution.specs.Apart.{are_separate, is_apart};
 ghost use Rattle.site_solution.specs.inside.Parted.{is_parted};
-ghost use Rattle.site_solution.specs.Counted.{times, waiting_in};
+ghost use Rattle.site_shelves.specs.Counted.{times, waiting_in};
 ghost use Rattle.site_solution.specs.Rising.{AreAsked};
-ghost use Rattle.site_solution.specs.inside.More.{CanAdd, added};
+ghost use Rattle.site_solution.specs.inside.Coming.{CanAdd, added};
 ghost use Rattle.chem_model.specs.Solution.{same_loc};
 ghost use Rattle.env_store.specs.CodeParts.{CodeParts};
 ghost use Rattle.loc_tree.specs.Tree.{Tree};
@@ -39,27 +39,20 @@ ghost use Rattle.site_solution.specs.Staying.{AgreeBut, StillFits};
 use crate::apart::{
     groups_are_apart, is_separate, queued_are_apart, requests_are_apart, stuck_are_apart,
 };
-use crate::asked::Asked;
-use crate::choosing::{Search, first_fired};
-use crate::covering::{Covering, agrees, learn, no_covering, refresh};
-use crate::finding::{find, no_spots, push_back};
-use crate::forgetting::drop_groups;
-use crate::more::{More, lay_and_settle, make_all_room, new_group, take_fronts, told_by};
-use crate::packing::{copy_groups_at, copy_requests_at, copy_waiting_at};
-use crate::places::Places;
-use crate::testing::{
-    Count, are_told_by, groups_are_drawn, is_drawn, locs_are_drawn, requests_are_drawn,
-    stuck_are_drawn,
-};
-use crate::told::{Spots, Told};
-use crate::walking::{groups_are_there, in_groups, in_stuck, requests_are_there, stuck_are_there};
+use crate::asked::{Asked, copy_requests_at, requests_are_drawn, requests_are_there};
+use crate::coming::{Coming, Taking};
+use crate::places::{Places, locs_are_drawn};
 use chem_model::{AtomId, Loc, Memory, same_loc};
 use env_store::Code;
 use loc_tree::LocTree;
-use queue_cells::Groups;
+use site_shelves::{
+    Count, More, NewGroup, Search, Shelves, Told, are_told_by, copy_groups_at, copy_waiting_at,
+    groups_are_drawn, groups_are_there, in_groups, in_stuck, is_drawn, new_group, stuck_are_drawn,
+    stuck_are_there, told_by,
+};
 use std::alloc::Global;
 use std::marker::Model;
-use wire_packet::{GroupInst, Msg, Parcel, Request, Waiting};
+use wire_packet::{GroupInst, Msg, Parcel, Request};
 
 /// What one root hosts. Contracts see its number, how many numbers it has made, its locations, its
 /// groups with a queue for each of their channels, the messages that are stuck, and its requests.
@@ -73,10 +66,7 @@ pub struct Site {
     number: u32,
     made: u64,
     locs: Places,
-    groups: Groups<Told, Msg>,
-    spots: Spots,
-    covering: Covering,
-    stuck: Vec<Waiting>,
+    shelves: Shelves,
     requests: Asked,
 }
 
@@ -103,10 +93,7 @@ impl Site {
             number,
             made: 1,
             locs,
-            groups: Groups::new(alloc),
-            spots: no_spots(alloc),
-            covering: no_covering(alloc),
-            stuck: Vec::new(alloc),
+            shelves: Shelves::new(alloc),
             requests: Asked::new(alloc),
         })
     }
@@ -168,7 +155,7 @@ impl Site {
     pub fn groups(&self) -> u32
         ensures { result ≡ length self.now.groups }
     {
-        self.groups.len() as u32
+        self.shelves.rows().len() as u32
     }
 
     /// The group with this index.
@@ -176,7 +163,7 @@ impl Site {
         requires { index < length self.now.groups }
         ensures { inst_in (slice_get self.now.groups index) ≡ Some result.now }
     {
-        &self.groups.told(index as usize).inst
+        &self.shelves.rows().told(index as usize).inst
     }
 
     /// Whether the group's status covers the mask, which has as many words as the status: each
@@ -187,7 +174,7 @@ impl Site {
             ≡ number_of_words (length (queues_of self.now.groups group)) }
         ensures { IsTrue result ↔ AllHeld (queues_of self.now.groups group) mask.now }
     {
-        self.groups.covers(group as usize, mask)
+        self.shelves.rows().covers(group as usize, mask)
     }
 
     /// The front of the queue of one of a group's channels, if there is one.
@@ -196,7 +183,7 @@ impl Site {
         requires chan { chan < length (queues_of self.now.groups group) }
         ensures { option_copied result ≡ slice_get (queue_of self.now.groups group chan) 0 }
     {
-        self.groups.front(group as usize, chan)
+        self.shelves.rows().front(group as usize, chan)
     }
 
     /// How many queues a group has.
@@ -204,7 +191,7 @@ impl Site {
         requires { group < length self.now.groups }
         ensures { result ≡ length (queues_of self.now.groups group) }
     {
-        self.groups.width(group as usize)
+        self.shelves.rows().width(group as usize)
     }
 
     // How many messages wait.
@@ -212,20 +199,20 @@ impl Site {
         ensures count { result ≡ waiting_in self.now }
         ensures few { result < 2 ^ 32 }
     {
-        self.groups.messages() + self.stuck.len()
+        self.shelves.rows().messages() + self.shelves.stuck().len()
     }
 
     // Whether there are fewer than 2^32 messages with those that come, and as few groups.
-    fn has_numbers_for(&self, more: &More) -> bool
+    fn has_numbers_for(&self, coming: &Coming) -> bool
         ensures waiting { IsTrue result
-            → waiting_in self.now + length more.now.waiting.items < 2 ^ 32 }
+            → waiting_in self.now + length coming.now.waiting.items < 2 ^ 32 }
         ensures groups { IsTrue result
-            → length self.now.groups + length more.now.groups.items < 2 ^ 32 }
+            → length self.now.groups + length coming.now.groups.items < 2 ^ 32 }
     {
-        if more.waiting.len() > u32::MAX as usize - self.waiting() {
+        if coming.waiting.len() > u32::MAX as usize - self.waiting() {
             return false;
         }
-        more.groups.len() <= (u32::MAX - self.groups()) as usize
+        coming.groups.len() <= (u32::MAX - self.groups()) as usize
     }
 
     /// Puts a message at a location: behind the others in the queue of its channel, or beside the
@@ -241,17 +228,7 @@ impl Site {
         if self.waiting() >= u32::MAX as usize {
             return Err((msg, Memory));
         }
-        match find(&self.groups, &self.spots, &msg) {
-            Some(spot) => push_back(
-                &mut self.groups,
-                &self.spots,
-                &mut self.covering,
-                spot.group,
-                spot.chan,
-                msg,
-            ),
-            None => keep(&mut self.stuck, *loc, msg),
-        }
+        self.shelves.put(*loc, msg)
     }
 
     /// Lays a group of a level of the code. What is stuck for one of its channels goes into its
@@ -274,58 +251,69 @@ impl Site {
     {
         let mut groups = Vec::with_capacity(alloc, 1)?;
         groups.push(new_group(alloc, told)?)?;
-        let more = More {
-            next: self.made,
+        let next = self.made;
+        self.expect_all(alloc, code, &groups);
+        let coming = Coming {
+            next,
             groups,
             waiting: Vec::new(alloc),
             requests: Vec::new(alloc),
         };
-        self.add_all(alloc, Some(code), &[], more, 0, &[])
+        let none = Taking {
+            group: 0,
+            chans: &[],
+        };
+        self.add_all(alloc, &[], coming, &none)
     }
 
-    // Drops the fronts of these queues of a group in turn, where there are any, and adds locations,
-    // groups, messages and requests. Where there is no memory for all of it, nothing changes. The
-    // code tells the masks of the groups' guards.
+    // Learns the masks of groups to come.
+    pub(crate) fn expect_all(&mut self, alloc: Global, code: &Code, groups: &[NewGroup])
+        ensures { self.new ≡ self.old }
+    {
+        self.shelves.expect_all(alloc, code, groups);
+    }
+
+    // Drops these fronts, and adds locations, groups, messages and requests. Where there is no
+    // memory for all of it, nothing changes.
     pub(crate) fn add_all(
         &mut self,
         alloc: Global,
-        code: Option<&Code>,
         locs: &[Loc],
-        more: More,
-        group: u32,
-        chans: &[u32],
+        coming: Coming,
+        fronts: &Taking<'_>,
     ) -> Result<(), Memory>
-        requires { CanAdd locs.now more self.old }
+        requires { CanAdd locs.now coming self.old }
         ensures ok { OnOk result (self.new
-            ≡ added locs.now more (taken_at group chans.now self.old)) }
+            ≡ added locs.now coming (taken_at fronts.now.group fronts.now.chans.now self.old)) }
         ensures err { OnErr result (self.new ≡ self.old) }
     {
-        if !self.has_numbers_for(&more) {
-            drop(more);
+        if !self.has_numbers_for(&coming) {
+            drop(coming);
             return Err(Memory);
         }
-        learn(&mut self.covering, alloc, code, &more.groups);
-        let Ok(again) = make_all_room(
-            alloc,
-            &mut self.locs,
-            &mut self.requests,
-            &mut self.groups,
-            &mut self.spots,
-            &mut self.stuck,
-            locs.len(),
-            &more,
-        ) else {
-            drop(more);
+        let Ok(()) = self.locs.reserve(locs.len()) else {
+            drop(coming);
             return Err(Memory);
         };
-        self.made = more.next;
+        let Ok(()) = self.requests.reserve(coming.requests.len()) else {
+            drop(coming);
+            return Err(Memory);
+        };
+        let Coming {
+            next,
+            groups,
+            waiting,
+            requests,
+        } = coming;
+        let more = More { groups, waiting };
+        let group = fronts.group as usize;
+        let Ok(()) = self.shelves.add(alloc, more, group, fronts.chans) else {
+            drop(requests);
+            return Err(Memory);
+        };
+        self.made = next;
         self.locs.add_all(locs);
-        self.requests.add_all(&more.requests);
-        let rows = &mut self.groups;
-        let spots = &mut self.spots;
-        let covering = &mut self.covering;
-        take_fronts(rows, spots, covering, group as usize, chans);
-        lay_and_settle(rows, spots, covering, &mut self.stuck, more, again);
+        self.requests.add_all(&requests);
         Ok(())
     }
 
@@ -336,16 +324,7 @@ impl Site {
     pub fn least_covered(&self, code: &Code, tree: &LocTree) -> Search
         ensures { Tells code.now tree.now self.now.groups result }
     {
-        if !agrees(&self.covering, code) {
-            return Search::Unknown;
-        }
-        match first_fired(&self.groups, &self.spots, code, tree, &self.covering.keys) {
-            Some(found) => Search::Found {
-                group: found.group,
-                guard: found.guard,
-            },
-            None => Search::Nothing,
-        }
+        self.shelves.least_covered(code, tree)
     }
 
     /// Drops the front of the queue of one of a group's channels.
@@ -354,13 +333,7 @@ impl Site {
         ensures { (g : Group) → slice_get self.old.groups group ≡ Some g
             → self.new ≡ with_queues self.old group g (without_front g.queues chan) }
     {
-        self.groups.take_front(group as usize, chan);
-        refresh(
-            &mut self.covering,
-            &self.groups,
-            &self.spots,
-            group as usize,
-        );
+        self.shelves.drop_fronts(group as usize, &[chan]);
     }
 
     /// Hosts a location.
@@ -387,8 +360,8 @@ impl Site {
     pub fn has_atom(&self, atom: &AtomId) -> bool
         ensures { result ≡ has_atom atom.now self.now }
     {
-        in_groups(&self.groups, *atom)
-            || in_stuck(&self.stuck, *atom)
+        in_groups(self.shelves.rows(), *atom)
+            || in_stuck(self.shelves.stuck(), *atom)
             || self.requests.find(*atom).is_some()
     }
 
@@ -420,8 +393,8 @@ impl Site {
         };
         self.locs_are_there(tree)
             && self.has(&root)
-            && groups_are_there(tree, &self.groups)
-            && stuck_are_there(tree, &self.stuck)
+            && groups_are_there(tree, self.shelves.rows())
+            && stuck_are_there(tree, self.shelves.stuck())
             && requests_are_there(tree, self.requests.as_slice())
     }
 
@@ -430,7 +403,7 @@ impl Site {
     pub fn in_code(&self, code: &Code, tree: &LocTree) -> bool
         ensures { result ≡ is_in_code code.now tree.now self.now }
     {
-        are_told_by(code, &self.groups) && tops_are_there(tree, code.tops.as_slice())
+        are_told_by(code, self.shelves.rows()) && tops_are_there(tree, code.tops.as_slice())
     }
 
     /// Whether the count is below 2^63, each location, rule, channel and atom that this site made
@@ -449,8 +422,8 @@ impl Site {
             made: self.made,
         };
         locs_are_drawn(count, self.locs.as_slice())
-            && groups_are_drawn(count, &self.groups)
-            && stuck_are_drawn(count, &self.stuck)
+            && groups_are_drawn(count, self.shelves.rows())
+            && stuck_are_drawn(count, self.shelves.stuck())
             && requests_are_drawn(count, self.requests.as_slice())
     }
 
@@ -487,7 +460,7 @@ impl Site {
     pub(crate) fn is_separate(&self, told: &Told) -> bool
         ensures { result ≡ list_all (are_separate told.now) (told_in self.now.groups) }
     {
-        is_separate(&self.groups, told)
+        is_separate(self.shelves.rows(), told)
     }
 
     // Whether all that stands at a location of another site may come to this one.
@@ -497,9 +470,9 @@ impl Site {
         let atom = *but;
         !self.has(loc)
             && is_drawn(self.count(), loc.site, loc.k)
-            && groups_are_apart(self, &from.groups, *loc)
-            && queued_are_apart(self, atom, &from.groups, *loc)
-            && stuck_are_apart(self, atom, &from.stuck, *loc)
+            && groups_are_apart(self, from.shelves.rows(), *loc)
+            && queued_are_apart(self, atom, from.shelves.rows(), *loc)
+            && stuck_are_apart(self, atom, from.shelves.stuck(), *loc)
             && requests_are_apart(self, atom, from.requests.as_slice(), *loc)
     }
 
@@ -517,8 +490,9 @@ impl Site {
     pub fn pack(&self, alloc: Global, loc: &Loc) -> Result<Parcel, Memory>
         ensures { IfOk result (λ parcel. parcel ≡ parcel_of (pack loc.now self.now)) }
     {
-        let groups = copy_groups_at(alloc, &self.groups, *loc)?;
-        let waiting = copy_waiting_at(alloc, &self.groups, &self.stuck, *loc)?;
+        let rows = self.shelves.rows();
+        let groups = copy_groups_at(alloc, rows, *loc)?;
+        let waiting = copy_waiting_at(alloc, rows, self.shelves.stuck(), *loc)?;
         let requests = copy_requests_at(alloc, self.requests.as_slice(), *loc)?;
         Ok(Parcel {
             loc: *loc,
@@ -537,18 +511,10 @@ impl Site {
             → same_loc loc.now (root_of self.old.number) ≡ false
             → StillFits c t self.old u self.new }
     {
-        drop_groups(&mut self.groups, &mut self.spots, &mut self.covering, *loc);
-        drop_stuck(&mut self.stuck, *loc);
+        self.shelves.remove(*loc);
         self.requests.drop_at(*loc);
         self.locs.remove(*loc);
     }
-}
-
-// Drops the stuck messages at a location.
-fn drop_stuck(stuck: &mut Vec<Waiting>, loc: Loc)
-    ensures { stuck.new.items ≡ stuck_but loc stuck.old.items }
-{
-    stuck.retain(|waiting| !same_loc(loc, waiting.loc));
 }
 
 /// All that a site holds stands at locations that it hosts, a queue holds messages on its channel
@@ -566,6 +532,7 @@ pub fn site_is_kept(site: &Site)
 {
     let _number = site.number;
     site.locs.are_few();
+    site.shelves.are_kept();
     let _requests = site.requests.as_slice();
 }
 
@@ -578,20 +545,4 @@ fn tops_are_there(tree: &LocTree, tops: &[Loc]) -> bool
         }
     }
     true
-}
-
-// Keeps a message that no queue takes, or hands it back.
-fn keep(stuck: &mut Vec<Waiting>, loc: Loc, msg: Msg) -> Result<(), (Msg, Memory)>
-    ensures ok { OnOk result (stuck.new.items
-        ≡ stuck.old.items ++ record { loc = loc; msg = msg } ∷ []) }
-    ensures err { OnErr result (stuck.new.items ≡ stuck.old.items) }
-    ensures back { IfErr result (λ back. back.0 ≡ msg) }
-{
-    match stuck.push(Waiting { loc, msg }) {
-        Ok(()) => Ok(()),
-        Err(failed) => {
-            let Waiting { loc: _, msg } = failed.value;
-            Err((msg, Memory))
-        }
-    }
 }

@@ -25,15 +25,6 @@ returns-then-lives-clause-ok c =
     let t : Tree = c.args.tree.now in
     let into : Site = c.args.into.now in
     let load : Load = load_of (told_by c.args.code.now) c.args.parcel.now in
-    let at : c.parcel.inside.loc ≡ load.loc = ap (λ (p : ParcelParts). p.loc) c.parcel.view_is in
-    let here = subst (λ (l : Loc). IfOk c.receive.result (λ (e : Effects).
-    let a = continuation_made c.code.inside.seen into.number l into.made c.args.cont in
-    Answers (sent_here t a (take_in load into)) a.outs [] c.receive.new.self e)) at
-    c.receive.ensures.ok in
-    let went = subst (λ (ns : List ℕ). IfOk c.receive.result
-    (λ (e : Effects). let a = continuation_made ns into.number load.loc into.made c.args.cont in
-    Answers (sent_here t a (take_in load into)) a.outs [] c.receive.new.self e))
-    (ap (λ (v : CodeParts). v.seen) c.code.view_is) here in
     IfOk-weaker c.receive.result
     (λ (e : Effects).
     let a = continuation_made c.args.code.now.seen into.number load.loc into.made c.args.cont in
@@ -42,17 +33,7 @@ returns-then-lives-clause-ok c =
     moved_made c.args.lives c.args.code.now.seen into.number load.loc into.made c.args.cont in
     Answers (sent_here t a (take_in load into)) a.outs [] c.receive.new.self e)
     (λ e h. goes_in t c.args.lives c.args.code.now.seen c.args.cont load into c.receive.new.self e
-    c.if-lives.true h) went
-
-pub returns-then-lives-clause-keeps : goal.returns-then-lives-clause-keeps
-returns-then-lives-clause-keeps c =
-    subst (λ (l : Loc). IfOk c.receive.result (λ (e : Effects). (t u : Tree) → AgreeBut l t u
-    → FitsInto c.args.code.now u (load_of (told_by c.args.code.now) c.args.parcel.now)
-    c.args.into.now
-    → name_stands u c.args.cont ≡ true → is_in_tree t c.args.into.now ≡ true
-    → is_in_code c.args.code.now t c.args.into.now ≡ true → CanDraw t c.args.into.now
-    → HasReceived c.args.code.now u c.receive.new.self))
-    (ap (λ (p : ParcelParts). p.loc) c.parcel.view_is) c.receive.ensures.keeps
+    c.if-lives.true h) c.receive.ensures.ok
 
 pub returns-in_ok-take_in-clause-ok : goal.returns-in_ok-take_in-clause-ok
 returns-in_ok-take_in-clause-ok c =

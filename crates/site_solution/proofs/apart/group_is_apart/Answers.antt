@@ -3,7 +3,7 @@ use Rattle.std.specs.Prelude.{not, ◌||◌}
 use Rattle.std.specs.List.{list_all}
 use Rattle.chem_model.specs.Solution.{same_loc}
 use Rattle.queue_cells.specs.Grouped.{lists_at}
-use Rattle.site_solution.specs.declared.told.Told.TheInside.{Inside}
+use Rattle.site_shelves.specs.declared.told.Told.TheInside.{Inside}
 use Rattle.net_laws.specs.Site.{Told}
 use Rattle.site_solution.specs.inside.Parted.{message_apart}
 use Rattle.site_solution.proofs.Parting.{group-parted}

@@ -1,10 +1,10 @@
 use Rattle.std.proofs.Common.{◌≡◌, ◌≤◌, ◌+◌, ◌∙◌, true, false, length, drop, sym, ap, arith}
 use Rattle.std.specs.Prelude.{◌&&◌}
 use Rattle.std.specs.List.{list_all}
-use Rattle.site_solution.specs.inside.Index.{told_of}
-use Rattle.site_solution.proofs.Queueing.{told-at}
-use Rattle.site_solution.proofs.Putting.{told-many}
-use Rattle.site_solution.proofs.Walked.{all-more, drop-past}
+use Rattle.site_shelves.specs.inside.Index.{told_of}
+use Rattle.site_shelves.proofs.Queueing.{told-at}
+use Rattle.site_shelves.proofs.Putting.{told-many}
+use Rattle.site_shelves.proofs.Walked.{all-more, drop-past}
 use Rattle.site_solution.specs.Apart.{are_separate}
 use Rattle.site_solution.proofs.apart.is_separate.Goals as goal
 

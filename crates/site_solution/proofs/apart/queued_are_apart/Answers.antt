@@ -1,9 +1,9 @@
 use Rattle.std.proofs.Common.{◌≡◌, ◌<◌, ◌≤◌, ◌+◌, ◌∙◌, true, false, length, drop, sym, ap, arith}
 use Rattle.std.specs.Prelude.{◌&&◌}
 use Rattle.std.specs.List.{list_all}
-use Rattle.site_solution.specs.inside.Index.{groups_of}
-use Rattle.site_solution.proofs.Queueing.{groups-many}
-use Rattle.site_solution.proofs.Walked.{there, all-more, drop-past}
+use Rattle.site_shelves.specs.inside.Index.{groups_of}
+use Rattle.site_shelves.proofs.Queueing.{groups-many}
+use Rattle.site_shelves.proofs.Walked.{there, all-more, drop-past}
 use Rattle.site_solution.specs.inside.Parted.{queues_parted}
 use Rattle.site_solution.proofs.apart.queued_are_apart.Goals as goal
 

@@ -1,5 +1,4 @@
 use Rattle.std.proofs.Common.{◌∙◌, length, sym, ap, subst, arith}
-use Rattle.site_solution.proofs.Queueing.{groups-many, queues-are}
 use Rattle.queue_cells.specs.Grouped.{AllHeld}
 use Rattle.std.specs.Prelude.{◌↔◌, IsTrue}
 use Rattle.status_words.specs.Words.{number_of_words}
@@ -8,14 +7,13 @@ use Rattle.site_solution.proofs.site.Site.covered.Goals as goal
 pub covers-requires-clause-group : goal.covers-requires-clause-group
 covers-requires-clause-group c =
     let inside = rw (← c.self.view_is) at c.requires.group in
-    omega (arith, groups-many c.self.inside.groups.groups)
+    omega (arith, inside, c.rows.ensures.many)
 
 pub covers-requires-clause-words : goal.covers-requires-clause-words
 covers-requires-clause-words c =
     let inside = rw (← c.self.view_is) at c.requires.words in
-    inside
-    ∙ ap (λ qs. number_of_words (length qs)) (queues-are c.self.inside.groups.groups c.args.group)
+    inside ∙ ap (λ qs. number_of_words (length qs)) (sym (c.rows.ensures.queues c.args.group))
 
 pub returns : goal.returns
 returns c = rw (← c.self.view_is) (subst (λ qs. IsTrue c.covers.result ↔ AllHeld qs c.args.mask.now)
-    (sym (queues-are c.self.inside.groups.groups c.args.group)) c.covers.ensures)
+    (c.rows.ensures.queues c.args.group) c.covers.ensures)

@@ -17,8 +17,8 @@ use Rattle.code_run.specs.RunFacts.{HasRunFacts}
 use Rattle.code_run.specs.Posts.{run_of, all_posted}
 use Rattle.site_solution.specs.Answers.{Answers}
 use Rattle.site_solution.specs.Commit.{CanLeave}
-use Rattle.site_solution.specs.Held.{taken_at}
-use Rattle.site_solution.specs.inside.New.{told_of_new, IsNewGroup}
+use Rattle.site_shelves.specs.Held.{taken_at}
+use Rattle.site_shelves.specs.inside.New.{told_of_new, IsNewGroup}
 use Rattle.site_solution.proofs.Leaves.{run-leaves}
 use Rattle.site_solution.proofs.Poured.{no_code, emitted-keeps}
 use Rattle.site_solution.proofs.Answering.{ok-more, sent-answers}

@@ -16,8 +16,4 @@ invariant_of-self c =
           (host_kept (c.args.loc.now ∷ []) c.self.inside.made (seen c.self.inside) h.kept);
       once = h.once;
       few_waiting = h.few_waiting;
-      index = h.index;
-      numbers = h.numbers;
-      few = h.few;
-      covering = h.covering;
     }

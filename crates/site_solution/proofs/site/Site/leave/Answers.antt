@@ -2,10 +2,10 @@ use Rattle.std.proofs.Common.{List, [], ◌++◌, refl, sym, subst, ap, ◌∙�
 use Rattle.chem_model.specs.declared.name.Loc.{Loc}
 use Rattle.code_run.specs.Posts.{all_posted}
 use Rattle.site_solution.specs.Commit.{AreNew}
-use Rattle.site_solution.specs.Held.{taken_at}
+use Rattle.site_shelves.specs.Held.{taken_at}
 use Rattle.site_solution.specs.inside.Leave.{IsSorted}
-use Rattle.site_solution.specs.inside.More.{CanAdd, added}
-use Rattle.site_solution.specs.declared.more.More.{More}
+use Rattle.site_solution.specs.inside.Coming.{CanAdd, added}
+use Rattle.site_solution.specs.declared.coming.Coming.{Coming}
 use Rattle.site_solution.proofs.Answering.{left-answers}
 use Rattle.site_solution.proofs.Leaving.{new-alone, resort, can-add, left-is}
 use Rattle.site_solution.proofs.site.Site.leave.Goals as goal
@@ -16,7 +16,7 @@ sort_with_births-requires c = subst (AreNew []) (sym c.as_slice.ensures.members)
 
 pub add_all-requires : goal.add_all-requires
 add_all-requires c =
-    let m : More = record {
+    let m : Coming = record {
       next = c.args.run.next;
       groups = c.args.groups;
       waiting = c.in_ok-waiting.field-0.waiting;
@@ -32,7 +32,7 @@ add_all-requires c =
 
 pub returns-clause-ok : goal.returns-clause-ok
 returns-clause-ok c =
-    let m : More = record {
+    let m : Coming = record {
       next = c.args.run.next;
       groups = c.args.groups;
       waiting = c.in_ok-waiting.field-0.waiting;
@@ -43,10 +43,10 @@ returns-clause-ok c =
     resort c.args.tree.now _ _ _ _ _ _ c.in_ok-waiting.field-0 c.places.ensures
     c.as_slice.ensures.members refl c.in_ok-waiting.ensures in
     let is = c.in_ok-add_all.ensures.ok
-    ∙ ap (λ ls. added ls m (taken_at c.args.group c.args.chans.now c.args.self.now))
+    ∙ ap (λ ls. added ls m (taken_at c.args.fronts.now.group c.args.fronts.now.chans.now c.args.self.now))
     c.as_slice-2.ensures.members in
     let left = left-is c.args.tree.now c.args.run.births (all_posted c.args.run.posts) m
-    c.args.group c.args.chans.now c.args.self.now c.add_all.new.self c.in_ok-waiting.field-0.flights
+    c.args.fronts.now.group c.args.fronts.now.chans.now c.args.self.now c.add_all.new.self c.in_ok-waiting.field-0.flights
     sorted.waiting_are sorted.requests_are sorted.flights_are is in
     left-answers _
     c.add_all.new.self c.in_ok-waiting.field-0.flights c.args.run.outs c.args.run.births left

@@ -2,9 +2,10 @@ use Rattle.std.proofs.Common.{◌≡◌, ◌<◌, ◌^◌, ◌∙◌, ◌++◌, 
 use Rattle.wire_packet.specs.GroupFacts.{GroupParts}
 use Rattle.wire_packet.specs.declared.packet.Waiting.{Waiting}
 use Rattle.wire_packet.specs.ParcelFacts.{IsParcel}
-use Rattle.net_laws.specs.Site.{Site}
+use Rattle.net_laws.specs.Site.{Group, Site, told_in}
+use Rattle.net_laws.specs.Parcels.{insts_in}
 use Rattle.net_laws.specs.Parcels.{groups_at, stuck_at, requests_at, in_all_queues, pack, parcel_of}
-use Rattle.site_solution.specs.inside.Packed.{HasFewNames}
+use Rattle.site_shelves.specs.inside.Packed.{HasFewNames}
 use Rattle.site_solution.specs.inside.Stored.{seen}
 use Rattle.chem_model.specs.Each.{Each}
 use Rattle.site_solution.proofs.Packed.{packed-parcel}
@@ -14,9 +15,12 @@ pub invariant_of-result : goal.invariant_of-result
 invariant_of-result c =
     let s : Site = seen c.self.inside in
     let l = c.args.loc.now in
-    let groups = c.in_ok-groups.ensures.is in
+    let groups = c.in_ok-groups.ensures.is
+    ∙ ap (λ (gs : List Group). insts_in (told_in (groups_at l gs))) c.rows-rows.ensures.groups in
     let waiting = c.in_ok-waiting.ensures
-    ∙ ap (λ ws. in_all_queues (groups_at l s.groups) ++ stuck_at l ws) c.deref.ensures.value in
+    ∙ ap (λ (gs : List Group). in_all_queues (groups_at l gs) ++ stuck_at l c.stuck.result.now)
+    c.rows-rows.ensures.groups
+    ∙ ap (λ ws. in_all_queues (groups_at l s.groups) ++ stuck_at l ws) c.stuck.ensures in
     let requests = c.in_ok-requests.ensures ∙ ap (requests_at l) c.as_slice.ensures.members in
     let few_groups : length c.in_ok-groups.groups < 2 ^ 32 =
     subst (λ (gs : List GroupParts). length gs < 2 ^ 32) c.groups.view_is c.groups.invariant in

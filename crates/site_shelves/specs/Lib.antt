@@ -1,0 +1,10 @@
+pub mod CanLay
+pub mod Held
+pub mod Counted
+pub mod Named
+pub mod InTree
+pub mod InCode
+pub mod Draws
+pub mod Guards
+pub mod Shelved
+pub mod inside

@@ -1,0 +1,10 @@
+pub mod Covered
+pub mod Fired
+pub mod Forgotten
+pub mod InTree
+pub mod Index
+pub mod New
+pub mod Packed
+pub mod Told
+pub mod Room
+pub mod Lying

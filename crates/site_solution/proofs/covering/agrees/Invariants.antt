@@ -1,5 +1,0 @@
-use Rattle.site_solution.proofs.CoveredBelow.{AgreesBelow}
-use Rattle.site_solution.proofs.covering.agrees.Given as goal
-
-abbrev pub invariant-loop-number : goal.invariant-loop-number
-invariant-loop-number l = AgreesBelow l.number l.code l.covering.levels.items

@@ -1,5 +1,0 @@
-use Rattle.site_solution.specs.inside.Covered.{AreMasksBelow}
-use Rattle.site_solution.proofs.covering.are_masks_of.Given as goal
-
-abbrev pub invariant-loop-place : goal.invariant-loop-place
-invariant-loop-place l = AreMasksBelow l.place l.code l.first l.masks

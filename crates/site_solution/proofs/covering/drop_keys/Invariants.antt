@@ -1,5 +1,0 @@
-use Rattle.site_solution.specs.inside.Covered.{KeepsOthers}
-use Rattle.site_solution.proofs.covering.drop_keys.Given as goal
-
-abbrev pub invariant-loop-place : goal.invariant-loop-place
-invariant-loop-place l = KeepsOthers l.serial l.fn.keys l.keys

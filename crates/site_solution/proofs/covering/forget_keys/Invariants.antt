@@ -1,7 +1,0 @@
-use Rattle.site_solution.specs.inside.Index.{groups_of}
-use Rattle.site_solution.specs.inside.Covered.{IsCoveringAway}
-use Rattle.site_solution.proofs.covering.forget_keys.Given as goal
-
-abbrev pub invariant-loop-group : goal.invariant-loop-group
-invariant-loop-group l =
-    IsCoveringAway l.loc l.covering l.spots.serials.items (groups_of l.groups.groups)

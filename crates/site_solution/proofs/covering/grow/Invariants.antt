@@ -1,5 +1,0 @@
-use Rattle.site_solution.specs.inside.Covered.{SameLevels}
-use Rattle.site_solution.proofs.covering.grow.Given as goal
-
-abbrev pub invariant-loop-at : goal.invariant-loop-at
-invariant-loop-at l = SameLevels l.fn.levels.items l.levels.items
