@@ -44,9 +44,11 @@ use Rattle.net_laws.specs.Site.{Group}
 use Rattle.net_core.specs.declared.turn.Made.{Made}
 use Rattle.net_core.specs.Acting.{Reacts, Delivers}
 use Rattle.net_core.specs.inside.AtSites.{AllStayFit}
-use Rattle.net_core.specs.inside.Alone.{IsAlone, IsReadyForCalls, Arrives, HasArrived}
-use Rattle.net_core.specs.inside.Alone.{ReactsOnce, IsNoted, HasReacted}
-use Rattle.net_core.specs.inside.Delivering.{GoesOn, IsBroughtTo}
+use Rattle.site_turn.specs.Next.{CanAct}
+use Rattle.net_core.specs.inside.Alone.{IsAlone, HasArrived}
+use Rattle.site_turn.specs.Reacting.{ReactsOnce}
+use Rattle.net_core.specs.inside.Alone.{IsNoted, HasReacted}
+use Rattle.site_turn.specs.Bringing.{IsBroughtTo, GoesOn, Brings}
 use Rattle.net_core.specs.Lending.{mail_to, ReactsAlone, WorksAlone, used_up, rests, reacts}
 use Rattle.net_core.specs.Parts.{message_in, carried, all_carried, IsMessageFlight}
 use Rattle.net_core.specs.Playing as does
@@ -55,7 +57,7 @@ use Rattle.net_core.specs.Whole.{AllFit, IsRunning}
 use Rattle.net_core.proofs.Carrying.{all_carry, carried_append}
 use Rattle.net_core.proofs.Deliverable.{may_be_delivered}
 use Rattle.net_core.proofs.Deliveries.{set_length}
-use Rattle.net_core.proofs.Fitting.{Fits, fits_at, all_fit_set, fit_full, fit_stays, stay_set}
+use Rattle.net_core.proofs.Fitting.{fits_at, all_fit_set, fit_full, fit_stays, stay_set}
 use Rattle.net_core.proofs.Handed.{run_bare}
 use Rattle.net_core.proofs.Mail.{first_mail, mail_append, mail_here, mail_elsewhere, drop_next}
 use Rattle.net_core.proofs.Reaching.{by_guard, takes, births_counted, fires_bare}
@@ -64,7 +66,7 @@ use Rattle.net_core.proofs.Stepping.{running_on, event_running}
 
 module _ (c : CodeParts) (t : Tree) (i events : ℕ) (s : Site) (mail : List Addressed)
     (h : IsAlone c t i events s mail) where
-  pub alone_fits : IsReadyForCalls c t s
+  pub alone_fits : CanAct c t s
   alone_fits =
       let bare_fit : AllFit c (bare t) h.net.sites =
       subst (λ (u : Tree). AllFit c u h.net.sites) h.tree h.running.fit in
@@ -75,14 +77,14 @@ module _ (c : CodeParts) (t : Tree) (i events : ℕ) (s : Site) (mail : List Add
   alone_number = (h.running.some.stands.hosts i s h.here).number
 
 -- with the room of the tree or without
-fits_in : (c : CodeParts) (t u : Tree) (s : Site) → u ≡ bare t → IsReadyForCalls c t s → Fits c u s
+fits_in : (c : CodeParts) (t u : Tree) (s : Site) → u ≡ bare t → CanAct c t s → CanAct c u s
 fits_in c t u s same h =
-    let less : Fits c (bare t) s = record {
+    let less : CanAct c (bare t) s = record {
       in_tree = h.in_tree;
       in_code = h.in_code;
       draws = record { few = h.draws.few; drawn = h.draws.drawn; fresh = h.draws.fresh };
     } in
-    subst (λ (v : Tree). Fits c v s) (sym same) less
+    subst (λ (v : Tree). CanAct c v s) (sym same) less
 
 -- ---- mail
 
@@ -136,7 +138,7 @@ alone_may c t i events s p mail h =
 -- the message was put
 puts_here :
     (c : CodeParts) (t : Tree) (i events : ℕ) (s new : Site) (p : Addressed) (mail : List Addressed)
-    → IsAlone c t i events s (p ∷ mail) → IsReadyForCalls c t new → IsBroughtTo t s p.msg None new
+    → IsAlone c t i events s (p ∷ mail) → CanAct c t new → IsBroughtTo t s p.msg None new
     → IsAlone c t i events new mail
 puts_here c t i events s new p mail h fits b =
     let f = front c t i events s p mail h in
@@ -168,8 +170,8 @@ puts_here c t i events s new p mail h fits b =
       site_is = f.here;
       new_is = ap (λ (u : Bool). cond u after on) (sym there);
     } in
-    let fits_new : Fits c net.tree (put home p.msg s) =
-    subst (Fits c net.tree) is (fits_in c t net.tree new f.tree fits) in
+    let fits_new : CanAct c net.tree (put home p.msg s) =
+    subst (CanAct c net.tree) is (fits_in c t net.tree new f.tree fits) in
     let running = running_on c net after None events f.running (does.deliver f.place after made)
     (all_fit_set c net.tree net.sites p.target (put home p.msg s) f.running.fit fits_new)
     (set_length net.sites p.target (put home p.msg s)) in
@@ -235,7 +237,7 @@ goes_from c t i events s new p mail target h b =
 
 brought_alone :
     (c : CodeParts) (t : Tree) (i events : ℕ) (s new : Site) (p : Addressed) (mail : List Addressed)
-    (target : Option ℕ) → IsAlone c t i events s (p ∷ mail) → IsReadyForCalls c t new
+    (target : Option ℕ) → IsAlone c t i events s (p ∷ mail) → CanAct c t new
     → IsBroughtTo t s p.msg target new → IsAlone c t i events new mail
 brought_alone c t i events s new p mail None h fits b = puts_here c t i events s new p mail h fits b
 brought_alone c t i events s new p mail (Some target) h fits b =
@@ -373,10 +375,12 @@ module _ (c : CodeParts) (t : Tree) (i : ℕ) (fs : List Flight) (s : Site) wher
           (mail_to i (all_carried (drop (n + 1) fs))) (next_mail events a)
 
       pub comes : (events : ℕ) → IsAlone c t i events s (mail_to i (all_carried fs))
-          → IsMessageFlight f → (new : Site) (more : List Flight) → Arrives t now f on new more
-          → (IsReadyForCalls c t now → IsReadyForCalls c t new)
-          → IsComing c t i fs (n + 1) s new more
-      comes events a spelled new more b fit =
+          → IsMessageFlight f → (new : Site) (more : List Flight) (bytes : List ℕ)
+          → bytes ≡ f.bytes → Brings t now (message_in bytes) bytes on new more
+          → (CanAct c t now → CanAct c t new) → IsComing c t i fs (n + 1) s new more
+      comes events a spelled new more bytes own brings fit =
+          let b : Brings t now (message_in f.bytes) f.bytes on new more =
+          subst (λ (bs : List ℕ). Brings t now (message_in bs) bs on new more) own brings in
           let is = channel_of t now (message_in f.bytes) (may_come events a) in
           let one = one_arrives t now new f b.target b.more is b.brought b.goes in
           let front_is : mail_to i (all_carried (take (n + 1) fs))
@@ -570,7 +574,7 @@ pub record IsReacting (c : CodeParts) (t : Tree) (i quota n : ℕ) (s now : Site
 module _ (c : CodeParts) (t : Tree) (i quota : ℕ) (s : Site) where
   module _ (n : ℕ) (now : Site) (m : Made) (h : IsReacting c t i quota n s now m) where
     pub reacting_fits : (events : ℕ) → events + quota < 2 ^ 32 → IsAlone c t i events s []
-        → IsReadyForCalls c t now
+        → CanAct c t now
     reacting_fits events few a = alone_fits c t i (events + n) now [] (h.stays events few a)
 
     -- one more

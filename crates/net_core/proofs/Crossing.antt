@@ -15,7 +15,8 @@ use Rattle.migration.specs.Across.{can_join, IsMoveBetween}
 use Rattle.net_core.specs.inside.AtSites.{AllStayFit, MayCrossAt, CrossesAt}
 use Rattle.net_core.specs.inside.Fitting.{AreNumbered}
 use Rattle.net_core.specs.Whole.{AllFit}
-use Rattle.net_core.proofs.Fitting.{Fits, fits_at, others_stay, stay_set, set_same}
+use Rattle.site_turn.specs.Next.{CanAct}
+use Rattle.net_core.proofs.Fitting.{fits_at, others_stay, stay_set, set_same}
 
 pub ok_three : {A E : Type 0} (P Q S R : Type 0) (r : Result A E) → (P → Q → S → R)
     → IfOk r (λ _. P) → IfOk r (λ _. Q) → IfOk r (λ _. S) → OnOk r R
@@ -80,8 +81,8 @@ both_set_back xs front back i j value x y far h long =
 -- ---- what the move asks of the two sites
 
 pub record MayMove (c : CodeParts) (t : Tree) (a : AtomId) (x y : Site) : Type 0 where
-  pub from : Fits c t x
-  pub into : Fits c t y
+  pub from : CanAct c t x
+  pub into : CanAct c t y
   pub can : can_go 2 t a x ≡ true
   pub hosted : leads_into a x y ≡ true
   pub joins : can_join a x y ≡ true

@@ -26,8 +26,9 @@ use Rattle.net_core.specs.Whole.{AllFit, AreFlying, IsWhole, IsRunning}
 use Rattle.net_core.specs.Acting.{Delivers, delivered}
 use Rattle.net_core.specs.inside.Handing.{AreAsBefore}
 use Rattle.net_core.specs.Playing.{deliver}
-use Rattle.net_core.specs.inside.Alone.{IsReadyForCalls}
-use Rattle.net_core.specs.inside.Delivering.{IsBroughtTo, IsBrought, GoesOn, IsTextBrought}
+use Rattle.site_turn.specs.Next.{CanAct}
+use Rattle.site_turn.specs.Bringing.{IsBroughtTo, GoesOn, Brings}
+use Rattle.net_core.specs.inside.Delivering.{IsBrought}
 use Rattle.net_core.specs.inside.Delivering.{IsTextBroughtAt}
 use Rattle.net_core.proofs.Carrying.{carried_append, carried_without, carried_at, each_without}
 use Rattle.net_core.proofs.Deliverable.{may_be_delivered}
@@ -94,34 +95,29 @@ module _ (t : Tree) (sites : List Site) (i : ℕ) (bytes : List ℕ) (d new : Si
   brought_at s at None b = (b.0, ap (slice_set sites i) b.1)
   brought_at s at (Some target) b = (b.0, b.1, ap (slice_set sites i) b.2 ∙ set_same sites i s at)
 
-  text_at : (more : List Flight) → IsTextBrought t here bytes more new → (s : Site)
+  pub text_brought : (before more : List Flight) → before ≡ []
+      → Brings t here (message_in bytes) bytes before new more → (s : Site)
       → slice_get sites i ≡ Some s → IsTextBroughtAt t i s bytes more sites (slice_set sites i new)
-  text_at more b s at =
+  text_brought before more none b s at =
       let same : here ≡ s = get_or_from_slice_get sites i s d at in
+      let all : more ≡ b.more = b.on_is ∙ ap (λ (fs : List Flight). fs ++ b.more) none in
       record {
-        on = b.on;
-        brought = brought_at s at
-            b.on (subst (λ (u : Site). IsBroughtTo t u (message_in bytes) b.on new) same b.brought);
-        goes = b.goes;
+        on = b.target;
+        brought = brought_at s at b.target
+            (subst (λ (u : Site). IsBroughtTo t u (message_in bytes) b.target new) same b.brought);
+        goes = subst (GoesOn bytes b.target) (sym all) b.goes;
       }
 
-  pub text_brought : {E : Type 0} (r : Result (List Flight) E)
-      → IfOk r (λ more. IsTextBrought t here bytes more new)
-      → IfOk r (λ more. (s : Site) → slice_get sites i ≡ Some s
-      → IsTextBroughtAt t i s bytes more sites (slice_set sites i new))
-  text_brought (Ok more) b = text_at more b
-  text_brought (Err e) b = tt
-
   pub brought_fit : i < length sites
-      → ((c : CodeParts) → IsReadyForCalls c t here → IsReadyForCalls c t new) → (c : CodeParts)
+      → ((c : CodeParts) → CanAct c t here → CanAct c t new) → (c : CodeParts)
       → AllFit c t sites → AllFit c t (slice_set sites i new)
   brought_fit below ready c fit =
       let at = get_some sites i below in
       let fits = fits_at c t sites i at.0 fit at.1 in
-      let old : IsReadyForCalls c t at.0 =
+      let old : CanAct c t at.0 =
       record { in_tree = fits.in_tree; in_code = fits.in_code; draws = fits.draws } in
       let now =
-      ready c (subst (IsReadyForCalls c t) (sym (get_or_from_slice_get sites i at.0 d at.1)) old) in
+      ready c (subst (CanAct c t) (sym (get_or_from_slice_get sites i at.0 d at.1)) old) in
       all_fit_set c t sites i new fit
       (record { in_tree = now.in_tree; in_code = now.in_code; draws = now.draws })
 

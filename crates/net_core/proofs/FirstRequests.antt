@@ -14,7 +14,6 @@ use Rattle.chem_model.specs.declared.event.Event.{Event}
 use Rattle.chem_model.specs.declared.event.Event.TheVariants as event
 use Rattle.chem_model.specs.Apply.{same_atom}
 use Rattle.chem_laws.proofs.Lists.{true_both}
-use Rattle.chem_laws.proofs.Taking.{same_atom_refl}
 use Rattle.wire_packet.specs.declared.packet.Ask.{Ask}
 use Rattle.wire_packet.specs.declared.packet.Ask.TheVariants as request
 use Rattle.wire_packet.specs.GroupFacts.{RequestParts}
@@ -23,7 +22,6 @@ use Rattle.loc_tree.specs.Tree.{Tree, is_alive, is_dead, bare}
 use Rattle.net_laws.specs.Site.{Site}
 use Rattle.net_laws.specs.Net.{Net}
 use Rattle.net_laws.specs.Holding.{precedes, request_with}
-use Rattle.site_solution.specs.Rising.{AllAfter, Rising}
 use Rattle.site_solution.proofs.Together.{request_id}
 use Rattle.failure.specs.Halts as halts
 use Rattle.failure.specs.Deaths as deaths
@@ -34,10 +32,12 @@ use Rattle.net_core.specs.Acting.{Asks, MayGo}
 use Rattle.net_core.specs.Enabled.{MayHalt, MayDetect}
 use Rattle.net_core.specs.Choosing.{Allows, request_of}
 use Rattle.net_core.specs.Asking.{choice_by}
-use Rattle.net_core.specs.inside.Searched.{HasSites, meets, IsMet, NoneMeets, choice_for}
+use Rattle.site_turn.specs.Next.{may_meet, NoneMeets, IsLeastMet}
+use Rattle.site_turn.proofs.Choices.{can_go_now, can_detect_now, can_halt_now}
+use Rattle.net_core.specs.inside.Searched.{HasSites, meets, IsMet, choice_for}
+use Rattle.net_core.specs.inside.Searched.{NoneMeets as NoneMeetsAt}
 use Rattle.net_core.specs.inside.Searched.{IsMeetable, IsLeastAt, lesser_of, IsLeastOf, IsLeast}
 use Rattle.net_core.specs.inside.Searched.{NoneMeetsAny, IsFirstMeeting}
-use Rattle.net_core.proofs.NoneFound.{NoneMeetable}
 use Rattle.net_core.proofs.SiteReactions.{below_or, one_member, alive_bare, dead_bare, move_bare}
 
 -- ---- the order of ids
@@ -55,14 +55,6 @@ not_itself a = pairs a.site a.k
     pairs : (s k : ℕ) → nat_lt s s || ((s == s) && nat_lt k k) ≡ false
     pairs s k = grind (arith, nat_tests)
 
-before_is_other : (a b : AtomId) → precedes a b ≡ true → same_atom a b ≡ false
-before_is_other a b e = pairs a.site a.k b.site b.k e
-  where
-    pairs : (s k t j : ℕ) → nat_lt s t || ((s == t) && nat_lt k j) ≡ true
-        → (s == t) && (k == j) ≡ false
-    pairs s k t j e = grind (arith, nat_tests)
-
--- what comes before a lesser one comes before a greater one
 not_before : (a b c : AtomId) → precedes b c ≡ true → precedes a c ≡ false → precedes a b ≡ false
 not_before a b c e f = pairs a.site a.k b.site b.k c.site c.k e f
   where
@@ -81,107 +73,56 @@ not_after a b c e f = pairs a.site a.k b.site b.k c.site c.k e f
         → nat_lt s u || ((s == u) && nat_lt k i) ≡ false
     pairs s k t j u i e f = grind (arith, nat_tests)
 
--- ---- requests in the order of their ids
+-- ---- the requests of a site, by the choices that meet them
 
-after_at : (a : AtomId) (qs : List RequestParts) (k : ℕ) (q : RequestParts) → AllAfter a qs
-    → slice_get qs k ≡ Some q → precedes a q.id ≡ true
-after_at a [] k q all e = cc
-after_at a (x ∷ qs) zero q all e =
-    let same : x ≡ q = cc in
-    subst (λ (y : RequestParts). precedes a y.id ≡ true) same all.0
-after_at a (x ∷ qs) (suc k) q all e = after_at a qs k q all.1 e
+second : (u v w : Bool) → v ≡ true → u || (v || w) ≡ true
+second true v w e = refl
+second false v w e = ap (λ (x : Bool). x || w) e
 
-later_not_before : (qs : List RequestParts) (i k : ℕ) (q r : RequestParts) → Rising qs → i ≤ k
-    → slice_get qs i ≡ Some q → slice_get qs k ≡ Some r → precedes r.id q.id ≡ false
-later_not_before [] i k q r rising order e f = cc
-later_not_before (x ∷ qs) zero zero q r rising order e f =
-    let same : q ≡ r = cc in
-    subst (λ (y : RequestParts). precedes y.id q.id ≡ false) same (not_itself q.id)
-later_not_before (x ∷ qs) zero (suc k) q r rising order e f =
-    let same : x ≡ q = cc in
-    after_not_before q.id r.id
-    (subst (λ (y : RequestParts). precedes y.id r.id ≡ true) same (after_at x.id qs k r rising.0 f))
-later_not_before (x ∷ qs) (suc i) zero q r rising order e f = absurd (omega arith)
-later_not_before (x ∷ qs) (suc i) (suc k) q r rising order e f =
-    later_not_before qs i k q r rising.1 (omega arith) e f
-
--- a member is the first with its id
-found_at : (qs : List RequestParts) (i : ℕ) (q : RequestParts) → Rising qs → slice_get qs i ≡ Some q
-    → request_with q.id qs ≡ Some q
-found_at [] i q rising e = cc
-found_at (x ∷ qs) zero q rising e =
-    let same : x ≡ q = cc in
-    let own : same_atom x.id q.id ≡ true =
-    ap (λ (y : RequestParts). same_atom x.id y.id) (sym same) ∙ same_atom_refl x.id in
-    ap (λ b. cond b (Some x) (request_with q.id qs)) own ∙ ap (λ (y : RequestParts). Some y) same
-found_at (x ∷ qs) (suc i) q rising e =
-    let other = before_is_other x.id q.id (after_at x.id qs i q rising.0 e) in
-    ap (λ b. cond b (Some x) (request_with q.id qs)) other ∙ found_at qs i q rising.1 e
-
--- and what is found is a member
-place_of : (qs : List RequestParts) (a : AtomId) (q : RequestParts) → request_with a qs ≡ Some q
-    → (k : ℕ) × (slice_get qs k ≡ Some q)
-place_of [] a q e = cc
-place_of (x ∷ qs) a q e = go (same_atom x.id a) e (place_of qs a q)
-  where
-    go : (u : Bool) → cond u (Some x) (request_with a qs) ≡ Some q
-        → (request_with a qs ≡ Some q → (k : ℕ) × (slice_get qs k ≡ Some q))
-        → (k : ℕ) × (slice_get (x ∷ qs) k ≡ Some q)
-    go true f ih = (0, f)
-    go false f ih = let later = ih f in (suc later.0, later.1)
-
--- ---- the requests of a site
+last : (u v w : Bool) → w ≡ true → u || (v || w) ≡ true
+last true v w e = refl
+last false true w e = refl
+last false false w e = e
 
 module _ (version : ℕ) (t : Tree) (s : Site) where
-  pub none_first : NoneMeetable version t s 0
-  none_first k q below e may = omega arith
+  may_of : (a : AtomId) (v : Ask) → meets version t (choice_by v a) s ≡ true
+      → may_meet version t s a ≡ true
+  may_of a (request.Go b k) e =
+      ap (λ (u : Bool). u || (halts.can_halt t a s || is_some (deaths.dead_for t a s))) e
+  may_of a (request.Fail b k) e =
+      last (moves.can_go version t a s) (halts.can_halt t a s) (is_some (deaths.dead_for t a s)) e
+  may_of a request.Halt e = second (moves.can_go version t a s) (halts.can_halt t a s)
+      (is_some (deaths.dead_for t a s)) e
 
   not_both : (b : Bool) → b ≡ true → b ≡ false → ⊥
   not_both b e f = cc
 
-  pub none_next : (i : ℕ) (q : RequestParts) → slice_get s.requests i ≡ Some q
-      → meets version t (choice_for q) s ≡ false → NoneMeetable version t s i
-      → NoneMeetable version t s (i + 1)
-  none_next i q here not none k r below e may =
-      elim (below_or i k below) [
-        | inl lower ↦ none k r lower e may
-        | inr same ↦
-            let at : slice_get s.requests i ≡ Some r = ap (slice_get s.requests) (sym same) ∙ e in
-            let is : q ≡ r = one_member (slice_get s.requests i) q r here at in
-            let no : meets version t (choice_for r) s ≡ false =
-            subst (λ (y : RequestParts). meets version t (choice_for y) s ≡ false) is not in
-            not_both (meets version t (choice_for r) s) may.met no
-      ]
+  pub none_at_all : NoneMeets version t s → (r : RequestParts) → IsMeetable version t s r → ⊥
+  none_at_all none r may =
+      not_both (may_meet version t s r.id) (may_of r.id r.ask may.met) (none r.id)
 
-  pub none_at_all : (i : ℕ) → slice_get s.requests i ≡ None → NoneMeetable version t s i
-      → (r : RequestParts) → IsMeetable version t s r → ⊥
-  none_at_all i past none r may =
-      let at = place_of s.requests r.id r may.here in
-      let long = past_end s.requests i past in
-      let within = slice_get_within s.requests at.0 r at.1 in
-      none at.0 r (omega arith) at.1 may
+  pub least_here : (a : AtomId) (q : RequestParts) → request_with a s.requests ≡ Some q
+      → IsLeastMet version t s a → IsLeastAt version t s q
+  least_here a q here h =
+      let own : q.id ≡ a = request_id s.requests a q here in
+      record {
+        meetable = record {
+          here = ap (λ (b : AtomId). request_with b s.requests) own ∙ here;
+          met = ap (λ (b : AtomId). meets version t (choice_by q.ask b) s) own
+              ∙ by_kind q.ask refl;
+        };
+        least = λ r may.
+            subst (λ (b : AtomId). precedes r.id b ≡ false) (sym own)
+            (h.least r.id (may_of r.id r.ask may.met));
+      }
     where
-      past_end : (qs : List RequestParts) (i : ℕ) → slice_get qs i ≡ None → length qs ≤ i
-      past_end [] i e = omega arith
-      past_end (x ∷ qs) zero e = cc
-      past_end (x ∷ qs) (suc i) e = let rest = past_end qs i e in omega arith
-
-  pub least_here : (i : ℕ) (q : RequestParts) → Rising s.requests → slice_get s.requests i ≡ Some q
-      → meets version t (choice_for q) s ≡ true → NoneMeetable version t s i
-      → IsLeastAt version t s q
-  least_here i q rising here met none = record {
-    meetable = record { here = found_at s.requests i q rising here; met = met };
-    least = λ r may.
-        let at = place_of s.requests r.id r may.here in
-        by_order r may at.0 at.1 (nat_lt at.0 i) refl;
-  }
-    where
-      by_order : (r : RequestParts) → IsMeetable version t s r → (k : ℕ)
-          → slice_get s.requests k ≡ Some r → (b : Bool) → nat_lt k i ≡ b
-          → precedes r.id q.id ≡ false
-      by_order r may k e true less = absurd (none k r (grind (arith, nat_tests)) e may)
-      by_order r may k e false less =
-          later_not_before s.requests i k q r rising (grind (arith, nat_tests)) here e
+      by_kind : (v : Ask) → q.ask ≡ v → meets version t (choice_by q.ask a) s ≡ true
+      by_kind (request.Go b k) e = ap (λ (v : Ask). meets version t (choice_by v a) s) e
+          ∙ can_go_now version t s a q here h.met b k e
+      by_kind (request.Fail b k) e = ap (λ (v : Ask). meets version t (choice_by v a) s) e
+          ∙ can_detect_now version t s a q here h.met b k e
+      by_kind request.Halt e = ap (λ (v : Ask). meets version t (choice_by v a) s) e
+          ∙ can_halt_now version t s a q here h.met e
 
 -- ---- the requests of all sites
 
@@ -468,8 +409,8 @@ request_is q = by_ask q.ask
 
 module _ (version : ℕ) (sites : List Site) (t : Tree) where
   pub meets_next : (x : Choice) (n : ℕ) (s : Site) → slice_get sites n ≡ Some s
-      → meets version t x s ≡ false → NoneMeets version sites t x n
-      → NoneMeets version sites t x (n + 1)
+      → meets version t x s ≡ false → NoneMeetsAt version sites t x n
+      → NoneMeetsAt version sites t x (n + 1)
   meets_next x n s here not none i u below e =
       elim (below_or n i below) [
         | inl lower ↦ none i u lower e
@@ -514,7 +455,7 @@ module _ (version : ℕ) (sites : List Site) (t : Tree) where
         }
 
     pub none_meets_none : (x : Choice) (a : AtomId) → request_of x ≡ Some a
-        → NoneMeets version sites t x (length sites) → Allows c net x → ⊥
+        → NoneMeetsAt version sites t x (length sites) → Allows c net x → ⊥
     none_meets_none x a asks none may =
         let seen = seen_here x a (allowed_seen c net x a asks may) in
         let at = in_sites seen.number seen.site seen.site_is in
@@ -526,7 +467,7 @@ module _ (version : ℕ) (sites : List Site) (t : Tree) where
         cc
 
     pub site_tells : (x : Choice) (a : AtomId) (o : Option ℕ) (r : Bool) → request_of x ≡ Some a
-        → r ≡ is_some o → IfNone o (NoneMeets version sites t x (length sites))
+        → r ≡ is_some o → IfNone o (NoneMeetsAt version sites t x (length sites))
         → IfSome o (IsMet version sites t x) → IsTrue r ↔ Allows c net x
     site_tells x a None r asks is none some = (
       (λ e. let no : true ≡ false = sym e ∙ is in cc),

@@ -16,16 +16,12 @@ use Rattle.site_solution.specs.Draws.{all_drawn, CanDraw}
 use Rattle.site_solution.specs.Staying.{StillFits, HasReceived}
 use Rattle.net_core.specs.inside.AtSites.{AllStayFit}
 use Rattle.net_core.specs.inside.Fitting.{AreNumbered}
+use Rattle.site_turn.specs.Next.{CanAct}
 use Rattle.net_core.specs.Whole.{AllFit}
 
 -- one site
-pub record Fits (c : CodeParts) (t : Tree) (s : Site) : Type 0 where
-  pub in_tree : is_in_tree t s ≡ true
-  pub in_code : is_in_code c t s ≡ true
-  pub draws : CanDraw t s
-
 pub fits_at : (c : CodeParts) (t : Tree) (sites : List Site) (i : ℕ) (s : Site) → AllFit c t sites
-    → slice_get sites i ≡ Some s → Fits c t s
+    → slice_get sites i ≡ Some s → CanAct c t s
 fits_at c t sites i s h at = record {
   in_tree = each_get (λ (u : Site). IsTrue (is_in_tree t u)) sites i s at h.in_tree;
   in_code = each_get (λ (u : Site). IsTrue (is_in_code c t u)) sites i s at h.in_code;
@@ -33,7 +29,7 @@ fits_at c t sites i s h at = record {
 }
 
 pub all_fit_set : (c : CodeParts) (t : Tree) (sites : List Site) (i : ℕ) (s : Site)
-    → AllFit c t sites → Fits c t s → AllFit c t (slice_set sites i s)
+    → AllFit c t sites → CanAct c t s → AllFit c t (slice_set sites i s)
 all_fit_set c t sites i s h fits = record {
   in_tree = each_set (λ (u : Site). IsTrue (is_in_tree t u)) sites i s h.in_tree fits.in_tree;
   in_code = each_set (λ (u : Site). IsTrue (is_in_code c t u)) sites i s h.in_code fits.in_code;
@@ -93,12 +89,16 @@ set_same [] i x e = refl
 set_same (y ∷ xs) zero x e = let same : y ≡ x = cc in ap (λ z. z ∷ xs) (sym same)
 set_same (y ∷ xs) (suc i) x e = ap (λ r. y ∷ r) (set_same xs i x e)
 
+pub unchanged_set : {X : Type 0} (xs : List X) (i : ℕ) (x d new : X) → slice_get xs i ≡ Some x
+    → new ≡ slice_index_or xs i d → slice_set xs i new ≡ xs
+unchanged_set xs i x d new at same =
+    ap (slice_set xs i) (same ∙ get_or_from_slice_get xs i x d at) ∙ set_same xs i x at
+
 pub none_set : {X A E : Type 0} (xs : List X) (i : ℕ) (x d new : X) (r : Result A E)
     → slice_get xs i ≡ Some x → OnErr r (new ≡ slice_index_or xs i d)
     → OnErr r (slice_set xs i new ≡ xs)
 none_set xs i x d new (Ok a) at same = tt
-none_set xs i x d new (Err e) at same =
-    ap (slice_set xs i) (same ∙ get_or_from_slice_get xs i x d at) ∙ set_same xs i x at
+none_set xs i x d new (Err e) at same = unchanged_set xs i x d new at same
 
 pub fit_stays : (c : CodeParts) (t : Tree) (sites : List Site) → AllFit c t sites
     → AllStayFit c t sites

@@ -22,7 +22,8 @@ use Rattle.net_core.specs.Parts.{IsMessageFlight, net_of}
 use Rattle.net_core.specs.Playing.{deliver}
 use Rattle.net_core.specs.Received.{flight_to, with_last, HasReceived}
 use Rattle.net_core.specs.Whole.{NetParts, RunsSome, AllFit, IsRunning, IsWhole, IsNetWhole}
-use Rattle.net_core.specs.inside.Delivering.{IsBrought, GoesOn}
+use Rattle.site_turn.specs.Bringing.{GoesOn}
+use Rattle.net_core.specs.inside.Delivering.{IsBrought}
 use Rattle.net_core.specs.inside.Handing.{AreAsBefore}
 use Rattle.net_core.specs.inside.Outside.{IsReceived, IsReceivedFrom}
 use Rattle.net_core.specs.inside.Runs.{spread}

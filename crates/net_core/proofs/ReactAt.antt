@@ -12,19 +12,20 @@ use Rattle.site_solution.specs.declared.effects.Effects.{Effects}
 use Rattle.reducer.specs.declared.pick.Pick.{Pick}
 use Rattle.reducer.specs.Picks.{Picked, Picks, Fires, MayFire, IsToldAs}
 use Rattle.reducer.proofs.Levels.{level_at, told_as}
-use Rattle.net_core.specs.inside.Alone.{IsReadyForCalls, ReactsBy}
+use Rattle.site_turn.specs.Next.{CanAct}
+use Rattle.site_turn.specs.Reacting.{ReactsBy}
 use Rattle.net_core.specs.inside.AtSites.{MayReactAt, ReactsAt}
 use Rattle.net_core.specs.Whole.{AllFit}
-use Rattle.net_core.proofs.Fitting.{Fits, fits_at}
+use Rattle.net_core.proofs.Fitting.{fits_at}
 
 pub told_at : (c : CodeParts) (t : Tree) (s : Site) (p : Pick) (x : Picked)
     → is_in_code c t s ≡ true → Picks c s p x → IsToldAs x
 told_at c t s p x h picks = told_as c s p x picks (level_at c t s p.group x.group h picks.group)
 
 pub fits_or : (c : CodeParts) (t : Tree) (sites : List Site) (i : ℕ) (s d : Site) → AllFit c t sites
-    → slice_get sites i ≡ Some s → Fits c t (slice_index_or sites i d)
+    → slice_get sites i ≡ Some s → CanAct c t (slice_index_or sites i d)
 fits_or c t sites i s d h at =
-    subst (Fits c t) (sym (get_or_from_slice_get sites i s d at)) (fits_at c t sites i s h at)
+    subst (CanAct c t) (sym (get_or_from_slice_get sites i s d at)) (fits_at c t sites i s h at)
 
 -- at one of the sites, as at that site
 module _ (c : CodeParts) (t : Tree) (sites : List Site) (i : ℕ) (d : Site) (q : Pick) where
@@ -54,7 +55,7 @@ module _ (c : CodeParts) (t : Tree) (sites : List Site) (i : ℕ) (d : Site) (q 
   )
 
   pub ready_here : MayReactAt c t sites i q → AllFit c t sites
-      → IsReadyForCalls c t (slice_index_or sites i d)
+      → CanAct c t (slice_index_or sites i d)
   ready_here may fit =
       let fits = fits_or c t sites i may.site d fit may.site_is in
       record { in_tree = fits.in_tree; in_code = fits.in_code; draws = fits.draws }

@@ -21,7 +21,8 @@ use Rattle.net_core.specs.declared.parts.Parts.{Parts}
 use Rattle.net_core.specs.declared.senders.Run.{Run}
 use Rattle.net_core.specs.declared.slots.Slot.{Slot}
 use Rattle.net_core.specs.declared.turn.Work.{Work}
-use Rattle.net_core.specs.inside.Alone.{IsAlone, IsReadyForCalls, IsWorked}
+use Rattle.site_turn.specs.Next.{CanAct}
+use Rattle.net_core.specs.inside.Alone.{IsAlone, IsWorked}
 use Rattle.net_core.specs.Lending.{mail_to, WorksAlone, AllAreLent, no_site, a_site, AreSentInTurn}
 use Rattle.net_core.specs.Lending.{no_sender, a_sender}
 use Rattle.net_core.specs.Parts.{joined, all_carried, IsMessageFlight, net_of}
@@ -46,7 +47,7 @@ use Rattle.net_core.proofs.SomeSchedule.{turns_within, length_range}
 
 -- how far a site is after its turn
 pub record IsDone (c : CodeParts) (t : Tree) (most : ℕ) (s : Site) : Type 0 where
-  pub fits : IsReadyForCalls c t s
+  pub fits : CanAct c t s
   pub made : s.made ≤ most
 
 -- the sites have the numbers from i on

@@ -1,100 +1,47 @@
 // Deliveries of packets that are under way.
 ghost use Rattle.std.specs.Prelude.{◌≡◌, ℕ, ◌<◌, ◌≤◌, ◌++◌, List, Some, length, slice_get};
-ghost use Rattle.std.specs.Prelude.{true, IfOk, OnOk, OnErr, IsSome};
-ghost use Rattle.wire_packet.specs.MessageFacts.{MessageParts};
-ghost use Rattle.wire_packet.specs.declared.parcel.Packet.TheVariants as sent;
+ghost use Rattle.std.specs.Prelude.{true, IfOk, OnOk, OnErr};
 ghost use Rattle.env_store.specs.CodeParts.{CodeParts};
 ghost use Rattle.net_laws.specs.Site.{Site as site_seen};
 ghost use Rattle.router.specs.Delivering.{can_deliver};
+ghost use Rattle.site_turn.specs.Next.{CanAct};
+ghost use Rattle.site_turn.specs.Bringing.{Brings};
 ghost use Rattle.net_core.specs.declared.choice.Choice.TheVariants as choices;
 ghost use Rattle.net_core.specs.Acting.{Delivers};
 ghost use Rattle.net_core.specs.Parts.{without, message_in, IsMessageText, net_of};
 ghost use Rattle.net_core.specs.Senders.{IsSentBy};
 ghost use Rattle.net_core.specs.Whole.{AllFit, IsWhole};
-ghost use Rattle.net_core.specs.inside.Alone.{IsReadyForCalls};
-ghost use Rattle.net_core.specs.inside.Delivering.{IsBroughtTo, GoesOn, IsTextBrought};
 ghost use Rattle.net_core.specs.inside.Delivering.{IsTextBroughtAt};
 
 use crate::handing::add_last;
 use crate::parts::Parts;
 use chem_model::{Items, Memory};
 use loc_tree::LocTree;
-use router::{Delivery, deliver};
 use site_solution::Site;
+use site_turn::{bring, read_text};
 use std::alloc::Global;
 use std::collections::VecDeque;
-use wire_packet::{DecodeEnd, Flight, Flights, Msg, Packet, decode};
+use wire_packet::{Flight, Flights};
 
-// The message of a packet that is one.
-fn message_of(packet: Packet) -> Msg
-    requires { (m : MessageParts) × (packet ≡ sent.Message m) }
-    ensures { (m : MessageParts) → packet ≡ sent.Message m → result ≡ m }
-{
-    match packet {
-        Packet::Message(msg) => msg,
-        Packet::Parcel(_) => unreachable!(),
-    }
-}
-
-// The message that bytes spell.
-fn read_message(alloc: Global, bytes: &[u8]) -> Result<Msg, Memory>
-    requires { IsMessageText bytes.now }
-    ensures { IfOk result (λ msg. msg ≡ message_in bytes.now) }
-{
-    match decode(alloc, bytes) {
-        Ok(packet) => Ok(message_of(packet)),
-        Err(DecodeEnd::Memory) => Err(Memory),
-        Err(DecodeEnd::Bad { .. }) => unreachable!(),
-    }
-}
-
-// Brings a message to a site: it is put there, or the answer is the site to which it goes on.
-fn bring(site: &mut Site, tree: &LocTree, msg: Msg) -> Result<Option<u32>, Memory>
-    requires { can_deliver tree.now site.old msg ≡ true }
-    ensures ok { IfOk result (λ on. IsBroughtTo tree.now site.old msg on site.new) }
-    ensures fit { OnOk result ((c : CodeParts) → IsReadyForCalls c tree.now site.old
-        → IsReadyForCalls c tree.now site.new) }
-    ensures err { OnErr result (site.new ≡ site.old) }
-{
-    match deliver(site, tree, msg) {
-        Ok(Delivery::Delivered) => Ok(None),
-        Ok(Delivery::Forward(target, _)) => Ok(Some(target)),
-        Err(back) => Err(back.1),
-    }
-}
-
-// The flight with these bytes to the site to which it goes on, if it does.
-fn onward(alloc: Global, bytes: &[u8], on: Option<u32>) -> Result<Flights, Memory>
-    ensures ok { IfOk result (λ more. GoesOn bytes.now on more) }
-    ensures err { OnErr result (IsSome on) }
-{
-    let mut more = Items::new(alloc);
-    if let Some(target) = on {
-        let bytes = Items::from_slice(alloc, bytes)?;
-        more.push(Flight { target, bytes })?;
-    }
-    Ok(more)
-}
-
-// Brings the message that bytes spell to a site: it is put there, or the answer is the flight that
-// goes on.
+// Brings the message that bytes spell to a site: it is put there, or its flight goes behind those
+// that go on.
 pub(crate) fn bring_text(
     alloc: Global,
     site: &mut Site,
     tree: &LocTree,
     bytes: &[u8],
-) -> Result<Flights, Memory>
+    on: &mut Flights,
+) -> Result<(), Memory>
     requires spelled { IsMessageText bytes.now }
     requires can { can_deliver tree.now site.old (message_in bytes.now) ≡ true }
-    ensures ok { IfOk result (λ more.
-        IsTextBrought tree.now site.old bytes.now more site.new) }
-    ensures fit { OnOk result ((c : CodeParts) → IsReadyForCalls c tree.now site.old
-        → IsReadyForCalls c tree.now site.new) }
+    ensures ok { OnOk result (Brings tree.now site.old (message_in bytes.now) bytes.now on.old
+        site.new on.new) }
+    ensures fit { OnOk result ((c : CodeParts) → CanAct c tree.now site.old
+        → CanAct c tree.now site.new) }
     ensures err { OnErr result (site.new ≡ site.old) }
 {
-    let msg = read_message(alloc, bytes)?;
-    let on = bring(site, tree, msg)?;
-    onward(alloc, bytes, on)
+    let msg = read_text(alloc, bytes)?;
+    bring(alloc, site, tree, msg, bytes, on)
 }
 
 // Brings the message that bytes spell to the site with this number.
@@ -115,8 +62,10 @@ pub(crate) fn bring_to_target(
         → AllFit c tree.now sites.new) }
     ensures err { OnErr result (sites.new ≡ sites.old) }
 {
+    let mut more = Items::new(alloc);
     let site = &mut sites[target as usize];
-    bring_text(alloc, site, tree, bytes)
+    bring_text(alloc, site, tree, bytes, &mut more)?;
+    Ok(more)
 }
 
 // Takes a flight out, and adds what goes on behind all others. It takes no memory.

@@ -12,7 +12,7 @@ ghost use Rattle.net_core.specs.inside.Handing.{AreAsBefore};
 ghost use Rattle.net_core.specs.Parts.{net_of};
 ghost use Rattle.net_core.specs.Whole.{IsWhole};
 
-use crate::handing::{add_births, add_flights, make_room};
+use crate::handing::{add_flights, make_room};
 use crate::meeting::{detect_at, halt_at};
 use crate::moving::{cross, move_at};
 use crate::parts::Parts;
@@ -22,6 +22,7 @@ use chem_model::{AtomId, Event, Memory, Nums};
 use env_store::Code;
 use reducer::{Pick, births, sends};
 use site_solution::Site;
+use site_turn::add_births;
 use std::alloc::Global;
 
 // Meets a request of the site with this number to detect a failure.
@@ -156,8 +157,7 @@ pub(crate) fn move_over(
         &mut parts.sites,
         &mut parts.tree,
         code,
-        from,
-        into,
+        (from, into),
         atom,
     )?;
     add_piece(&mut parts.trace, effects.outs);

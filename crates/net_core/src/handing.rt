@@ -1,14 +1,10 @@
-// What an event hands out: births, observables and packets. First all the memory that they take,
-// and then what takes none.
-ghost use Rattle.std.specs.Prelude.{◌≡◌, ◌+◌, ◌<◌, ◌≤◌, ◌^◌, ◌++◌, length, OnOk, OnErr};
+// What an event hands out: first all the memory that it takes, and then what takes none.
+ghost use Rattle.std.specs.Prelude.{◌≡◌, ◌+◌, ◌<◌, ◌≤◌, ◌^◌, ◌++◌, length, OnOk};
 ghost use Rattle.std.specs.VecDeque.{deque_len, deque_capacity};
-ghost use Rattle.net_laws.specs.Net.{with_births};
-ghost use Rattle.net_laws.specs.Opened.{AreNew};
 ghost use Rattle.net_core.specs.inside.Handing.{AreAsBefore, HaveRoom};
 
 use crate::parts::Parts;
-use chem_model::{Loc, Memory, Outs};
-use loc_tree::LocTree;
+use chem_model::Memory;
 use std::alloc::Global;
 use std::collections::VecDeque;
 use wire_packet::{Flight, Flights};
@@ -30,18 +26,6 @@ pub(crate) fn make_room(
     parts.flights.reserve(sends as usize)?;
     parts.tree.reserve(alloc, births)?;
     Ok(())
-}
-
-// Adds locations that the site with this number has born. It takes no memory.
-pub(crate) fn add_births(tree: &mut LocTree, births: &[Loc], site: u32)
-    requires new { AreNew tree.old site births.now }
-    requires room { length births.now ≤ tree.old.spare }
-    requires site { site < tree.old.roots }
-    ensures { tree.new ≡ with_births tree.old site births.now }
-{
-    for birth in births {
-        tree.birth(*birth, site);
-    }
 }
 
 // Packets go behind all others, where there is room for them. It takes no memory.

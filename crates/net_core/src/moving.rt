@@ -36,27 +36,27 @@ pub(crate) fn move_at(
     move_within(alloc, site, tree, counts, atom)
 }
 
-// Meets a request of one site to go to a location that another one hosts.
+// Meets a request of the first of two sites to go to a location that the second one hosts.
 pub(crate) fn cross(
     alloc: Global,
     sites: &mut [Site],
     tree: &mut LocTree,
     code: &Code,
-    from: usize,
-    into: usize,
+    ends: (usize, usize),
     atom: &AtomId,
 ) -> Result<Effects, Memory>
-    requires may { MayCrossAt 2 tree.old sites.old from into atom.now }
+    requires may { MayCrossAt 2 tree.old sites.old ends.0 ends.1 atom.now }
     requires fit { AllFit code.now tree.old sites.old }
     requires numbered { AreNumbered sites.old }
-    ensures ok { IfOk result (λ effects. (s u : site_seen) → slice_get sites.old from ≡ Some s
-        → slice_get sites.old into ≡ Some u
-        → CrossesAt code.now.seen tree.old tree.new from into atom.now s u
+    ensures ok { IfOk result (λ effects. (s u : site_seen) → slice_get sites.old ends.0 ≡ Some s
+        → slice_get sites.old ends.1 ≡ Some u
+        → CrossesAt code.now.seen tree.old tree.new ends.0 ends.1 atom.now s u
         sites.old sites.new effects) }
     ensures fit { OnOk result (AllStayFit code.now tree.new sites.new) }
     ensures err { OnErr result (sites.new ≡ sites.old) }
     ensures err_tree { OnErr result (tree.new ≡ tree.old) }
 {
+    let (from, into) = ends;
     if from < into {
         let (front, back) = sites.split_at_mut(into);
         move_between(alloc, &mut front[from], &mut back[0], tree, code, atom)

@@ -12,7 +12,7 @@ ghost use Rattle.net_core.specs.inside.Handing.{HandsOut};
 ghost use Rattle.net_core.specs.Senders.{opened_froms};
 ghost use Rattle.net_core.specs.inside.Starting.{IsUpTo, AreSentUpTo};
 
-use crate::handing::{add_births, add_flights, make_room};
+use crate::handing::{add_flights, make_room};
 use crate::net::Net;
 use crate::parts::Parts;
 use crate::pieces::add_piece;
@@ -21,6 +21,7 @@ use chem_model::{Memory, Program};
 use env_store::Code;
 use reducer::{first_tree, opening};
 use site_solution::Effects;
+use site_turn::add_births;
 use std::alloc::Global;
 use std::collections::VecDeque;
 

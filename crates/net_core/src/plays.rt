@@ -1,5 +1,5 @@
 // Lists of choices.
-ghost use Rattle.std.specs.Prelude.{◌≡◌, ◌+◌, ◌-◌, ◌<◌, ◌≤◌, ◌^◌, length, Ok, IfOk, OnOk, OnErr};
+ghost use Rattle.std.specs.Prelude.{◌≡◌, ◌+◌, ◌-◌, ◌<◌, ◌^◌, length, Ok, IfOk, OnOk, OnErr};
 ghost use Rattle.net_core.specs.Choosing.{Allows};
 ghost use Rattle.net_core.specs.Played.{HasPlayed};
 ghost use Rattle.net_core.specs.inside.PlayedSoFar.{MakesMore};

@@ -1,36 +1,17 @@
 // Reactions at one of the sites.
 ghost use Rattle.std.specs.Prelude.{◌≡◌, Some, slice_get, IfOk, OnErr};
 ghost use Rattle.net_laws.specs.Site.{Site as site_seen};
-ghost use Rattle.reducer.specs.Picks.{Picked, Picks, MayFire};
-ghost use Rattle.net_core.specs.inside.Alone.{IsReadyForCalls, ReactsBy};
+ghost use Rattle.reducer.specs.Picks.{Picked, Picks};
 ghost use Rattle.net_core.specs.inside.AtSites.{MayReactAt, ReactsAt};
 ghost use Rattle.net_core.specs.Whole.{AllFit};
 
 use chem_model::{Event, Memory};
 use env_store::Code;
 use loc_tree::LocTree;
-use reducer::{Pick, event_of, react};
+use reducer::Pick;
 use site_solution::{Effects, Site};
+use site_turn::react_by;
 use std::alloc::Global;
-
-// Makes the reaction of a pick. The births have to be added to the tree.
-pub(crate) fn react_by(
-    alloc: Global,
-    site: &mut Site,
-    code: &Code,
-    tree: &LocTree,
-    pick: &Pick,
-) -> Result<(Event, Effects), Memory>
-    requires fires { MayFire code.now tree.now site.old pick.now }
-    requires fit { IsReadyForCalls code.now tree.now site.old }
-    ensures ok { IfOk result (λ done.
-        ReactsBy code.now tree.now site.old pick.now done.0 done.1 site.new) }
-    ensures err { OnErr result (site.new ≡ site.old) }
-{
-    let event = event_of(alloc, site, code, pick)?;
-    let effects = react(alloc, site, code, tree, pick)?;
-    Ok((event, effects))
-}
 
 // Makes the reaction of a pick at the site with this number.
 pub(crate) fn react_at(

@@ -7,13 +7,20 @@ ghost use Rattle.net_core.specs.Working.{HasWorked};
 use crate::net::Net;
 use crate::parts::Parts;
 use crate::senders::Run;
-use crate::slots::{lend, slots_of, take_all_back};
+use crate::slots::{Round, lend, slots_of, take_all_back};
 use chem_model::{Items, Journal, Memory};
 use env_store::Code;
 use std::alloc::Global;
 use std::collections::VecDeque;
 use std::mem;
 use std::thread::Threads;
+
+// Among how many workers a round is shared, and how many events each site makes at most.
+#[derive(Clone, Copy)]
+struct Limits {
+    workers: u32,
+    quota: u32,
+}
 
 // Lends each site to one of the workers, and takes all back. Where there is no memory, the parts
 // are not whole any more.
@@ -23,30 +30,28 @@ fn round_of<R: Threads + Sync>(
     parts: &mut Parts,
     senders: &mut VecDeque<Run>,
     code: &Code,
-    workers: u32,
-    quota: u32,
+    limits: Limits,
 ) -> Result<Journal, Memory>
-    requires workers { 1 ≤ workers }
-    requires few { (events : ℕ) × (events + quota * length parts.old.sites.items < 2 ^ 32 - 1)
+    requires workers { 1 ≤ limits.workers }
+    requires few { (events : ℕ)
+        × (events + limits.quota * length parts.old.sites.items < 2 ^ 32 - 1)
         × IsWhole code.now parts.old events }
     ensures round { IfOk result (λ journal.
-        HasRound code.now quota parts.old parts.new journal) }
-    ensures sent { OnOk result (HasSent code.now quota parts.old parts.new senders.new.items) }
+        HasRound code.now limits.quota parts.old parts.new journal) }
+    ensures sent { OnOk result
+        (HasSent code.now limits.quota parts.old parts.new senders.new.items) }
 {
     let flights = mem::replace(&mut parts.flights, VecDeque::new(alloc));
     let mail = flights.into_vec();
     let sites = mem::replace(&mut parts.sites, Vec::new(alloc));
     let mut slots = slots_of(alloc, sites)?;
-    lend(
-        rt,
-        alloc,
+    let round = Round {
         code,
-        &parts.tree,
-        mail.as_slice(),
-        quota,
-        workers,
-        slots.as_mut_slice(),
-    );
+        tree: &parts.tree,
+        flights: mail.as_slice(),
+        quota: limits.quota,
+    };
+    lend(rt, alloc, round, limits.workers, slots.as_mut_slice());
     drop(mail);
     parts.under_way = 0;
     senders.clear();
@@ -86,7 +91,8 @@ impl Net {
             mut senders,
             events,
         } = self;
-        match round_of(rt, alloc, &mut parts, &mut senders, &code, workers, quota) {
+        let limits = Limits { workers, quota };
+        match round_of(rt, alloc, &mut parts, &mut senders, &code, limits) {
             Ok(journal) => {
                 let events = events + journal.len() as u32;
                 let net = Net {

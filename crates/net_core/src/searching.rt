@@ -1,6 +1,6 @@
 // Which choice of a network is enabled, and which comes next, by its parts. It takes no memory.
-ghost use Rattle.std.specs.Prelude.{◌≡◌, ℕ, ◌<◌, ◌^◌, ◌↔◌, length, slice_get, Some};
-ghost use Rattle.std.specs.Prelude.{IfSome, IfNone, IsTrue, true};
+ghost use Rattle.std.specs.Prelude.{◌≡◌, ◌<◌, ◌^◌, ◌↔◌, length, Some};
+ghost use Rattle.std.specs.Prelude.{IfSome, IfNone, IsTrue};
 ghost use Rattle.chem_model.specs.Each.{Each};
 ghost use Rattle.wire_packet.specs.GroupFacts.{RequestParts};
 ghost use Rattle.env_store.specs.CodeParts.{CodeParts};
@@ -24,7 +24,8 @@ use failure::{dead_for, halt_ready};
 use loc_tree::LocTree;
 use migration::move_ready;
 use reducer::{Pick, births, code_is_kept, may_fire, ready};
-use site_solution::{Site, site_is_kept};
+use site_solution::Site;
+use site_turn::least_met;
 use wire_packet::{Ask, Request};
 
 // ---- reactions
@@ -134,15 +135,10 @@ fn least_at(site: &Site, tree: &LocTree, version: u32) -> Option<Request>
     ensures none { IfNone result ((r : RequestParts) → IsMeetable version tree.now site.now r → ⊥) }
     ensures some { IfSome result (IsLeastAt version tree.now site.now) }
 {
-    site_is_kept(site);
-    let mut index = 0;
-    while let Some(request) = site.request_at(index) {
-        if meets(site, tree, version, &choice_for(request)) {
-            return Some(*request);
-        }
-        index += 1;
+    match least_met(site, tree, version) {
+        Some(atom) => Some(site.asked(&atom)),
+        None => None,
     }
-    None
 }
 
 fn comes_before(one: AtomId, other: AtomId) -> bool

@@ -38,18 +38,28 @@ pub(crate) fn slots_of(alloc: Global, sites: Vec<Site>) -> Result<Vec<Slot>, Mem
     Ok(slots)
 }
 
+// What all turns of a round have in common: the code, the tree and the packets under way as they
+// were when it began, and the quota.
+#[derive(Clone, Copy)]
+pub(crate) struct Round<'a> {
+    pub(crate) code: &'a Code,
+    pub(crate) tree: &'a LocTree,
+    pub(crate) flights: &'a [Flight],
+    pub(crate) quota: u32,
+}
+
 // The site of a slot has its turn.
-fn serve(
-    alloc: Global,
-    code: &Code,
-    tree: &LocTree,
-    flights: &[Flight],
-    quota: u32,
-    slot: &mut Slot,
-)
-    requires { CanWork code.now tree.now flights.now quota slot.old }
-    ensures { IsServed code.now tree.now flights.now quota slot.old slot.new }
+fn serve(alloc: Global, round: Round<'_>, slot: &mut Slot)
+    requires { CanWork round.code.now round.tree.now round.flights.now round.quota slot.old }
+    ensures { IsServed round.entry.code.now round.entry.tree.now round.entry.flights.now
+        round.entry.quota slot.old slot.new }
 {
+    let Round {
+        code,
+        tree,
+        flights,
+        quota,
+    } = round;
     slot.work = match take_turn(alloc, &mut slot.site, code, tree, flights, quota) {
         Ok(work) => Some(work),
         Err(Memory) => None,
@@ -60,22 +70,21 @@ fn serve(
 pub(crate) fn lend<R: Threads + Sync>(
     rt: &R,
     alloc: Global,
-    code: &Code,
-    tree: &LocTree,
-    flights: &[Flight],
-    quota: u32,
+    round: Round<'_>,
     workers: u32,
     slots: &mut [Slot],
 )
     requires workers { 1 ≤ workers }
-    requires each { All (CanWork code.now tree.now flights.now quota) slots.old }
-    ensures { Pairwise (IsServed code.now tree.now flights.now quota) slots.old slots.new }
+    requires each { All
+        (CanWork round.code.now round.tree.now round.flights.now round.quota) slots.old }
+    ensures { Pairwise (IsServed round.entry.code.now round.entry.tree.now round.entry.flights.now
+        round.entry.quota) slots.old slots.new }
 {
     thread::for_each_mut(
         rt,
         slots,
         workers as usize,
-        &|_, slot| { serve(alloc, code, tree, flights, quota, slot) },
+        &|_, slot| { serve(alloc, round, slot) },
     );
 }
 

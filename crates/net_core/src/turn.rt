@@ -1,28 +1,26 @@
 // A turn of a site, while it is lent: its mail is worked off, and then it reacts.
-ghost use Rattle.std.specs.Prelude.{◌≡◌, ℕ, ◌+◌, ◌<◌, ◌^◌, [], true, IfSome};
+ghost use Rattle.std.specs.Prelude.{◌≡◌, ℕ, ◌+◌, ◌<◌, ◌^◌, [], IfSome};
 ghost use Rattle.std.specs.Prelude.{IfNone, IfOk, OnOk, IsTrue};
 ghost use Rattle.chem_model.specs.Each.{Each};
-ghost use Rattle.env_store.specs.CodeParts.{CodeParts};
 ghost use Rattle.site_solution.specs.InTree.{is_in_tree};
 ghost use Rattle.site_solution.specs.InCode.{is_in_code};
 ghost use Rattle.reducer.specs.Picks.{MayFire};
-ghost use Rattle.router.specs.Delivering.{can_deliver};
-ghost use Rattle.net_core.specs.inside.Alone.{IsAlone, IsReadyForCalls, Arrives};
-ghost use Rattle.net_core.specs.inside.Alone.{HasArrived};
+ghost use Rattle.site_turn.specs.Next.{CanAct};
+ghost use Rattle.net_core.specs.inside.Alone.{IsAlone, HasArrived};
 ghost use Rattle.net_core.specs.inside.Alone.{IsNextHere, NoneIsNext, IsNoted};
 ghost use Rattle.net_core.specs.inside.Alone.{ReactsAndNotes};
 ghost use Rattle.net_core.specs.inside.Alone.{HasReacted};
 ghost use Rattle.net_core.specs.inside.Alone.{IsWorked};
 ghost use Rattle.net_core.specs.Lending.{mail_to};
-ghost use Rattle.net_core.specs.Parts.{message_in, all_carried, IsMessageFlight};
+ghost use Rattle.net_core.specs.Parts.{all_carried, IsMessageFlight};
 
 use crate::delivering::bring_text;
-use crate::reacting::react_by;
 use chem_model::{Event, Items, Journal, Memory, Outs};
 use env_store::Code;
 use loc_tree::LocTree;
 use reducer::{Pick, births, ready};
 use site_solution::{Effects, Site};
+use site_turn::react_by;
 use std::alloc::Global;
 use wire_packet::{Flight, Flights};
 
@@ -42,24 +40,6 @@ pub(crate) struct Work {
 }
 
 // ---- mail
-
-// Brings a flight to a site: its message is put there, or it goes behind those that go on.
-fn arrive(
-    alloc: Global,
-    site: &mut Site,
-    tree: &LocTree,
-    flight: &Flight,
-    on: &mut Flights,
-) -> Result<(), Memory>
-    requires flight { IsMessageFlight flight.now }
-    requires can { can_deliver tree.now site.old (message_in flight.now.bytes) ≡ true }
-    ensures arrives { OnOk result (Arrives tree.now site.old flight.now on.old site.new on.new) }
-    ensures fit { OnOk result ((c : CodeParts) → IsReadyForCalls c tree.now site.old
-        → IsReadyForCalls c tree.now site.new) }
-{
-    let mut more = bring_text(alloc, site, tree, flight.bytes.as_slice())?;
-    on.append(&mut more)
-}
 
 // Works the mail of a site off: those of the flights that go to it, in order.
 fn work_off(
@@ -84,7 +64,8 @@ fn work_off(
     let mut on = Items::new(alloc);
     for flight in flights {
         if flight.target == number {
-            arrive(alloc, site, tree, flight, &mut on)?;
+            let bytes = flight.bytes.as_slice();
+            bring_text(alloc, site, tree, bytes, &mut on)?;
         }
     }
     Ok(on)
@@ -125,7 +106,7 @@ fn react_once(
     made: &mut Made,
 ) -> Result<(), Memory>
     requires fires { MayFire code.now tree.now site.old pick.now }
-    requires fit { IsReadyForCalls code.now tree.now site.old }
+    requires fit { CanAct code.now tree.now site.old }
     ensures { OnOk result (ReactsAndNotes code.now tree.now site.old pick.now made.old site.new
         made.new) }
 {

@@ -5,17 +5,9 @@ pub mod Going
 pub mod Excludes
 pub mod Counting
 pub mod Agreeing
-pub mod Requests
-pub mod Coming
 pub mod Offering
-pub mod Dropping
-pub mod Bearing
 pub mod Opening
-pub mod Choices
-pub mod Acting
-pub mod Asking
 pub mod Results
-pub mod Births
 pub mod Posting
 pub mod Starting
 pub mod Owners

@@ -4,8 +4,8 @@ use Rattle.std.specs.Prelude.{Result, Ok, Err, IfOk}
 use Rattle.chem_model.specs.declared.memory.Memory.{Memory}
 use Rattle.chem_model.specs.declared.event.Event.{Event}
 use Rattle.trace_history.specs.Kept.{BookKept}
-use Rattle.shared_net.specs.declared.turn.Turn.{Turn}
-use Rattle.shared_net.specs.declared.turn.Turn.TheVariants.{Did, Passed, Nothing, NotEnabled, Full}
+use Rattle.site_turn.specs.declared.turn.Turn.{Turn}
+use Rattle.site_turn.specs.declared.turn.Turn.TheVariants.{Did, Passed, Nothing, NotEnabled, Full}
 use Rattle.shared_net.specs.Passes.{PassKept}
 use Rattle.shared_net.specs.Proposes.{IsFull, Proposes, pass_after}
 use Rattle.shared_net.specs.Proposes.{with_receipt}

@@ -36,40 +36,15 @@ use Rattle.net_laws.proofs.Trees.{births_roots}
 use Rattle.site_solution.specs.Answers.{IsFlightOf, AreFlights}
 use Rattle.site_solution.specs.declared.effects.Effects.{Effects}
 use Rattle.reducer.specs.Opens.{Opens}
-use Rattle.shared_net.specs.Mail.{IsMessageText, AreSpelled}
-use Rattle.shared_net.specs.Making.{IsSameTree}
+use Rattle.site_turn.specs.Mail.{IsMessageText, AreSpelled}
+use Rattle.site_turn.specs.After.{IsSameTree}
 use Rattle.shared_net.specs.Preparing.{messages_to, IsMailOf, IsOpenedAs}
 use Rattle.shared_net.specs.inside.Beginning.{with_text, with_flights, IsUpTo}
-use Rattle.shared_net.proofs.Bearing.{births_same, roomy}
-use Rattle.shared_net.proofs.Coming.{spelled_more}
+use Rattle.site_turn.proofs.Bearing.{births_same, roomy}
+use Rattle.site_turn.proofs.Coming.{spelled_more}
+use Rattle.site_turn.proofs.Room.{run_same}
 
 -- ---- a tree's room is nothing to an opening
-
-bare_same : (t u : Tree) → IsSameTree t u → bare u ≡ bare t
-bare_same t u h = λ j. record { roots = h.roots j; entries = h.entries j; spare = 0 }
-
-post_bare : (t : Tree) (p : Posted) (s : Site) → post (bare t) p s ≡ post t p s
-post_bare t (a_message l m) s = refl
-post_bare t (a_request q) s = refl
-
-all_bare : (t : Tree) (ps : List Posted) (s : Site) → post_all (bare t) ps s ≡ post_all t ps s
-all_bare t [] s = refl
-all_bare t (p ∷ ps) s =
-    ap (λ (o : Outcome). let later = post_all (bare t) ps o.site in
-    record { site = later.site; sends = o.sends ++ later.sends }) (post_bare t p s)
-    ∙ ap
-    (λ (later : Outcome). record { site = later.site; sends = (post t p s).sends ++ later.sends })
-    (all_bare t ps (post t p s).site)
-
-run_bare : (c : CodeParts) (t : Tree) (a : Ran) (s : Site)
-    → run_here c (bare t) a s ≡ run_here c t a s
-run_bare c t a s = all_bare t (posted_of a.atoms)
-    (lay_all (all_told (told_by c) a.groups) (host_all a.births (record s { made = a.next })))
-
-pub run_same : (c : CodeParts) (t u : Tree) (a : Ran) (s : Site) → IsSameTree t u
-    → run_here c u a s ≡ run_here c t a s
-run_same c t u a s h = sym (run_bare c u a s)
-    ∙ ap (λ (v : Tree). run_here c v a s) (bare_same t u h) ∙ run_bare c t a s
 
 spot_same : (t u : Tree) (l : Loc) → IsSameTree t u → spot u l ≡ spot t l
 spot_same t u l h = ap (lookup (is_pair_of l)) h.entries

@@ -2,7 +2,7 @@
 use Rattle.std.proofs.Common.{ℕ, List, [], ◌∷◌, ◌++◌}
 use Rattle.chem_model.specs.Each.{Each}
 use Rattle.chem_laws.proofs.Lists.{Each-append}
-use Rattle.shared_net.specs.Mail.{IsMessageText}
+use Rattle.site_turn.specs.Mail.{IsMessageText}
 
 pub one_more : (texts : List (List ℕ)) (text : List ℕ) → Each IsMessageText texts
     → IsMessageText text → Each IsMessageText (texts ++ text ∷ [])

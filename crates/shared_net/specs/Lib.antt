@@ -9,9 +9,6 @@ pub mod PassLends
 pub mod Offers
 pub mod Net
 pub mod Turning
-pub mod Arriving
-pub mod Choosing
 pub mod inside
-pub mod Mail
 pub mod Making
 pub mod Preparing

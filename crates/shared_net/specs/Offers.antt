@@ -3,8 +3,8 @@
 use Rattle.std.specs.Prelude.{◌≡◌, ℕ, ◌<◌, ◌⊎◌, true, false, length}
 use Rattle.chem_model.specs.declared.event.Event.{Event}
 use Rattle.trace_history.specs.Kept.{BookKept, is_enabled}
-use Rattle.shared_net.specs.declared.turn.Turn.{Turn}
-use Rattle.shared_net.specs.declared.turn.Turn.TheVariants.{Did, Passed, Nothing, NotEnabled, Full}
+use Rattle.site_turn.specs.declared.turn.Turn.{Turn}
+use Rattle.site_turn.specs.declared.turn.Turn.TheVariants.{Did, Passed, Nothing, NotEnabled, Full}
 use Rattle.shared_net.specs.Passes.{PassKept}
 use Rattle.shared_net.specs.Proposes.{IsFull, IsBehind, HasRoom, book_after, pass_after}
 use Rattle.shared_net.specs.Proposes.{with_event, with_receipt}

@@ -6,8 +6,8 @@ use Rattle.loc_tree.specs.Tree.{Tree}
 use Rattle.net_laws.specs.Site.{Site}
 use Rattle.net_laws.specs.Net.{Addressed}
 use Rattle.net_laws.specs.Opened.{opened_net}
-use Rattle.shared_net.specs.Mail.{AreSpelled}
-use Rattle.shared_net.specs.Making.{IsSameTree}
+use Rattle.site_turn.specs.Mail.{AreSpelled}
+use Rattle.site_turn.specs.After.{IsSameTree}
 
 -- the messages that go to the site with this number, in order
 abbrev pub messages_to : ℕ → List Addressed → List MessageParts

@@ -1,8 +1,8 @@
 -- What a turn does to the pass of its worker, and what the workers leave of all passes.
 use Rattle.std.specs.Prelude.{◌≡◌, ℕ, List, map}
 use Rattle.chem_model.specs.declared.event.Event.{Event}
-use Rattle.shared_net.specs.declared.turn.Turn.{Turn}
-use Rattle.shared_net.specs.declared.turn.Turn.TheVariants.{Did, Passed, Nothing, NotEnabled, Full}
+use Rattle.site_turn.specs.declared.turn.Turn.{Turn}
+use Rattle.site_turn.specs.declared.turn.Turn.TheVariants.{Did, Passed, Nothing, NotEnabled, Full}
 use Rattle.shared_net.specs.Passes.{PassKept}
 use Rattle.shared_net.specs.Proposes.{with_receipt}
 use Rattle.shared_net.specs.Turns.{noted}

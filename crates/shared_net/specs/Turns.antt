@@ -1,7 +1,7 @@
 -- What a pass notes of a turn beside its receipts.
 use Rattle.std.specs.Prelude.{ℕ, ◌+◌, ◌==◌, true, cond}
-use Rattle.shared_net.specs.declared.turn.Turn.{Turn}
-use Rattle.shared_net.specs.declared.turn.Turn.TheVariants.{Did, Passed, Nothing, NotEnabled, Full}
+use Rattle.site_turn.specs.declared.turn.Turn.{Turn}
+use Rattle.site_turn.specs.declared.turn.Turn.TheVariants.{Did, Passed, Nothing, NotEnabled, Full}
 use Rattle.shared_net.specs.Passes.{PassKept}
 
 -- one idle turn more: a count that stays at the last number of 32 bits

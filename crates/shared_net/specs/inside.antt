@@ -1,8 +1,6 @@
 pub mod Receives
-pub mod Coming
 pub mod Crosses
 pub mod Beginning
 pub mod Walk
 pub mod Closes
 pub mod TurnParts
-pub mod Choosing

@@ -1,5 +1,5 @@
 // The end of a run on threads: all passes are compared with the book.
-ghost use Rattle.std.specs.Prelude.{◌≡◌, ℕ, ◌<◌, length, map, IfOk, IfErr, OnOk};
+ghost use Rattle.std.specs.Prelude.{◌≡◌, ℕ, ◌<◌, length, map, IfOk, OnOk};
 ghost use Rattle.chem_model.specs.Each.{Each};
 ghost use Rattle.shared_net.specs.Passes.{Rise};
 ghost use Rattle.shared_net.specs.Agrees.{row_of};

@@ -7,8 +7,6 @@ ghost use Rattle.shared_net.specs.Causes.{Compares};
 ghost use Rattle.shared_net.specs.inside.Walk.{slot_at, Looks, LooksAll, Marks};
 
 pub use crate::across::make_across;
-pub use crate::arriving::arrive;
-pub use crate::choosing::choose;
 use crate::differs::Differs;
 pub use crate::here::make_here;
 use crate::locked::Locked;
@@ -18,6 +16,7 @@ use crate::receipt::Receipt;
 use crate::run::Run;
 pub use crate::wide::make_wide;
 use chem_model::{AtomId, Event, Memory};
+pub use site_turn::{arrive, choose};
 use std::alloc::Global;
 
 /// Why the receipts of the passes don't agree with the locked book's journal. None exactly where

@@ -11,8 +11,6 @@
 #![tactic(auto)]
 
 mod across;
-mod arriving;
-mod choosing;
 mod closing;
 mod crossing;
 mod differs;
@@ -24,30 +22,26 @@ pub mod inside;
 mod lists;
 mod locked;
 mod mail;
-mod making;
 mod net;
 mod pass;
 mod preparing;
 mod receipt;
 mod report;
 mod run;
-mod turn;
 mod turning;
 mod wide;
 mod working;
 
-pub use choosing::Chosen;
 pub use closing::Closed;
 pub use differs::Differs;
 pub use gate::{Gate, OpenGate, Phase};
 pub use hold_gate::HoldGate;
 pub use lists::{Mails, Sites};
 pub use locked::Locked;
-pub use making::Made;
 pub use net::SharedNet;
 pub use pass::{Pass, Passes};
 pub use preparing::Opened;
 pub use receipt::{Receipt, Receipts, copy_receipts};
 pub use report::{Report, Worked, WorkedList, copy_worked};
 pub use run::Run;
-pub use turn::Turn;
+pub use site_turn::{Chosen, Made, Turn};

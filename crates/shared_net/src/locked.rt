@@ -4,15 +4,15 @@ ghost use Rattle.std.specs.Coded.{Coded-set};
 ghost use Rattle.chem_model.specs.ProgramCode.{program_code};
 ghost use Rattle.trace_history.specs.Book.{Commits};
 ghost use Rattle.shared_net.specs.Passes.{new_passes};
-ghost use Rattle.shared_net.specs.Offers.{Turned};
+ghost use Rattle.shared_net.specs.Offers.{Turned, Offers, IsUntouched};
 ghost use Rattle.shared_net.specs.Proposes.{HasRoom, IsFull, IsBehind, Proposes};
 ghost use Rattle.shared_net.specs.inside.Receives.{Receives};
 
 use crate::pass::{Pass, Passes};
 use crate::receipt::Receipt;
 use crate::run::Run;
-use crate::turn::Turn;
 use chem_model::{Event, Memory};
+use site_turn::Turn;
 use std::alloc::Global;
 use std::sync::ledger;
 use std::sync::ledger::{Blank, Share};
@@ -161,6 +161,24 @@ impl<L: Run> Locked<L> {
             Commit::Place(place) => Ok(Turn::Did(place)),
             Commit::NotEnabled => Ok(Turn::NotEnabled),
         }
+    }
+
+    // Proposes an event that can be made exactly where it fits.
+    pub(crate) fn offer(
+        &mut self,
+        alloc: Global,
+        pass: &mut Pass<L>,
+        event: &Event,
+        fits: bool,
+    ) -> Result<Turn, Memory>
+        ensures offered { IfOk result (λ turn.
+            Offers (IsTrue fits) self.old.book pass.old event.now turn self.new.book pass.new) }
+        ensures err { OnErr result (IsUntouched self.old.book pass.old self.new.book pass.new) }
+    {
+        if !fits && !self.is_full(pass) {
+            return Ok(Turn::Nothing);
+        }
+        self.propose(alloc, pass, event)
     }
 
     // The book, which has as many events as all passes together have in the ledger.

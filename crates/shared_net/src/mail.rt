@@ -1,7 +1,7 @@
 // The mailbox of a site, which stands behind a lock of its own.
 ghost use Rattle.std.specs.Prelude.{◌≡◌, [], ◌∷◌, ◌++◌, OnOk, OnErr};
 ghost use Rattle.chem_model.specs.Each.{Each};
-ghost use Rattle.shared_net.specs.Mail.{IsMessageText};
+ghost use Rattle.site_turn.specs.Mail.{IsMessageText};
 
 use chem_model::{Items, Memory, Text, Texts};
 use std::alloc::Global;
@@ -18,7 +18,7 @@ impl Model for Mailbox {
     ghost use Rattle.std.specs.Prelude.{List, ℕ};
     ghost use Rattle.std.specs.Coded.{coded_list, coded_ℕ};
     ghost use Rattle.chem_model.specs.Each.{Each};
-    ghost use Rattle.shared_net.specs.Mail.{IsMessageText};
+    ghost use Rattle.site_turn.specs.Mail.{IsMessageText};
 
     ghost Value = { List (List ℕ) };
 

@@ -5,7 +5,7 @@ ghost use Rattle.env_store.specs.Reading.{IsCodeOf};
 ghost use Rattle.shared_net.specs.Agrees.{row_of};
 ghost use Rattle.shared_net.specs.Causes.{DifferInNumber};
 ghost use Rattle.shared_net.specs.Closes.{HaveBudget, Closes};
-ghost use Rattle.shared_net.specs.Mail.{IsMessageText};
+ghost use Rattle.site_turn.specs.Mail.{IsMessageText};
 ghost use Rattle.shared_net.specs.Net.{IsCountOfSites};
 ghost use Rattle.shared_net.specs.Passes.{new_passes};
 ghost use Rattle.shared_net.specs.Preparing.{IsOpenedAs};
@@ -42,6 +42,13 @@ pub(crate) struct LockedSites {
 #[derive(Drop)]
 pub(crate) struct LockedMail {
     pub(crate) list: Vec<Mutex<Mailbox>>,
+}
+
+// Sites and their mail, each behind a lock of its own.
+#[derive(Drop)]
+struct LockedBoth {
+    sites: LockedSites,
+    mail: LockedMail,
 }
 
 // All of a network but its book. It has no type parameter, so that threads may share it whatever
@@ -135,14 +142,14 @@ fn are_opened(program: &Program, code: &Code, tree: &LocTree, sites: &Sites, mai
 }
 
 // Sites and their mail, behind their locks.
-fn lock_both(alloc: Global, sites: Sites, mail: Mails) -> Result<(LockedSites, LockedMail), Memory>
+fn lock_both(alloc: Global, sites: Sites, mail: Mails) -> Result<LockedBoth, Memory>
     requires spelled { Each (Each IsMessageText) mail }
-    ensures sites { IfOk result (λ both. vec_len both.0.list ≡ length sites) }
-    ensures mail { IfOk result (λ both. vec_len both.1.list ≡ length mail) }
+    ensures sites { IfOk result (λ both. vec_len both.sites.list ≡ length sites) }
+    ensures mail { IfOk result (λ both. vec_len both.mail.list ≡ length mail) }
 {
     match lock_sites(alloc, sites.into_vec()) {
         Ok(sites) => match lock_mail(alloc, mail.into_vec()) {
-            Ok(mail) => Ok((sites, mail)),
+            Ok(mail) => Ok(LockedBoth { sites, mail }),
             Err(memory) => {
                 drop(sites);
                 Err(memory)
@@ -169,67 +176,84 @@ fn copies(alloc: Global, program: &Program, code: &Code) -> Result<(Program, Cod
     }
 }
 
-// All of a network but its book.
+// All of a network but its book: copies of the program and its code, and the rest behind its locks.
 fn parts_of(
     alloc: Global,
     program: &Program,
     code: &Code,
     budget: u32,
     tree: LocTree,
-    sites: LockedSites,
-    mail: LockedMail,
+    both: LockedBoth,
 ) -> Result<Parts, Memory>
-    requires some { IsCountOfSites (vec_len sites.list) }
-    requires boxes { vec_len mail.list ≡ vec_len sites.list }
+    requires some { IsCountOfSites (vec_len both.sites.list) }
+    requires boxes { vec_len both.mail.list ≡ vec_len both.sites.list }
     ensures { IfOk result (λ parts. parts ≡ record {
       program = program.now;
       budget = budget;
-      sites = vec_len sites.list;
+      sites = vec_len both.sites.list;
     }) }
 {
     match copies(alloc, program, code) {
-        Ok((program, code)) => Ok(Parts {
-            program,
-            code,
-            budget,
-            tree: LockedTree {
+        Ok((program, code)) => {
+            let LockedBoth { sites, mail } = both;
+            let tree = LockedTree {
                 lock: RwLock::new(tree),
-            },
-            sites,
-            mail,
-        }),
+            };
+            Ok(Parts {
+                program,
+                code,
+                budget,
+                tree,
+                sites,
+                mail,
+            })
+        }
         Err(memory) => {
             drop(tree);
-            drop(sites);
-            drop(mail);
+            drop(both);
             Err(memory)
         }
     }
 }
 
-// Puts all that was opened but the book behind its locks.
-fn lock_all(
+// Puts all that was opened behind its locks.
+fn lock_all<L: Run>(
     alloc: Global,
     program: &Program,
     code: &Code,
     budget: u32,
-    tree: LocTree,
-    sites: Sites,
-    mail: Mails,
-) -> Result<Parts, Memory>
-    requires some { IsCountOfSites (length sites) }
-    requires boxes { length mail ≡ length sites }
-    requires spelled { Each (Each IsMessageText) mail }
-    ensures { IfOk result (λ parts. parts ≡ record {
+    opened: Opened<L>,
+) -> Result<SharedNet<L>, Memory>
+    requires some { IsCountOfSites (length opened.sites) }
+    requires boxes { length opened.mail ≡ length opened.sites }
+    requires spelled { Each (Each IsMessageText) opened.mail }
+    requires program { program.now ≡ L.program }
+    ensures { IfOk result (λ net. net ≡ record {
       program = program.now;
       budget = budget;
-      sites = length sites;
+      sites = length opened.sites;
     }) }
 {
+    let Opened {
+        tree,
+        sites,
+        mail,
+        locked,
+    } = opened;
     match lock_both(alloc, sites, mail) {
-        Ok((sites, mail)) => parts_of(alloc, program, code, budget, tree, sites, mail),
+        Ok(both) => match parts_of(alloc, program, code, budget, tree, both) {
+            Ok(parts) => Ok(SharedNet {
+                parts,
+                locked: Mutex::new(locked),
+            }),
+            Err(memory) => {
+                drop(locked);
+                Err(memory)
+            }
+        },
         Err(memory) => {
             drop(tree);
+            drop(locked);
             Err(memory)
         }
     }
@@ -261,20 +285,10 @@ impl<L: Run> SharedNet<L> {
         ensures passes { IfOk result (λ r. r.1 ≡ new_passes budget 1 passes) }
     {
         let (opened, passes) = prepare::<L>(alloc, program, code, passes, budget, blank)?;
-        let Opened {
-            tree,
-            sites,
-            mail,
-            locked,
-        } = opened;
-        are_opened(program, code, &tree, &sites, &mail);
-        match lock_all(alloc, program, code, budget, tree, sites, mail) {
-            Ok(parts) => {
-                let locked = Mutex::new(locked);
-                Ok((SharedNet { parts, locked }, passes))
-            }
+        are_opened(program, code, &opened.tree, &opened.sites, &opened.mail);
+        match lock_all(alloc, program, code, budget, opened) {
+            Ok(net) => Ok((net, passes)),
             Err(memory) => {
-                drop(locked);
                 drop(passes);
                 Err(memory)
             }

@@ -1,5 +1,5 @@
 // The passes of the workers, each with its part of one ledger.
-ghost use Rattle.std.specs.Prelude.{◌≡◌, ◌+◌, ◌<◌, length, map};
+ghost use Rattle.std.specs.Prelude.{◌≡◌, ◌<◌, length, map};
 ghost use Rattle.std.specs.Borrow.{sem};
 ghost use Rattle.shared_net.specs.Passes.{Rise, new_pass};
 ghost use Rattle.shared_net.specs.Turns.{noted};
@@ -7,8 +7,8 @@ ghost use Rattle.shared_net.specs.Agrees.{row_of, all_receipts};
 
 use crate::receipt::Receipts;
 use crate::run::Run;
-use crate::turn::Turn;
 use chem_model::Items;
+use site_turn::Turn;
 use std::alloc::Global;
 use std::marker::Model;
 use std::sync::ledger::Share;

@@ -1,43 +1,46 @@
 // A turn at one site.
-ghost use Rattle.std.specs.Prelude.{◌≡◌, ◌≢◌, ◌<◌, IfOk, OnErr};
+ghost use Rattle.std.specs.Prelude.{◌≡◌, ◌<◌, ℕ, true, IfOk, OnErr, IsTrue};
 ghost use Rattle.chem_model.specs.Each.{Each};
-ghost use Rattle.shared_net.specs.declared.choosing.Chosen.TheVariants as choice;
-ghost use Rattle.shared_net.specs.Choosing.{ChoosesPick, Chooses, OpensNone, IsToGo};
-ghost use Rattle.shared_net.specs.Mail.{IsMessageFlight};
+ghost use Rattle.site_turn.specs.declared.next.Chosen.TheVariants as choice;
+ghost use Rattle.site_turn.specs.declared.turn.Turn.TheVariants as turns;
+ghost use Rattle.site_turn.specs.Next.{CanAct, ChoosesPick, MayMake, may_meet, IsToGo};
+ghost use Rattle.site_turn.specs.Mail.{IsMessageFlight};
 ghost use Rattle.shared_net.specs.Offers.{Turned};
 ghost use Rattle.shared_net.specs.Offers.{MayGain};
 ghost use Rattle.shared_net.specs.Passes.{PassKept};
 ghost use Rattle.shared_net.specs.Turning.{Turns};
 ghost use Rattle.shared_net.specs.inside.TurnParts.{Steps, StepsFirst};
 
-use crate::choosing::{Chosen, leads_to, opens_none};
 use crate::door::{Desk, enter};
 use crate::gate::{Gate, Phase};
-use crate::here::{after_pick, event_of_pick};
-use crate::inside::{arrive, choose};
-use crate::making::Made;
 use crate::net::{Parts, SharedNet};
 use crate::pass::Pass;
 use crate::run::Run;
-use crate::turn::Turn;
-use chem_model::{AtomId, Event, Memory};
+use chem_model::{AtomId, Event, Memory, Program};
 use env_store::Code;
 use loc_tree::LocTree;
 use reducer::Pick;
 use site_solution::{Effects, Site};
+use site_turn::{
+    Chosen, Made, Proposed, Turn, after_chosen, after_crossing, after_pick, arrive, choose,
+    event_of_pick, fits_across, fits_here, leads_to, opens_none, ready_event,
+};
 use std::alloc::Global;
 use std::sync::{Mutex, Wait};
 use wire_packet::Flights;
 
 // What a turn is made with: a runtime that may wait, an allocator, the door to the book, the gate,
-// and the number of the turn.
+// the run's program with its code, the place of the site, and the number of the turn.
 #[derive(Drop)]
-struct Hands<'a, K, G, R> {
-    rt: &'a R,
-    alloc: Global,
-    door: &'a Mutex<K>,
-    gate: &'a G,
-    count: u64,
+pub(crate) struct Hands<'a, K, G, R> {
+    pub(crate) rt: &'a R,
+    pub(crate) alloc: Global,
+    pub(crate) door: &'a Mutex<K>,
+    pub(crate) gate: &'a G,
+    pub(crate) program: &'a Program,
+    pub(crate) code: &'a Code,
+    pub(crate) at: usize,
+    pub(crate) count: u64,
 }
 
 // What the part of a turn under the tree's read lock came to.
@@ -52,12 +55,14 @@ fn propose<L: Run, K: Desk<L>, G: Gate, R: Wait>(
     hands: &Hands<'_, K, G, R>,
     pass: &mut Pass<L>,
     event: &Event,
+    fits: bool,
 ) -> Result<Turn, Memory>
     ensures pass { IfOk result (λ turn. Turned pass.old turn pass.new) }
+    ensures fits { IfOk result (λ turn. (place : ℕ) → turn ≡ turns.Did place → IsTrue fits) }
     ensures err { OnErr result (pass.new ≡ pass.old) }
 {
     let mut desk = enter(hands.rt, hands.door);
-    desk.offer(hands.alloc, pass, event)
+    desk.decide(hands.alloc, pass, event, fits)
 }
 
 // What a turn answers that made an event or not, where messages of its first step went into
@@ -69,6 +74,30 @@ fn passed_or(turn: Turn, passed: bool) -> Turn
         Turn::Nothing if passed => Turn::Passed,
         turn => turn,
     }
+}
+
+// Makes the move of a request that the site chose to a location of another site.
+fn cross<L: Run, K: Desk<L>, G: Gate, R: Wait>(
+    hands: &Hands<'_, K, G, R>,
+    pass: &mut Pass<L>,
+    site: &mut Site,
+    into: &mut Site,
+    tree: &mut LocTree,
+    atom: &AtomId,
+) -> Result<Made, Memory>
+    requires act { CanAct hands.now.code.now tree.old site.old }
+    requires met { may_meet 2 tree.old site.old atom.now ≡ true }
+    requires goes { IsToGo atom.now site.old }
+    ensures pass { IfOk result (λ made. Turned pass.old made.turn pass.new) }
+    ensures sends { IfOk result (λ made. Each IsMessageFlight made.effects.sends) }
+    ensures gain { OnErr result (MayGain pass.old pass.new) }
+{
+    let fits = fits_across(site, into, tree, hands.code, atom);
+    let event = Event::Move { atom: *atom };
+    let turn = propose(hands, pass, &event, fits)?;
+    let asked = Proposed { atom: *atom, turn };
+    let effects = after_crossing(hands.alloc, site, into, tree, hands.code, asked)?;
+    Ok(Made { turn, effects })
 }
 
 impl Parts {
@@ -130,14 +159,13 @@ impl Parts {
         hands: &Hands<'_, K, G, R>,
         site: &mut Site,
         tree: &LocTree,
-        code: &Code,
         pick: &Pick,
         turn: Turn,
     ) -> Result<Turn, Memory>
-        requires { ChoosesPick code.now tree.now site.old pick.now }
+        requires { ChoosesPick hands.now.code.now tree.now site.old pick.now }
         ensures { IfOk result (λ answer. answer ≡ turn) }
     {
-        let effects = after_pick(hands.alloc, site, tree, code, pick, turn)?;
+        let effects = after_pick(hands.alloc, site, tree, hands.code, pick, turn)?;
         self.send(hands.rt, Made { turn, effects })
     }
 
@@ -150,17 +178,15 @@ impl Parts {
         pass: &mut Pass<L>,
         site: &mut Site,
         tree: &LocTree,
-        code: &Code,
         pick: &Pick,
     ) -> Result<Turn, Memory>
-        requires chosen { ChoosesPick code.now tree.now site.old pick.now }
-        requires none_born { OpensNone code.now site.old pick.now }
+        requires { ChoosesPick hands.now.code.now tree.now site.old pick.now }
         ensures turn { IfOk result (λ turn. Turned pass.old turn pass.new) }
         ensures gain { OnErr result (MayGain pass.old pass.new) }
     {
-        let event = event_of_pick(hands.alloc, site, tree, code, pick)?;
-        let turn = propose(hands, pass, &event)?;
-        self.carry_out(hands, site, tree, code, pick, turn)
+        let event = event_of_pick(hands.alloc, site, tree, hands.code, pick)?;
+        let turn = propose(hands, pass, &event, true)?;
+        self.carry_out(hands, site, tree, pick, turn)
     }
 
     // What the site does next, where that leaves the tree as it is.
@@ -175,15 +201,14 @@ impl Parts {
         ensures step { IfOk result (λ step. StepsFirst pass.old step pass.new) }
         ensures gain { OnErr result (MayGain pass.old pass.new) }
     {
-        let code = &self.code;
-        let Chosen::Pick(pick) = choose(site, &self.program, code, tree) else {
+        let Chosen::Pick(pick) = choose(site, hands.program, hands.code, tree) else {
             return Ok(Step::Wide(passed));
         };
-        if !opens_none(site, code, tree, &pick) {
+        if !opens_none(site, hands.code, tree, &pick) {
             return Ok(Step::Wide(passed));
         }
         hands.gate.pass(pass.number(), hands.count, Phase::Held);
-        let turn = self.react(hands, pass, site, tree, code, &pick)?;
+        let turn = self.react(hands, pass, site, tree, &pick)?;
         Ok(Step::Ended(passed_or(turn, passed)))
     }
 
@@ -192,71 +217,38 @@ impl Parts {
         &self,
         hands: &Hands<'_, K, G, R>,
         pass: &mut Pass<L>,
-        at: usize,
     ) -> Result<Step, Memory>
-        requires { at < self.now.sites }
+        requires { hands.now.at < self.now.sites }
         ensures step { IfOk result (λ step. StepsFirst pass.old step pass.new) }
         ensures gain { OnErr result (MayGain pass.old pass.new) }
     {
         let tree = self.tree.lock.read(hands.rt);
-        let mut site = self.sites.list[at].lock(hands.rt);
-        let passed = self.receive(hands.rt, hands.alloc, &mut *site, &*tree, at)?;
+        let mut site = self.sites.list[hands.at].lock(hands.rt);
+        let passed = self.receive(hands.rt, hands.alloc, &mut *site, &*tree, hands.at)?;
         self.act_here(hands, pass, &mut *site, &*tree, passed)
     }
 
     // ---- under its write lock
 
-    // Makes the event of a choice that stays at the site.
-    fn make_wide<L: Run, K: Desk<L>, G: Gate, R: Wait>(
+    // Makes the event of what the site chose, where it stays at the site. The book is locked as
+    // above.
+    fn make<L: Run, K: Desk<L>, G: Gate, R: Wait>(
         &self,
         hands: &Hands<'_, K, G, R>,
         pass: &mut Pass<L>,
         site: &mut Site,
         tree: &mut LocTree,
-        code: &Code,
         chosen: &Chosen,
     ) -> Result<Turn, Memory>
-        requires chosen { Chooses self.now.program.version code.now tree.old site.old chosen.now }
-        requires some { chosen.now ≢ choice.Nothing }
+        requires { MayMake hands.now.code.now tree.old site.old chosen.now }
         ensures turn { IfOk result (λ turn. Turned pass.old turn pass.new) }
         ensures gain { OnErr result (MayGain pass.old pass.new) }
     {
-        let mut desk = enter(hands.rt, hands.door);
-        let made = desk.wide(hands.alloc, site, tree, &self.program, code, pass, chosen)?;
-        drop(desk);
-        self.send(hands.rt, made)
-    }
-
-    // Makes the move to a location of another site.
-    fn make_across<L: Run, K: Desk<L>, G: Gate, R: Wait>(
-        &self,
-        hands: &Hands<'_, K, G, R>,
-        pass: &mut Pass<L>,
-        site: &mut Site,
-        into: &mut Site,
-        tree: &mut LocTree,
-        code: &Code,
-        atom: &AtomId,
-    ) -> Result<Turn, Memory>
-        requires chosen { Chooses self.now.program.version code.now tree.old site.old
-            (choice.Ask atom.now) }
-        requires goes { IsToGo atom.now site.old }
-        ensures turn { IfOk result (λ turn. Turned pass.old turn pass.new) }
-        ensures gain { OnErr result (MayGain pass.old pass.new) }
-    {
-        let mut desk = enter(hands.rt, hands.door);
-        let made = desk.across(
-            hands.alloc,
-            site,
-            into,
-            tree,
-            &self.program,
-            code,
-            pass,
-            atom,
-        )?;
-        drop(desk);
-        self.send(hands.rt, made)
+        let event = ready_event(hands.alloc, site, tree, hands.code, chosen)?;
+        let fits = fits_here(site, &event);
+        let turn = propose(hands, pass, &event, fits)?;
+        let effects = after_chosen(hands.alloc, site, tree, hands.code, chosen, turn)?;
+        self.send(hands.rt, Made { turn, effects })
     }
 
     // Meets a request of the site: a move to another site takes that site's lock too.
@@ -266,23 +258,22 @@ impl Parts {
         pass: &mut Pass<L>,
         site: &mut Site,
         tree: &mut LocTree,
-        at: usize,
-        code: &Code,
         atom: &AtomId,
     ) -> Result<Turn, Memory>
-        requires chosen { Chooses self.now.program.version code.now tree.old site.old
-            (choice.Ask atom.now) }
+        requires { MayMake hands.now.code.now tree.old site.old (choice.Ask atom.now) }
         ensures turn { IfOk result (λ turn. Turned pass.old turn pass.new) }
         ensures gain { OnErr result (MayGain pass.old pass.new) }
     {
         if let Some(number) = leads_to(site, tree, atom) {
             let target = number as usize;
-            if target != at && target < self.sites.list.len() {
+            if target != hands.at && target < self.sites.list.len() {
                 let mut into = self.sites.list[target].lock(hands.rt);
-                return self.make_across(hands, pass, site, &mut *into, tree, code, atom);
+                let made = cross(hands, pass, site, &mut *into, tree, atom)?;
+                drop(into);
+                return self.send(hands.rt, made);
             }
         }
-        self.make_wide(hands, pass, site, tree, code, &Chosen::Ask(*atom))
+        self.make(hands, pass, site, tree, &Chosen::Ask(*atom))
     }
 
     // What the site does next.
@@ -292,22 +283,20 @@ impl Parts {
         pass: &mut Pass<L>,
         site: &mut Site,
         tree: &mut LocTree,
-        at: usize,
     ) -> Result<Turn, Memory>
         ensures turn { IfOk result (λ turn. Turned pass.old turn pass.new) }
         ensures gain { OnErr result (MayGain pass.old pass.new) }
     {
-        let code = &self.code;
-        let chosen = choose(site, &self.program, code, tree);
+        let chosen = choose(site, hands.program, hands.code, tree);
         match &chosen {
             Chosen::Nothing => Ok(Turn::Nothing),
             Chosen::Ask(atom) => {
                 hands.gate.pass(pass.number(), hands.count, Phase::Held);
-                self.meet(hands, pass, site, tree, at, code, atom)
+                self.meet(hands, pass, site, tree, atom)
             }
             Chosen::Pick(_) => {
                 hands.gate.pass(pass.number(), hands.count, Phase::Held);
-                self.make_wide(hands, pass, site, tree, code, &chosen)
+                self.make(hands, pass, site, tree, &chosen)
             }
         }
     }
@@ -318,17 +307,16 @@ impl Parts {
         &self,
         hands: &Hands<'_, K, G, R>,
         pass: &mut Pass<L>,
-        at: usize,
         passed: bool,
     ) -> Result<Turn, Memory>
-        requires { at < self.now.sites }
+        requires { hands.now.at < self.now.sites }
         ensures step { IfOk result (λ turn. Steps pass.old turn pass.new) }
         ensures gain { OnErr result (MayGain pass.old pass.new) }
     {
         let mut tree = self.tree.lock.write(hands.rt);
-        let mut site = self.sites.list[at].lock(hands.rt);
-        let again = self.receive(hands.rt, hands.alloc, &mut *site, &*tree, at)?;
-        let turn = self.act_wide(hands, pass, &mut *site, &mut *tree, at)?;
+        let mut site = self.sites.list[hands.at].lock(hands.rt);
+        let again = self.receive(hands.rt, hands.alloc, &mut *site, &*tree, hands.at)?;
+        let turn = self.act_wide(hands, pass, &mut *site, &mut *tree)?;
         Ok(passed_or(turn, passed || again))
     }
 
@@ -337,33 +325,20 @@ impl Parts {
     // A turn at a site. It may wait.
     pub(crate) fn turn<L: Run, K: Desk<L>, G: Gate, R: Wait>(
         &self,
-        rt: &R,
-        alloc: Global,
-        door: &Mutex<K>,
+        hands: &Hands<'_, K, G, R>,
         pass: &mut Pass<L>,
-        site: u32,
-        gate: &G,
     ) -> Result<Turn, Memory>
-        requires { site < self.now.sites }
+        requires { hands.now.at < self.now.sites }
         ensures turn { IfOk result (λ turn. Turns pass.old turn pass.new) }
         ensures gain { OnErr result (MayGain pass.old pass.new) }
     {
-        let at = site as usize;
-        let count = pass.begin();
-        let hands = Hands {
-            rt,
-            alloc,
-            door,
-            gate,
-            count,
-        };
-        let turn = match self.turn_here(&hands, pass, at)? {
+        let turn = match self.turn_here(hands, pass)? {
             Step::Ended(turn) => turn,
-            Step::Wide(passed) => self.turn_wide(&hands, pass, at, passed)?,
+            Step::Wide(passed) => self.turn_wide(hands, pass, passed)?,
         };
         pass.note(turn);
         if let Turn::Did(_) = turn {
-            gate.pass(pass.number(), count, Phase::Done);
+            hands.gate.pass(pass.number(), hands.count, Phase::Done);
         }
         Ok(turn)
     }
@@ -394,6 +369,16 @@ impl<L: Run> SharedNet<L> {
         ensures turn { IfOk result (λ turn. Turns pass.old turn pass.new) }
         ensures gain { OnErr result (MayGain pass.old pass.new) }
     {
-        self.parts.turn(rt, alloc, &self.locked, pass, site, gate)
+        let hands = Hands {
+            rt,
+            alloc,
+            door: &self.locked,
+            gate,
+            program: &self.parts.program,
+            code: &self.parts.code,
+            at: site as usize,
+            count: pass.begin(),
+        };
+        self.parts.turn(&hands, pass)
     }
 }

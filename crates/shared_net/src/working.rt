@@ -9,7 +9,8 @@ use crate::locked::Locked;
 use crate::net::{Parts, SharedNet};
 use crate::pass::Pass;
 use crate::run::Run;
-use crate::turn::Turn;
+use crate::turning::Hands;
+use site_turn::Turn;
 use std::alloc::Global;
 use std::sync::{Mutex, Wait};
 use std::thread;
@@ -33,7 +34,17 @@ impl Parts {
         let sites = self.count();
         let mut site = pass.number().saturating_sub(1) % sites;
         for _turn in rt.forever() {
-            match self.turn(rt, alloc, door, pass, site, gate) {
+            let hands = Hands {
+                rt,
+                alloc,
+                door,
+                gate,
+                program: &self.program,
+                code: &self.code,
+                at: site as usize,
+                count: pass.begin(),
+            };
+            match self.turn(&hands, pass) {
                 Err(_) | Ok(Turn::Full) => return,
                 Ok(_) => {}
             }

@@ -1,8 +1,8 @@
 // The calls on plain values, each after the choice that it needs.
 ghost use Rattle.std.specs.Prelude.{◌≡◌, IfOk, true};
 ghost use Rattle.chem_model.specs.Each.{Each};
-ghost use Rattle.shared_net.specs.Choosing.{IsToGo};
-ghost use Rattle.shared_net.specs.Mail.{IsMessageText};
+ghost use Rattle.site_turn.specs.Next.{IsToGo};
+ghost use Rattle.site_turn.specs.Mail.{IsMessageText};
 
 use chem_model::{AtomId, Items, Loc, Memory, Name, Program, Texts};
 use env_store::Code;

@@ -3,7 +3,7 @@
 ghost use Rattle.std.specs.Prelude.{◌≡◌, IfOk};
 ghost use Rattle.chem_model.specs.Each.{Each};
 ghost use Rattle.env_store.specs.Reading.{IsCodeOf};
-ghost use Rattle.shared_net.specs.Mail.{IsMessageText};
+ghost use Rattle.site_turn.specs.Mail.{IsMessageText};
 
 use crate::plain::{Told, agree, go, go_on, holds, mail_of, make, react, root_of};
 use crate::texts::{FIRST, MOVED, SENT, WITHIN, atom, loc};

@@ -21,7 +21,7 @@ use Rattle.reducer.specs.Ready.{IsReady}
 use Rattle.reducer.specs.Reacted.{Reacts, StaysFit}
 use Rattle.net_core.specs.declared.turn.Made.{Made}
 use Rattle.net_core.specs.declared.turn.Work.{Work}
-use Rattle.net_core.specs.inside.Delivering.{GoesOn, IsBroughtTo}
+use Rattle.site_turn.specs.Reacting.{ReactsBy}
 use Rattle.net_core.specs.Lending.{mail_to, WorksAlone}
 use Rattle.net_core.specs.Parts.{message_in, all_carried, IsMessageFlight}
 use Rattle.net_core.specs.Scheduling.{births_of}
@@ -38,22 +38,7 @@ pub record IsAlone (c : CodeParts) (t : Tree) (i events : ℕ) (s : Site) (mail 
   pub later : List Addressed
   pub mail_is : mail_to i net.packets ≡ mail ++ later
 
--- it meets what its calls need
-pub record IsReadyForCalls (c : CodeParts) (t : Tree) (s : Site) : Type 0 where
-  pub in_tree : is_in_tree t s ≡ true
-  pub in_code : is_in_code c t s ≡ true
-  pub draws : CanDraw t s
-
 -- ---- its mail
-
--- a flight came to the site: its message is put there, or it goes behind those that go on
-pub record Arrives (t : Tree) (s : Site) (f : Flight) (old : List Flight) (new : Site)
-    (on : List Flight) : Type 0 where
-  pub target : Option ℕ
-  pub more : List Flight
-  pub brought : IsBroughtTo t s (message_in f.bytes) target new
-  pub goes : GoesOn f.bytes target more
-  pub on_is : on ≡ old ++ more
 
 -- the mail among these flights was worked off, and these go on
 pub record HasArrived (t : Tree) (i : ℕ) (flights : List Flight) (s : Site) (on : List Flight)
@@ -70,17 +55,6 @@ pub record IsNextHere (c : CodeParts) (t : Tree) (s : Site) (q : Pick) : Type 0 
 
 abbrev pub NoneIsNext : CodeParts → Tree → Site → Type 0
 NoneIsNext c t s = (q : Pick) → IsReady c (bare t) s q → 0 < births_of c q
-
--- the reaction of a pick was made
-pub record ReactsOnce (c : CodeParts) (t : Tree) (s : Site) (q : Pick) (x : Picked) (e : Event)
-    (effects : Effects) (new : Site) : Type 0 where
-  pub reacts : Reacts c t s q x new effects
-  pub event_is : e ≡ event_of q x
-  pub fit : StaysFit c t s.number new effects
-
-abbrev pub ReactsBy : CodeParts → Tree → Site → Pick → Event → Effects → Site → Type 0
-ReactsBy c t s q e effects new =
-    (x : Picked) → Picks c s q x → ReactsOnce c t s q x e effects new
 
 -- an event and its effects go behind what was made so far
 pub record IsNoted (e : Event) (effects : Effects) (old new : Made) : Type 0 where

@@ -7,13 +7,8 @@ use Rattle.net_laws.specs.Site.{Site}
 use Rattle.net_laws.specs.Net.{among, address}
 use Rattle.net_laws.specs.Holding.{put}
 use Rattle.router.specs.Delivering.{home_at}
+use Rattle.site_turn.specs.Bringing.{GoesOn}
 use Rattle.net_core.specs.Parts.{message_in}
-
--- a message was put at its home at the site, or it goes on from there to another site
-abbrev pub IsBroughtTo : Tree → Site → MessageParts → Option ℕ → Site → Type 0
-IsBroughtTo t s m None new = (among s.locs (home_at s m) ≡ true) × (new ≡ put (home_at s m) m s)
-IsBroughtTo t s m (Some target) new =
-    (among s.locs (home_at s m) ≡ false) × (target ≡ address t (home_at s m)) × (new ≡ s)
 
 -- the message was put at the site with this number, or it goes on from there to another
 abbrev pub IsBrought : Tree → ℕ → Site → MessageParts → Option ℕ → List Site → List Site → Type 0
@@ -22,19 +17,7 @@ IsBrought t i s m None old new =
 IsBrought t i s m (Some target) old new =
     (among s.locs (home_at s m) ≡ false) × (target ≡ address t (home_at s m)) × (new ≡ old)
 
--- the flight with these bytes to the site to which it goes on, if it does
-abbrev pub GoesOn : List ℕ → Option ℕ → List Flight → Type 0
-GoesOn bytes None more = more ≡ []
-GoesOn bytes (Some target) more = more ≡ record { target = target; bytes = bytes } ∷ []
-
--- the message that bytes spell was put at the site, or it goes on from there
-pub record IsTextBrought (t : Tree) (s : Site) (bytes : List ℕ) (more : List Flight) (new : Site)
-    : Type 0 where
-  pub on : Option ℕ
-  pub brought : IsBroughtTo t s (message_in bytes) on new
-  pub goes : GoesOn bytes on more
-
--- the same at the site with this number
+-- the message that bytes spell was put at the site with this number, or its flight goes on
 pub record IsTextBroughtAt (t : Tree) (i : ℕ) (s : Site) (bytes : List ℕ) (more : List Flight)
     (old new : List Site) : Type 0 where
   pub on : Option ℕ

@@ -7,7 +7,7 @@ use Rattle.net_laws.specs.Site.{Site}
 use Rattle.net_laws.specs.Net.{Net}
 use Rattle.net_laws.specs.Opened.{all_opened, opened_net, BearNew}
 use Rattle.shared_net.specs.Preparing.{IsMailOf}
-use Rattle.shared_net.specs.Making.{IsSameTree}
+use Rattle.site_turn.specs.After.{IsSameTree}
 
 -- the mails with one text more for the site with this number, if there is one
 abbrev pub with_text : ℕ → List ℕ → List (List (List ℕ)) → List (List (List ℕ))

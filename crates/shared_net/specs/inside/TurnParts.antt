@@ -1,8 +1,8 @@
 -- What the parts of a turn do to the pass, before the turn is noted.
 use Rattle.std.specs.Prelude.{◌≡◌}
 use Rattle.chem_model.specs.declared.event.Event.{Event}
-use Rattle.shared_net.specs.declared.turn.Turn.{Turn}
-use Rattle.shared_net.specs.declared.turn.Turn.TheVariants.{Did, Passed, Nothing, NotEnabled, Full}
+use Rattle.site_turn.specs.declared.turn.Turn.{Turn}
+use Rattle.site_turn.specs.declared.turn.Turn.TheVariants.{Did, Passed, Nothing, NotEnabled, Full}
 use Rattle.shared_net.specs.declared.turning.Step.{Step}
 use Rattle.shared_net.specs.declared.turning.Step.TheVariants.{Ended, Wide}
 use Rattle.shared_net.specs.Passes.{PassKept}

@@ -9,8 +9,8 @@ returns-then-from-into-clause-ok c =
     let sites = c.args.sites.now in
     let front = c.split_at_mut-front.result.0.now in
     let back = c.split_at_mut-front.result.1.now in
-    let i = c.args.from in
-    let j = c.args.into in
+    let i = c.args.ends.0 in
+    let j = c.args.ends.1 in
     let may = c.requires.may in
     let less : i < length front = omega arith in
     let x_is = before sites front back i
@@ -31,8 +31,8 @@ returns-then-from-into-clause-fit c =
     let sites = c.args.sites.now in
     let front = c.split_at_mut-front.result.0.now in
     let back = c.split_at_mut-front.result.1.now in
-    let i = c.args.from in
-    let j = c.args.into in
+    let i = c.args.ends.0 in
+    let j = c.args.ends.1 in
     let may = c.requires.may in
     let less : i < length front = omega arith in
     let x_is = before sites front back i
@@ -54,8 +54,8 @@ returns-then-from-into-clause-err c =
     let sites = c.args.sites.now in
     let front = c.split_at_mut-front.result.0.now in
     let back = c.split_at_mut-front.result.1.now in
-    let i = c.args.from in
-    let j = c.args.into in
+    let i = c.args.ends.0 in
+    let j = c.args.ends.1 in
     let may = c.requires.may in
     let less : i < length front = omega arith in
     let x_is = before sites front back i
@@ -76,8 +76,8 @@ returns-else-from-into-clause-ok c =
     let sites = c.args.sites.now in
     let front = c.split_at_mut-front-else-from-into.result.0.now in
     let back = c.split_at_mut-front-else-from-into.result.1.now in
-    let i = c.args.from in
-    let j = c.args.into in
+    let i = c.args.ends.0 in
+    let j = c.args.ends.1 in
     let may = c.requires.may in
     let far = may.away in
     let less : j < length front = omega arith in
@@ -103,8 +103,8 @@ returns-else-from-into-clause-fit c =
     let sites = c.args.sites.now in
     let front = c.split_at_mut-front-else-from-into.result.0.now in
     let back = c.split_at_mut-front-else-from-into.result.1.now in
-    let i = c.args.from in
-    let j = c.args.into in
+    let i = c.args.ends.0 in
+    let j = c.args.ends.1 in
     let may = c.requires.may in
     let far = may.away in
     let less : j < length front = omega arith in
@@ -133,8 +133,8 @@ returns-else-from-into-clause-err c =
     let sites = c.args.sites.now in
     let front = c.split_at_mut-front-else-from-into.result.0.now in
     let back = c.split_at_mut-front-else-from-into.result.1.now in
-    let i = c.args.from in
-    let j = c.args.into in
+    let i = c.args.ends.0 in
+    let j = c.args.ends.1 in
     let may = c.requires.may in
     let far = may.away in
     let less : j < length front = omega arith in
@@ -158,8 +158,8 @@ returns-else-from-into-clause-err c =
 pub move_between-requires-clause-from_tree : goal.move_between-requires-clause-from_tree
 move_between-requires-clause-from_tree c =
     let front = c.split_at_mut-front.result.0.now in
-    let less : c.args.from < length front = omega arith in
-    (may_up c.args.code.now c.args.tree.now c.args.sites.now c.args.from c.args.into c.args.atom.now
+    let less : c.args.ends.0 < length front = omega arith in
+    (may_up c.args.code.now c.args.tree.now c.args.sites.now c.args.ends.0 c.args.ends.1 c.args.atom.now
     c.requires.may c.requires.fit front c.split_at_mut-front.result.1.now
     c.split_at_mut-front.ensures.value c.index-front-from.result c.index-back-0.result less
     c.split_at_mut-front.ensures.front_len).from.in_tree
@@ -167,8 +167,8 @@ move_between-requires-clause-from_tree c =
 pub move_between-requires-clause-into_tree : goal.move_between-requires-clause-into_tree
 move_between-requires-clause-into_tree c =
     let front = c.split_at_mut-front.result.0.now in
-    let less : c.args.from < length front = omega arith in
-    (may_up c.args.code.now c.args.tree.now c.args.sites.now c.args.from c.args.into c.args.atom.now
+    let less : c.args.ends.0 < length front = omega arith in
+    (may_up c.args.code.now c.args.tree.now c.args.sites.now c.args.ends.0 c.args.ends.1 c.args.atom.now
     c.requires.may c.requires.fit front c.split_at_mut-front.result.1.now
     c.split_at_mut-front.ensures.value c.index-front-from.result c.index-back-0.result less
     c.split_at_mut-front.ensures.front_len).into.in_tree
@@ -176,8 +176,8 @@ move_between-requires-clause-into_tree c =
 pub move_between-requires-clause-from_code : goal.move_between-requires-clause-from_code
 move_between-requires-clause-from_code c =
     let front = c.split_at_mut-front.result.0.now in
-    let less : c.args.from < length front = omega arith in
-    (may_up c.args.code.now c.args.tree.now c.args.sites.now c.args.from c.args.into c.args.atom.now
+    let less : c.args.ends.0 < length front = omega arith in
+    (may_up c.args.code.now c.args.tree.now c.args.sites.now c.args.ends.0 c.args.ends.1 c.args.atom.now
     c.requires.may c.requires.fit front c.split_at_mut-front.result.1.now
     c.split_at_mut-front.ensures.value c.index-front-from.result c.index-back-0.result less
     c.split_at_mut-front.ensures.front_len).from.in_code
@@ -185,8 +185,8 @@ move_between-requires-clause-from_code c =
 pub move_between-requires-clause-into_code : goal.move_between-requires-clause-into_code
 move_between-requires-clause-into_code c =
     let front = c.split_at_mut-front.result.0.now in
-    let less : c.args.from < length front = omega arith in
-    (may_up c.args.code.now c.args.tree.now c.args.sites.now c.args.from c.args.into c.args.atom.now
+    let less : c.args.ends.0 < length front = omega arith in
+    (may_up c.args.code.now c.args.tree.now c.args.sites.now c.args.ends.0 c.args.ends.1 c.args.atom.now
     c.requires.may c.requires.fit front c.split_at_mut-front.result.1.now
     c.split_at_mut-front.ensures.value c.index-front-from.result c.index-back-0.result less
     c.split_at_mut-front.ensures.front_len).into.in_code
@@ -194,8 +194,8 @@ move_between-requires-clause-into_code c =
 pub move_between-requires-clause-can_draw : goal.move_between-requires-clause-can_draw
 move_between-requires-clause-can_draw c =
     let front = c.split_at_mut-front.result.0.now in
-    let less : c.args.from < length front = omega arith in
-    (may_up c.args.code.now c.args.tree.now c.args.sites.now c.args.from c.args.into c.args.atom.now
+    let less : c.args.ends.0 < length front = omega arith in
+    (may_up c.args.code.now c.args.tree.now c.args.sites.now c.args.ends.0 c.args.ends.1 c.args.atom.now
     c.requires.may c.requires.fit front c.split_at_mut-front.result.1.now
     c.split_at_mut-front.ensures.value c.index-front-from.result c.index-back-0.result less
     c.split_at_mut-front.ensures.front_len).into.draws
@@ -203,8 +203,8 @@ move_between-requires-clause-can_draw c =
 pub move_between-requires-clause-ready : goal.move_between-requires-clause-ready
 move_between-requires-clause-ready c =
     let front = c.split_at_mut-front.result.0.now in
-    let less : c.args.from < length front = omega arith in
-    (may_up c.args.code.now c.args.tree.now c.args.sites.now c.args.from c.args.into c.args.atom.now
+    let less : c.args.ends.0 < length front = omega arith in
+    (may_up c.args.code.now c.args.tree.now c.args.sites.now c.args.ends.0 c.args.ends.1 c.args.atom.now
     c.requires.may c.requires.fit front c.split_at_mut-front.result.1.now
     c.split_at_mut-front.ensures.value c.index-front-from.result c.index-back-0.result less
     c.split_at_mut-front.ensures.front_len).can
@@ -212,8 +212,8 @@ move_between-requires-clause-ready c =
 pub move_between-requires-clause-hosted : goal.move_between-requires-clause-hosted
 move_between-requires-clause-hosted c =
     let front = c.split_at_mut-front.result.0.now in
-    let less : c.args.from < length front = omega arith in
-    (may_up c.args.code.now c.args.tree.now c.args.sites.now c.args.from c.args.into c.args.atom.now
+    let less : c.args.ends.0 < length front = omega arith in
+    (may_up c.args.code.now c.args.tree.now c.args.sites.now c.args.ends.0 c.args.ends.1 c.args.atom.now
     c.requires.may c.requires.fit front c.split_at_mut-front.result.1.now
     c.split_at_mut-front.ensures.value c.index-front-from.result c.index-back-0.result less
     c.split_at_mut-front.ensures.front_len).hosted
@@ -221,8 +221,8 @@ move_between-requires-clause-hosted c =
 pub move_between-requires-clause-joins : goal.move_between-requires-clause-joins
 move_between-requires-clause-joins c =
     let front = c.split_at_mut-front.result.0.now in
-    let less : c.args.from < length front = omega arith in
-    (may_up c.args.code.now c.args.tree.now c.args.sites.now c.args.from c.args.into c.args.atom.now
+    let less : c.args.ends.0 < length front = omega arith in
+    (may_up c.args.code.now c.args.tree.now c.args.sites.now c.args.ends.0 c.args.ends.1 c.args.atom.now
     c.requires.may c.requires.fit front c.split_at_mut-front.result.1.now
     c.split_at_mut-front.ensures.value c.index-front-from.result c.index-back-0.result less
     c.split_at_mut-front.ensures.front_len).joins
@@ -231,8 +231,8 @@ pub move_between-requires-else-from-into-clause-from_tree :
     goal.move_between-requires-else-from-into-clause-from_tree
 move_between-requires-else-from-into-clause-from_tree c =
     let front = c.split_at_mut-front-else-from-into.result.0.now in
-    let less : c.args.into < length front = let far = c.requires.may.away in omega arith in
-    (may_down c.args.code.now c.args.tree.now c.args.sites.now c.args.from c.args.into
+    let less : c.args.ends.1 < length front = let far = c.requires.may.away in omega arith in
+    (may_down c.args.code.now c.args.tree.now c.args.sites.now c.args.ends.0 c.args.ends.1
     c.args.atom.now c.requires.may c.requires.fit front
     c.split_at_mut-front-else-from-into.result.1.now
     c.split_at_mut-front-else-from-into.ensures.value c.index-back-0-else-from-into.result
@@ -243,8 +243,8 @@ pub move_between-requires-else-from-into-clause-into_tree :
     goal.move_between-requires-else-from-into-clause-into_tree
 move_between-requires-else-from-into-clause-into_tree c =
     let front = c.split_at_mut-front-else-from-into.result.0.now in
-    let less : c.args.into < length front = let far = c.requires.may.away in omega arith in
-    (may_down c.args.code.now c.args.tree.now c.args.sites.now c.args.from c.args.into
+    let less : c.args.ends.1 < length front = let far = c.requires.may.away in omega arith in
+    (may_down c.args.code.now c.args.tree.now c.args.sites.now c.args.ends.0 c.args.ends.1
     c.args.atom.now c.requires.may c.requires.fit front
     c.split_at_mut-front-else-from-into.result.1.now
     c.split_at_mut-front-else-from-into.ensures.value c.index-back-0-else-from-into.result
@@ -255,8 +255,8 @@ pub move_between-requires-else-from-into-clause-from_code :
     goal.move_between-requires-else-from-into-clause-from_code
 move_between-requires-else-from-into-clause-from_code c =
     let front = c.split_at_mut-front-else-from-into.result.0.now in
-    let less : c.args.into < length front = let far = c.requires.may.away in omega arith in
-    (may_down c.args.code.now c.args.tree.now c.args.sites.now c.args.from c.args.into
+    let less : c.args.ends.1 < length front = let far = c.requires.may.away in omega arith in
+    (may_down c.args.code.now c.args.tree.now c.args.sites.now c.args.ends.0 c.args.ends.1
     c.args.atom.now c.requires.may c.requires.fit front
     c.split_at_mut-front-else-from-into.result.1.now
     c.split_at_mut-front-else-from-into.ensures.value c.index-back-0-else-from-into.result
@@ -267,8 +267,8 @@ pub move_between-requires-else-from-into-clause-into_code :
     goal.move_between-requires-else-from-into-clause-into_code
 move_between-requires-else-from-into-clause-into_code c =
     let front = c.split_at_mut-front-else-from-into.result.0.now in
-    let less : c.args.into < length front = let far = c.requires.may.away in omega arith in
-    (may_down c.args.code.now c.args.tree.now c.args.sites.now c.args.from c.args.into
+    let less : c.args.ends.1 < length front = let far = c.requires.may.away in omega arith in
+    (may_down c.args.code.now c.args.tree.now c.args.sites.now c.args.ends.0 c.args.ends.1
     c.args.atom.now c.requires.may c.requires.fit front
     c.split_at_mut-front-else-from-into.result.1.now
     c.split_at_mut-front-else-from-into.ensures.value c.index-back-0-else-from-into.result
@@ -279,8 +279,8 @@ pub move_between-requires-else-from-into-clause-can_draw :
     goal.move_between-requires-else-from-into-clause-can_draw
 move_between-requires-else-from-into-clause-can_draw c =
     let front = c.split_at_mut-front-else-from-into.result.0.now in
-    let less : c.args.into < length front = let far = c.requires.may.away in omega arith in
-    (may_down c.args.code.now c.args.tree.now c.args.sites.now c.args.from c.args.into
+    let less : c.args.ends.1 < length front = let far = c.requires.may.away in omega arith in
+    (may_down c.args.code.now c.args.tree.now c.args.sites.now c.args.ends.0 c.args.ends.1
     c.args.atom.now c.requires.may c.requires.fit front
     c.split_at_mut-front-else-from-into.result.1.now
     c.split_at_mut-front-else-from-into.ensures.value c.index-back-0-else-from-into.result
@@ -290,8 +290,8 @@ pub move_between-requires-else-from-into-clause-ready :
     goal.move_between-requires-else-from-into-clause-ready
 move_between-requires-else-from-into-clause-ready c =
     let front = c.split_at_mut-front-else-from-into.result.0.now in
-    let less : c.args.into < length front = let far = c.requires.may.away in omega arith in
-    (may_down c.args.code.now c.args.tree.now c.args.sites.now c.args.from c.args.into
+    let less : c.args.ends.1 < length front = let far = c.requires.may.away in omega arith in
+    (may_down c.args.code.now c.args.tree.now c.args.sites.now c.args.ends.0 c.args.ends.1
     c.args.atom.now c.requires.may c.requires.fit front
     c.split_at_mut-front-else-from-into.result.1.now
     c.split_at_mut-front-else-from-into.ensures.value c.index-back-0-else-from-into.result
@@ -301,8 +301,8 @@ pub move_between-requires-else-from-into-clause-hosted :
     goal.move_between-requires-else-from-into-clause-hosted
 move_between-requires-else-from-into-clause-hosted c =
     let front = c.split_at_mut-front-else-from-into.result.0.now in
-    let less : c.args.into < length front = let far = c.requires.may.away in omega arith in
-    (may_down c.args.code.now c.args.tree.now c.args.sites.now c.args.from c.args.into
+    let less : c.args.ends.1 < length front = let far = c.requires.may.away in omega arith in
+    (may_down c.args.code.now c.args.tree.now c.args.sites.now c.args.ends.0 c.args.ends.1
     c.args.atom.now c.requires.may c.requires.fit front
     c.split_at_mut-front-else-from-into.result.1.now
     c.split_at_mut-front-else-from-into.ensures.value c.index-back-0-else-from-into.result
@@ -312,8 +312,8 @@ pub move_between-requires-else-from-into-clause-joins :
     goal.move_between-requires-else-from-into-clause-joins
 move_between-requires-else-from-into-clause-joins c =
     let front = c.split_at_mut-front-else-from-into.result.0.now in
-    let less : c.args.into < length front = let far = c.requires.may.away in omega arith in
-    (may_down c.args.code.now c.args.tree.now c.args.sites.now c.args.from c.args.into
+    let less : c.args.ends.1 < length front = let far = c.requires.may.away in omega arith in
+    (may_down c.args.code.now c.args.tree.now c.args.sites.now c.args.ends.0 c.args.ends.1
     c.args.atom.now c.requires.may c.requires.fit front
     c.split_at_mut-front-else-from-into.result.1.now
     c.split_at_mut-front-else-from-into.ensures.value c.index-back-0-else-from-into.result

@@ -16,7 +16,7 @@ pub lend-requires-clause-each : goal.lend-requires-clause-each
 lend-requires-clause-each g c κs within =
     let code = c.args.code.now in
     let old = c.args.parts.now in
-    let quota = c.args.quota in
+    let quota = c.args.limits.quota in
     let mail : c.as_slice.result.now ≡ old.flights.items =
     c.as_slice.ensures.value ∙ c.into_vec-mail.ensures.items
     ∙ ap (λ fs. fs.items) c.replace-flights.ensures.value in
@@ -33,7 +33,7 @@ pub returns-in-Ok-clause-round : goal.returns-in-Ok-clause-round
 returns-in-Ok-clause-round g c =
     let code = c.args.code.now in
     let old = c.args.parts.now in
-    let quota = c.args.quota in
+    let quota = c.args.limits.quota in
     let new = c.take_all_back.new.parts in
     let es = c.take_all_back.new.journal in
     let done = c.lend.new.slots in
@@ -77,7 +77,7 @@ pub returns-in-Ok-clause-sent : goal.returns-in-Ok-clause-sent
 returns-in-Ok-clause-sent g c =
     let code = c.args.code.now in
     let old = c.args.parts.now in
-    let quota = c.args.quota in
+    let quota = c.args.limits.quota in
     let new = c.take_all_back.new.parts in
     let es = c.take_all_back.new.journal in
     let done = c.lend.new.slots in

@@ -1,8 +1,8 @@
-use Rattle.shared_net.specs.declared.choosing.Chosen.TheVariants as choice
-use Rattle.shared_net.specs.Making.{IsEventOf}
+use Rattle.site_turn.specs.declared.next.Chosen.TheVariants as choice
+use Rattle.site_turn.specs.After.{IsEventOf}
 use Rattle.shared_net.proofs.Results.{on_err}
-use Rattle.shared_net.proofs.Births.{bears_none}
-use Rattle.shared_net.proofs.Choices.{may_fire}
+use Rattle.site_turn.proofs.Births.{bears_none}
+use Rattle.site_turn.proofs.Choices.{may_fire}
 use Rattle.shared_net.proofs.Offering.{proposal_may, turned_gains}
 use Rattle.shared_net.proofs.here.make_here.Goals as goal
 
@@ -38,5 +38,5 @@ returns-clause-born g c =
     let ready = c.requires.chosen.1 in
     bears_none c.args.code.now c.args.tree.now c.args.site.now c.args.pick.now ready.pick
     c.in_ok-turn.turn c.after_pick.new.site c.in_ok-effects.effects
-    c.code_is_kept.ensures c.site_is_kept.ensures.kept c.requires.chosen.0.coded ready.fires.covers
+    c.code_is_kept.ensures c.site_is_kept.ensures.kept c.requires.chosen.0.in_code ready.fires.covers
     c.requires.none_born c.in_ok-effects.ensures.after

@@ -1,6 +1,6 @@
 use Rattle.std.proofs.Common.{◌≡◌, ◌+◌, length, vec_len}
 use Rattle.chem_model.specs.Each.{Each}
-use Rattle.shared_net.specs.Mail.{IsMessageText}
+use Rattle.site_turn.specs.Mail.{IsMessageText}
 use Rattle.shared_net.proofs.net.lock_mail.Given as goal
 
 abbrev pub invariant-loop-texts : goal.invariant-loop-texts

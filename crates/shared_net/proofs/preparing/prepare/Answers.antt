@@ -1,7 +1,7 @@
 use Rattle.std.proofs.Common.{sym, subst}
 use Rattle.chem_model.specs.Each.{Each}
 use Rattle.net_laws.specs.Opened.{opened_net}
-use Rattle.shared_net.specs.Mail.{IsMessageText}
+use Rattle.site_turn.specs.Mail.{IsMessageText}
 use Rattle.shared_net.proofs.Opening.{mails_spelled}
 use Rattle.shared_net.proofs.preparing.prepare.Goals as goal
 

@@ -1,6 +1,6 @@
 use Rattle.std.specs.Vec.Iter.{into_iter_items}
 use Rattle.chem_model.specs.Each.{Each}
-use Rattle.shared_net.specs.Mail.{IsMessageFlight}
+use Rattle.site_turn.specs.Mail.{IsMessageFlight}
 use Rattle.shared_net.proofs.net.Parts.post.Given as goal
 
 abbrev pub invariant-loop-flight : goal.invariant-loop-flight

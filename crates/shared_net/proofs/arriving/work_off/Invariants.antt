@@ -1,5 +1,0 @@
-use Rattle.shared_net.proofs.Coming.{IsComing}
-use Rattle.shared_net.proofs.arriving.work_off.Given as goal
-
-abbrev pub invariant-loop-text : goal.invariant-loop-text
-invariant-loop-text l = IsComing l.tree l.initial.site l.mail l.text-index l.site l.on

@@ -1,6 +1,0 @@
-use Rattle.std.proofs.Common.{drop}
-use Rattle.shared_net.proofs.Dropping.{IsDropping}
-use Rattle.shared_net.proofs.here.drop_fronts.Given as goal
-
-abbrev pub invariant-loop-chan : goal.invariant-loop-chan
-invariant-loop-chan l = IsDropping l.group l.chans (drop l.chan-index l.chans) l.initial.site l.site

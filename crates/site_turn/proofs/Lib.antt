@@ -1,0 +1,12 @@
+pub mod Results
+pub mod Requests
+pub mod Coming
+pub mod Dropping
+pub mod Bearing
+pub mod Births
+pub mod Acting
+pub mod Choices
+pub mod Room
+pub mod Bringing
+pub mod Asking
+pub mod Readied
