@@ -1,7 +1,7 @@
 // What is expected of the code of a text.
 
 use chem_model::{Loc, Memory, Name};
-use env_store::{Code, Instr, Slot};
+use env_store::{Bits, Code, Instr, Slot};
 use guard_compile::{compile, top_names};
 use std::alloc::Global;
 use std::process::Abort;
@@ -91,9 +91,21 @@ fn has_guard(code: &Code, number: usize, numbers: [u32; 3]) -> bool {
     }
 }
 
+fn has_words(mask: &Bits, words: &[u64]) -> bool {
+    if mask.len() != words.len() {
+        return false;
+    }
+    for place in 0..words.len() {
+        if mask.word(place) != words[place] {
+            return false;
+        }
+    }
+    true
+}
+
 fn has_mask(code: &Code, number: usize, words: &[u64]) -> bool {
     match code.guards.as_slice().get(number) {
-        Some(guard) => guard.mask.words.as_slice() == words,
+        Some(guard) => has_words(&guard.mask.words, words),
         None => false,
     }
 }

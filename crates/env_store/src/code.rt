@@ -3,6 +3,7 @@ ghost use Rattle.std.specs.Prelude.{◌≡◌, ◌+◌, ◌<◌, ◌^◌, IfOk, 
 ghost use Rattle.env_store.specs.CodeFacts.{IsCode};
 
 use chem_model::{Items, Loc, Memory, Name, Nums};
+use status_words::Bits;
 use std::alloc::Global;
 use std::marker::Model;
 
@@ -79,10 +80,9 @@ pub fn copy_instrs(alloc: Global, list: &Instrs) -> Result<Instrs, Memory>
     Ok(members)
 }
 
-pub type Bits = Items<u64>;
-
 /// A set of channels of one level, in words of 64 bits: bit `i % 64` of the word `i / 64` stands
-/// for channel `i` (Le Fessant, Maranget, *Compiling Join Patterns*, 1998).
+/// for channel `i` (Le Fessant, Maranget, *Compiling Join Patterns*, 1998). It takes the memory of
+/// those words that aren't 0, so that code grows with its rules and not with their square.
 #[derive(Debug, Drop)]
 pub struct Mask {
     pub words: Bits,

@@ -7,12 +7,12 @@ mod env;
 mod laws;
 
 pub use code::{
-    Bits, Block, Blocks, Bodies, Code, Guard, Guards, Instr, Instrs, Level, Levels, Locs, Mask,
-    SiteCode, SiteCodes, Slot, Slots, copy_blocks, copy_bodies, copy_guards, copy_instrs,
-    copy_levels,
+    Block, Blocks, Bodies, Code, Guard, Guards, Instr, Instrs, Level, Levels, Locs, Mask, SiteCode,
+    SiteCodes, Slot, Slots, copy_blocks, copy_bodies, copy_guards, copy_instrs, copy_levels,
 };
 pub use env::{Env, extend, lookup};
 pub use laws::{
     opening_is_pouring, openings_lay_groups, reacting_is_pouring, reads_under_each,
     running_is_pouring, runs_lay_groups,
 };
+pub use status_words::Bits;

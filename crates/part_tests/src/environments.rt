@@ -1,7 +1,8 @@
 // Environments by their worked row, and copies of code.
 use chem_model::{Items, Loc, Memory, Name};
-use env_store::{Env, Guard, Instr, Instrs, Level, Mask, Slot, copy_instrs, extend, lookup};
+use env_store::{Bits, Env, Guard, Instr, Instrs, Level, Mask, Slot, copy_instrs, extend, lookup};
 use std::alloc::Global;
+use wire_packet::SharedEnv;
 
 const ROOT: Name = Name::Place(Loc { site: 0, k: 0 });
 
@@ -30,8 +31,29 @@ fn one_name_more(rt: HostRuntime) {
     assert!(rt; is_extended(rt.alloc()));
 }
 
+// The root alone, shared once more. The first share is gone.
+fn shared_once_more(alloc: Global) -> Result<SharedEnv, Memory> {
+    let names = one_more(alloc)?;
+    let first = SharedEnv::new(alloc, names)?;
+    first.share()
+}
+
+fn is_shared(alloc: Global) -> bool {
+    match shared_once_more(alloc) {
+        Ok(env) => env.len() == 1 && has_the_root(env.names()),
+        Err(_) => false,
+    }
+}
+
+#[test]
+fn a_share_outlives_the_first(rt: HostRuntime) {
+    assert!(rt; is_shared(rt.alloc()));
+}
+
 fn a_guard(alloc: Global) -> Result<Guard, Memory> {
-    let words = Items::from_slice(alloc, &[5])?;
+    let mut words = Bits::zeros(alloc, 1);
+    words.set(2)?;
+    words.set(0)?;
     Ok(Guard {
         level: 1,
         mask: Mask { words },
@@ -44,7 +66,8 @@ fn a_guard(alloc: Global) -> Result<Guard, Memory> {
 
 fn is_the_guard(guard: &Guard) -> bool {
     guard.level == 1
-        && guard.mask.words.as_slice() == [5u64].as_slice()
+        && guard.mask.words.len() == 1
+        && guard.mask.words.word(0) == 5
         && guard.chans.as_slice() == [2u32, 0].as_slice()
         && guard.body == 3
         && guard.births == 4

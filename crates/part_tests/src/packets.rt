@@ -5,7 +5,8 @@ use chem_model::{AtomId, Items, Loc, Memory, Name, RuleId, Text};
 use std::alloc::Global;
 use std::process::Abort;
 use wire_packet::{
-    DecodeEnd, Flight, Flights, GroupInst, Msg, Packet, Parcel, copy_flights, decode, encode,
+    DecodeEnd, Flight, Flights, GroupInst, Msg, Packet, Parcel, SharedEnv, copy_flights, decode,
+    encode,
 };
 
 // The message 0.5 on the channel 0.1 of the location 0.0, with the location 1.0.
@@ -174,12 +175,13 @@ fn made_message(alloc: Global, arg: Name) -> Result<Packet, Memory>
 fn made_parcel(alloc: Global) -> Result<Packet, Memory> {
     let loc = Loc { site: 0, k: 1 };
     let mut groups = Items::new(alloc);
+    let env = SharedEnv::new(alloc, Items::new(alloc))?;
     groups.push(GroupInst {
         loc,
         level: 1,
         chans: AtomId { site: 0, k: 2 },
         rules: RuleId { site: 0, k: 3 },
-        env: Items::new(alloc),
+        env,
     })?;
     Ok(Packet::Parcel(Parcel {
         loc,

@@ -1,6 +1,7 @@
 // Sets that fill more than one word. The expected values were worked out by hand.
 use crate::crossing::crosses;
-use status_words::Status;
+use chem_model::Memory;
+use status_words::{Bits, Status};
 use std::alloc::Global;
 use std::process::Abort;
 
@@ -83,4 +84,63 @@ const IN_TWO_WORDS: &[Step] = &[
 #[test]
 fn sixty_five_bits(rt: HostRuntime) {
     expect_steps(&rt, rt.alloc(), 65, IN_TWO_WORDS);
+}
+
+// The words with these numbers, of which there are so many.
+fn words_with(alloc: Global, count: usize, numbers: &[u32]) -> Result<Bits, Memory> {
+    let mut words = Bits::zeros(alloc, count);
+    for number in numbers {
+        words.set(*number)?;
+    }
+    Ok(words)
+}
+
+// Whether these are the words.
+fn are_words(words: &Bits, want: &[u64]) -> bool {
+    for place in 0..want.len() {
+        if words.word(place) != want[place] {
+            return false;
+        }
+    }
+    words.len() == want.len() && words.word(want.len()) == 0
+}
+
+// Numbers in any order, one of them twice, and one for which there is no word.
+fn are_set(alloc: Global) -> Result<bool, Memory> {
+    let words = words_with(alloc, 3, &[130, 1, 191, 0, 130, 192])?;
+    let copy = words.copy(alloc)?;
+    Ok(are_words(&words, &[3, 0, 1 << 63 | 4]) && are_words(&copy, &[3, 0, 1 << 63 | 4]))
+}
+
+// The order in which numbers are set doesn't matter, and one number or one word more does.
+fn are_compared(alloc: Global) -> Result<bool, Memory> {
+    let words = words_with(alloc, 3, &[130, 1, 64])?;
+    let same = words_with(alloc, 3, &[64, 130, 1])?;
+    let other = words_with(alloc, 3, &[64, 130, 2])?;
+    let longer = words_with(alloc, 4, &[64, 130, 1])?;
+    Ok(words.same(&same) && !words.same(&other) && !words.same(&longer))
+}
+
+// Whether the set holds each number of the mask.
+fn covers_bits(status: &Status, mask: &Bits) -> bool {
+    mask.len() == (status.bits() as usize).div_ceil(64) && status.covers_bits(mask)
+}
+
+// Whether a set of 130 numbers, with the first and the last of them, holds these.
+fn is_held(alloc: Global, numbers: &[u32]) -> Result<bool, Memory> {
+    let words = words_with(alloc, 3, numbers)?;
+    let mut status = Status::with_bits(alloc, 130)?;
+    let all_set = set(&mut status, 0) && set(&mut status, 129);
+    Ok(all_set && covers_bits(&status, &words))
+}
+
+#[test]
+fn words_that_have_numbers(rt: HostRuntime) {
+    let alloc = rt.alloc();
+    assert!(rt; are_set(alloc) == Ok(true));
+    assert!(rt; are_compared(alloc) == Ok(true));
+    assert!(rt; is_held(alloc, &[]) == Ok(true));
+    assert!(rt; is_held(alloc, &[129, 0]) == Ok(true));
+    assert!(rt; is_held(alloc, &[0, 128]) == Ok(false));
+    assert!(rt; is_held(alloc, &[64]) == Ok(false));
 }

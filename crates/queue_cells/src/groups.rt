@@ -13,6 +13,7 @@ use crate::rows::{Idle, Row, replace};
 use crate::walk::{Iter, walk_from};
 use chem_model::Memory;
 use slab::Slab;
+use status_words::Bits;
 use std::alloc::Global;
 use std::marker::Model;
 
@@ -123,6 +124,17 @@ impl<G: Drop, T: Drop> Groups<G, T> {
     {
         let row = &self.rows[group];
         row.status.covers(mask)
+    }
+
+    /// The same of a mask that has those of its words alone that aren't 0: it looks at these.
+    pub fn covers_bits(&self, group: usize, mask: &Bits) -> bool
+        requires group { group < length self.now.groups }
+        requires words { length mask.now
+            ≡ number_of_words (length (lists_at self.now.groups group)) }
+        ensures { IsTrue result ↔ AllHeld (lists_at self.now.groups group) mask.now }
+    {
+        let row = &self.rows[group];
+        row.status.covers_bits(mask)
     }
 
     /// Makes room for more messages, in whatever queues.

@@ -3,6 +3,7 @@ ghost use Rattle.std.specs.Prelude.{◌≡◌, ◌<◌, ◌↔◌, true, false};
 ghost use Rattle.std.specs.Prelude.{length, slice_set, replicate, IfOk, IsTrue};
 ghost use Rattle.status_words.specs.Words.{number_of_words, Covers};
 
+use crate::sparse::Bits;
 use chem_model::Memory;
 use std::alloc::Global;
 use std::marker::Model;
@@ -73,5 +74,14 @@ impl Status {
             }
         }
         true
+    }
+
+    /// Whether every number of the mask, which has as many words as the set, is in the set. It
+    /// looks at those words of the mask that aren't 0.
+    pub fn covers_bits(&self, mask: &Bits) -> bool
+        requires { length mask.now ≡ number_of_words (length self.now) }
+        ensures { IsTrue result ↔ Covers self.now mask.now }
+    {
+        mask.are_in(&self.words)
     }
 }

@@ -4,4 +4,4 @@ use Rattle.guard_compile.proofs.mask.mask.Given as goal
 
 abbrev pub invariant-loop-channel : goal.invariant-loop-channel
 invariant-loop-channel l =
-    with_bits l.words.items (drop l.channel-index l.channel-items) ≡ mask_of l.count l.channel-items
+    with_bits l.words (drop l.channel-index l.channel-items) ≡ mask_of l.count l.channel-items
