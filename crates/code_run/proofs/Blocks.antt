@@ -10,7 +10,7 @@ use Rattle.chem_model.specs.declared.name.Loc.{Loc}
 use Rattle.chem_model.specs.declared.name.Name.{Name}
 use Rattle.chem_model.specs.declared.name.Name.TheVariants as name
 use Rattle.chem_model.specs.Each.{Each}
-use Rattle.chem_laws.proofs.Lists.{Each-weaker}
+use Rattle.chem_laws.proofs.Lists.{Each-weaker, append_nil}
 use Rattle.env_store.specs.declared.code.Level.{Level}
 use Rattle.env_store.specs.declared.code.Block.{Block}
 use Rattle.env_store.specs.CodeParts.{CodeParts}
@@ -81,29 +81,47 @@ module _ (c : CodeParts) (s : ℕ) (l : Loc) (k : ℕ) where
   -- what laying a block makes: its births, the group of its own list, and then its places
   pub block_made :
       (M : Making) (env : List Name) (levels : List ℕ) (own : ℕ) (places : List ℕ) (v : Level)
-      (first : ℕ) (old mid end new : Run) (o : Result (Unit {0}) Memory) → levels ≡ own ∷ places
-      → slice_get c.levels own ≡ Some v
-      → first ≡ k + length v.counts
-      → Adds old mid (births_ran old.next (place_births s first (numbered_levels c.levels places)))
-      → Adds mid end (group_ran s l env k mid.next (record { number = own; level = v }))
+      (first : ℕ) (old : Run) (births : List Loc) (end new : Run) (o : Result (Unit {0}) Memory)
+      → levels ≡ own ∷ places → slice_get c.levels own ≡ Some v → first ≡ k + length v.counts
+      → births ≡ old.births ++ place_births s first (numbered_levels c.levels places)
+      → Adds (record {
+        next = old.next;
+        births = births;
+        groups = old.groups;
+        posts = old.posts;
+        outs = old.outs;
+      }) end (group_ran s l env k old.next (record { number = own; level = v }))
       → OnOk o (Adds end new (places_ran M s env first end.next (numbered_levels c.levels places)))
       → OnOk o (Adds old new (levels_laid M s env l k old.next (numbered_levels c.levels levels)))
-  block_made M env levels own places v first old mid end new (Err m) split at next b g h = tt
-  block_made M env levels own places v first old mid end new (Ok u) split at next b g h =
+  block_made M env levels own places v first old births end new (Err m) split at next b g h = tt
+  block_made M env levels own places v first old births end new (Ok u) split at next b g h =
       let vs = numbered_levels c.levels places in
       let w : NumberedLevel = record { number = own; level = v } in
       let kn = k + length v.counts in
-      let whole = λ (j n : ℕ). then_ran (births_ran old.next (place_births s j vs))
-      (then_ran (group_ran s l env k n w) (places_ran M s env j (n + v.guards) vs)) in
-      let at_end : Adds end new (places_ran M s env first (mid.next + v.guards) vs) =
+      let mid : Run = record {
+        next = old.next;
+        births = births;
+        groups = old.groups;
+        posts = old.posts;
+        outs = old.outs;
+      } in
+      let born : Adds old mid (births_ran old.next (place_births s first vs)) = (
+        refl,
+        b,
+        sym (append_nil old.groups),
+        sym (append_nil old.posts),
+        sym (append_nil old.outs),
+      ) in
+      let whole = λ (j : ℕ). then_ran (births_ran old.next (place_births s j vs))
+      (then_ran (group_ran s l env k old.next w) (places_ran M s env j (old.next + v.guards) vs)) in
+      let at_end : Adds end new (places_ran M s env first (old.next + v.guards) vs) =
       subst (λ (n : ℕ). Adds end new (places_ran M s env first n vs)) g.0 h in
-      let all : Adds old new (whole first mid.next) = adds_then old mid new
-      (births_ran old.next (place_births s first vs)) (then_ran (group_ran s l env k mid.next w)
-      (places_ran M s env first (mid.next + v.guards) vs)) b
-      (adds_then mid end new (group_ran s l env k mid.next w)
-      (places_ran M s env first (mid.next + v.guards) vs) g at_end) in
-      let exact : Adds old new (whole kn old.next) =
-      subst (λ (q : ℕ × ℕ). Adds old new (whole q.0 q.1)) (λ i. (next i, b.0 i)) all in
+      let all : Adds old new (whole first) = adds_then old mid new
+      (births_ran old.next (place_births s first vs)) (then_ran (group_ran s l env k old.next w)
+      (places_ran M s env first (old.next + v.guards) vs)) born
+      (adds_then mid end new (group_ran s l env k old.next w)
+      (places_ran M s env first (old.next + v.guards) vs) g at_end) in
+      let exact : Adds old new (whole kn) = subst (λ (j : ℕ). Adds old new (whole j)) next all in
       subst (λ us. Adds old new (levels_laid M s env l k old.next us))
       (sym (ap (numbered_levels c.levels) split ∙ numbered_first c own places v at)) exact
 

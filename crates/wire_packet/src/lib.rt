@@ -6,6 +6,7 @@ mod ids;
 mod packet;
 mod parcel;
 mod reading;
+mod shared;
 mod writing;
 
 pub use fault::DecodeEnd;
@@ -15,4 +16,5 @@ pub use packet::{
 };
 pub use parcel::{Packet, Parcel};
 pub use reading::{decode, front_decides, one_outcome, one_spelling};
+pub use shared::SharedEnv;
 pub use writing::encode;
