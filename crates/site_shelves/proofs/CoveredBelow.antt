@@ -1,9 +1,11 @@
 -- How far the index of covered guards was noted and compared.
-use Rattle.std.specs.Prelude.{◌≡◌, ℕ, ◌<◌, List, Some, slice_get}
+use Rattle.std.specs.Prelude.{◌≡◌, ℕ, ◌<◌, ◌⊎◌, true, List, Some, slice_get}
+use Rattle.chem_model.specs.Binders.{is_among}
 use Rattle.chem_model.specs.declared.event.RuleId.{RuleId}
 use Rattle.env_store.specs.CodeParts.{CodeParts}
 use Rattle.wire_packet.specs.MessageFacts.{MessageParts}
-use Rattle.site_shelves.specs.inside.Covered.{Keys, key_at, Levels, IsNoted, AreMasksOf}
+use Rattle.site_shelves.specs.inside.Covered.{Key, Keys, has, key_at, key_from, Levels, IsNoted}
+use Rattle.site_shelves.specs.inside.Covered.{AreMasksOf}
 
 -- ---- masks
 
@@ -13,6 +15,20 @@ abbrev pub NotedBelow :
 NotedBelow n ks r s masks qs =
     (i : ℕ) (m : List ℕ) → i < n → slice_get masks i ≡ Some m
     → IsNoted ks (key_at r i s) qs m
+
+-- its key stands as before, and where it is one of these places it is among those that are left
+pub record IsLeftOver (ns left : List ℕ) (i : ℕ) (old now : Keys) (key : Key) : Type 0 where
+  pub same : has now key ≡ has old key
+  pub among : is_among ns i ≡ true → is_among left i ≡ true
+
+-- so does each at these places but those that are left
+abbrev pub AreNotedYet :
+    List ℕ → List ℕ → Keys → Keys → Key → List (List ℕ) → List (List MessageParts)
+    → Type 0
+AreNotedYet ns left old now first masks qs =
+    (i : ℕ) (m : List ℕ) → slice_get masks i ≡ Some m
+    → IsNoted now (key_from first i) qs m
+    ⊎ IsLeftOver ns left i old now (key_from first i)
 
 -- ---- the code
 

@@ -14,5 +14,8 @@ pub mod Fronts
 pub mod Counting
 pub mod Taken
 pub mod Amounts
+pub mod StillHeld
+pub mod Renoting
+pub mod WaitLemmas
 pub mod Drops
 pub mod Shelving

@@ -20,7 +20,6 @@ use Rattle.site_shelves.specs.declared.covering.Covering.{Covering}
 use Rattle.site_shelves.specs.declared.told.Spots.{Spots}
 use Rattle.site_shelves.specs.inside.Index.{Rows, groups_of, Rise, place_of, IsIndex}
 use Rattle.site_shelves.specs.inside.Forgotten.{serials_but}
-use Rattle.site_shelves.specs.inside.New.{gone_in, gone_at}
 use Rattle.site_shelves.specs.inside.Covered.{Key, Keys, key_cmp, key_at, KeepsAllBut}
 use Rattle.site_shelves.specs.inside.Covered.{KeepsOthers, Levels, KeepsLevels, SameLevels}
 use Rattle.site_shelves.specs.inside.Covered.{IsNoted, AreNoted, IsIndexed, AreIndexed}
@@ -51,10 +50,10 @@ key-parts p q e =
     let first = then-equal (nat_cmp p.0 q.0) (nat_cmp p.1 q.1) both.0 in
     (eq-nat p.0 q.0 first.0, eq-nat p.1 q.1 first.1, eq-nat p.2 q.2 both.1)
 
-key-same : (p q : Key) → is_at (key_cmp p) q ≡ true → (p.1 ≡ q.1) × (p.2 ≡ q.2)
+pub key-same : (p q : Key) → is_at (key_cmp p) q ≡ true → (p.1 ≡ q.1) × (p.2 ≡ q.2)
 key-same p q e = let all = key-parts p q e in (all.1, all.2)
 
-not-at : (p q : Key) → (is_at (key_cmp p) q ≡ true → ⊥) → is_at (key_cmp p) q ≡ false
+pub not-at : (p q : Key) → (is_at (key_cmp p) q ≡ true → ⊥) → is_at (key_cmp p) q ≡ false
 not-at p q no-way = go (is_at (key_cmp p) q) refl
   where
     go : (b : Bool) → is_at (key_cmp p) q ≡ b → is_at (key_cmp p) q ≡ false
@@ -214,7 +213,7 @@ with-queue-many (q ∷ qs) (suc i) c ms = ap suc (with-queue-many qs i c ms)
 
 -- ---- a queue changes
 
-get-other : (qs : Rows) (i c : ℕ) (ms : List MessageParts) (j : ℕ) → (j ≡ i → ⊥)
+pub get-other : (qs : Rows) (i c : ℕ) (ms : List MessageParts) (j : ℕ) → (j ≡ i → ⊥)
     → slice_get (groups_of (with_queue qs i c ms)) j ≡ slice_get (groups_of qs) j
 get-other [] i c ms j other = refl
 get-other (q ∷ qs) zero c ms zero other = absurd (other refl)
@@ -229,41 +228,13 @@ pub queue-changed :
 queue-changed levels ks ss qs i c ms are j s g other serial at =
     are j s g serial (sym (get-other qs i c ms j other) ∙ at)
 
--- the same of the index as a whole
-pub queue-covering : (a : Covering) (ss : List ℕ) (qs new : Rows) (i c : ℕ) (ms : List MessageParts)
-    → new ≡ with_queue qs i c ms → IsCovering a ss (groups_of qs)
-    → IsCoveringBut i a ss (groups_of new)
-queue-covering a ss qs new i c ms is covering e =
-    subst (λ (rs : Rows). AreIndexedBut a.levels.items a.keys ss (groups_of rs) i) (sym is)
-    (queue-changed a.levels.items a.keys ss qs i c ms (covering e))
-
-set-other : {X : Type 0} (xs : List X) (i j : ℕ) (x : X) → (j ≡ i → ⊥)
+pub set-other : {X : Type 0} (xs : List X) (i j : ℕ) (x : X) → (j ≡ i → ⊥)
     → slice_get (slice_set xs i x) j ≡ slice_get xs j
 set-other [] i j x other = refl
 set-other (y ∷ xs) zero zero x other = absurd (other refl)
 set-other (y ∷ xs) zero (suc j) x other = refl
 set-other (y ∷ xs) (suc i) zero x other = refl
 set-other (y ∷ xs) (suc i) (suc j) x other = set-other xs i j x (λ e. other (ap suc e))
-
-gone-other : (gs : List Group) (i : ℕ) (cs : List ℕ) (j : ℕ) → (j ≡ i → ⊥)
-    → slice_get (gone_at i cs gs) j ≡ slice_get gs j
-gone-other gs i cs j other = go (slice_get gs i)
-  where
-    go : (o : Option Group) → slice_get (gone_in o i cs gs) j ≡ slice_get gs j
-    go None = refl
-    go (Some g) = set-other gs i j _ other
-
-pub fronts-changed :
-    (levels : Levels) (ks : Keys) (ss : List ℕ) (gs : List Group) (i : ℕ) (cs : List ℕ)
-    → AreIndexed levels ks ss gs → AreIndexedBut levels ks ss (gone_at i cs gs) i
-fronts-changed levels ks ss gs i cs are j s g other serial at =
-    are j s g serial (sym (gone-other gs i cs j other) ∙ at)
-
-pub fronts-covering : (a : Covering) (ss : List ℕ) (gs new : List Group) (i : ℕ) (cs : List ℕ)
-    → new ≡ gone_at i cs gs → IsCovering a ss gs → IsCoveringBut i a ss new
-fronts-covering a ss gs new i cs is covering e =
-    subst (λ (hs : List Group). AreIndexedBut a.levels.items a.keys ss hs i) (sym is)
-    (fronts-changed a.levels.items a.keys ss gs i cs (covering e))
 
 -- ---- a group comes
 

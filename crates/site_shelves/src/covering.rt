@@ -7,12 +7,15 @@ ghost use Rattle.chem_model.specs.Solution.{same_loc};
 ghost use Rattle.net_laws.specs.Site.{Group};
 ghost use Rattle.site_shelves.specs.inside.Index.{groups_of};
 ghost use Rattle.site_shelves.specs.inside.Covered.{IsNoted, AreNoted, KeepsAllBut, KeepsOthers};
+ghost use Rattle.site_shelves.specs.inside.Covered.{key_from, AreNotedAmong, IsRenoted};
+ghost use Rattle.site_shelves.specs.inside.Covered.{IsCoveringAside};
 ghost use Rattle.site_shelves.specs.inside.Covered.{IsIndexed, IsCovering, IsCoveringBut};
 ghost use Rattle.site_shelves.specs.inside.Covered.{IsCoveringAway, KeepsLevels, SameLevels};
 ghost use Rattle.site_shelves.specs.inside.Covered.{HasSerials, AreMasksOf, Agrees};
 
+use crate::level_masks::LevelMasks;
 use crate::told::{NewGroup, Spots, Told};
-use chem_model::{Items, Loc, Memory, RuleId, same_loc};
+use chem_model::{Loc, Memory, RuleId, same_loc};
 use env_store::{Bits, Code};
 use queue_cells::Groups;
 use std::alloc::Global;
@@ -22,14 +25,12 @@ use wire_packet::Msg;
 // The site and the number of a guard's rule, and the serial of its group.
 pub(crate) type Key = (u32, u64, u64);
 
-pub(crate) type Masks = Items<Bits>;
-
 // The masks of the guards of each level, by the level's number, where a group of it was laid; and
 // the keys of all guards that they cover, perhaps with others. Where a level came with other masks,
 // or there was no memory, it is given up.
 #[derive(Drop)]
 pub(crate) struct Covering {
-    pub(crate) levels: Vec<Option<Masks>>,
+    pub(crate) levels: Vec<Option<LevelMasks>>,
     pub(crate) keys: BTreeSet<Key>,
     pub(crate) lost: bool,
 }
@@ -62,7 +63,7 @@ fn note_one(
     key: Key,
     groups: &Groups<Told, Msg>,
     group: usize,
-    mask: &[u64],
+    mask: &Bits,
 ) -> bool
     requires { group < length groups.now.groups }
     ensures noted { IsTrue result
@@ -72,7 +73,7 @@ fn note_one(
     if mask.len() != (groups.width(group) as usize).div_ceil(64) {
         return false;
     }
-    if groups.covers(group, mask) {
+    if groups.covers_bits(group, mask) {
         keys.insert(key).is_ok()
     } else {
         keys.remove(&key);
@@ -98,8 +99,7 @@ fn note(
         let Some(k) = rules.k.checked_add(place as u64) else {
             return false;
         };
-        let mask = masks[place].as_slice();
-        if !note_one(keys, (rules.site, k, serial), groups, group, mask) {
+        if !note_one(keys, (rules.site, k, serial), groups, group, &masks[place]) {
             return false;
         }
     }
@@ -108,7 +108,7 @@ fn note(
 
 // The same where the masks of the group's level are known.
 fn renote(
-    levels: &[Option<Masks>],
+    levels: &[Option<LevelMasks>],
     keys: &mut BTreeSet<Key>,
     groups: &Groups<Told, Msg>,
     group: usize,
@@ -122,7 +122,85 @@ fn renote(
 {
     let inst = &groups.told(group).inst;
     match levels.get(inst.level as usize) {
-        Some(Some(masks)) => note(keys, masks.as_slice(), groups, group, inst.rules, serial),
+        Some(Some(masks)) => note(keys, masks.masks(), groups, group, inst.rules, serial),
+        _ => false,
+    }
+}
+
+// The same for the guard at one place, where this is the key of the first. False too where there is
+// no guard.
+fn note_at(
+    keys: &mut BTreeSet<Key>,
+    masks: &[Bits],
+    place: u32,
+    groups: &Groups<Told, Msg>,
+    group: usize,
+    first: Key,
+) -> bool
+    requires { group < length groups.now.groups }
+    ensures noted { IsTrue result → (m : List ℕ) → slice_get masks.now place ≡ Some m
+        → IsNoted keys.new (key_from first place) (lists_at groups.now.groups group) m }
+    ensures others { KeepsAllBut (key_from first place) keys.old keys.new }
+{
+    let (site, rule, serial) = first;
+    let Some(k) = rule.checked_add(place as u64) else {
+        return false;
+    };
+    if place as usize >= masks.len() {
+        return false;
+    }
+    let mask = &masks[place as usize];
+    note_one(keys, (site, k, serial), groups, group, mask)
+}
+
+// The same for the guards at these places.
+fn note_each(
+    keys: &mut BTreeSet<Key>,
+    masks: &[Bits],
+    places: &[u32],
+    groups: &Groups<Told, Msg>,
+    group: usize,
+    first: Key,
+) -> bool
+    requires { group < length groups.now.groups }
+    ensures noted { IsTrue result → AreNotedAmong places.now keys.old keys.new first masks.now
+        (lists_at groups.now.groups group) }
+    ensures others { KeepsOthers first.2 keys.old keys.new }
+{
+    for place in places {
+        if !note_at(keys, masks, *place, groups, group, first) {
+            return false;
+        }
+    }
+    true
+}
+
+// The same for the guards that wait on a channel, where the masks of the group's level are known.
+fn renote_on(
+    levels: &[Option<LevelMasks>],
+    keys: &mut BTreeSet<Key>,
+    groups: &Groups<Told, Msg>,
+    group: usize,
+    chan: u32,
+    serial: u64,
+) -> bool
+    requires { group < length groups.now.groups }
+    ensures renoted { IsTrue result → (g : Group)
+        → slice_get (groups_of groups.now.groups) group ≡ Some g
+        → IsRenoted chan levels.now keys.old keys.new serial g }
+    ensures others { KeepsOthers serial keys.old keys.new }
+{
+    let laid = &groups.told(group).inst;
+    let first = (laid.rules.site, laid.rules.k, serial);
+    match levels.get(laid.level as usize) {
+        Some(Some(masks)) => note_each(
+            keys,
+            masks.masks(),
+            masks.waiting(chan),
+            groups,
+            group,
+            first,
+        ),
         _ => false,
     }
 }
@@ -147,6 +225,38 @@ pub(crate) fn refresh(
     }
     let serial = spots.serials[group];
     if !renote(&covering.levels, &mut covering.keys, groups, group, serial) {
+        give_up(covering);
+    }
+}
+
+// Puts the keys of those guards of a group right that wait on a channel, where all others are.
+pub(crate) fn refresh_on(
+    covering: &mut Covering,
+    groups: &Groups<Told, Msg>,
+    spots: &Spots,
+    group: usize,
+    chan: u32,
+)
+    requires serials { HasSerials spots.now (length groups.now.groups) }
+    requires others { IsCoveringAside chan group covering.old spots.now.serials.items
+        (groups_of groups.now.groups) }
+    ensures { IsCovering covering.new spots.now.serials.items (groups_of groups.now.groups) }
+{
+    if covering.lost {
+        return;
+    }
+    if group >= groups.len() {
+        return;
+    }
+    let serial = spots.serials[group];
+    if !renote_on(
+        &covering.levels,
+        &mut covering.keys,
+        groups,
+        group,
+        chan,
+        serial,
+    ) {
         give_up(covering);
     }
 }
@@ -197,12 +307,12 @@ pub(crate) fn forget_keys(
 // ---- the masks of levels
 
 // Whether the guard of the code with this number has these words, where it is there.
-fn guard_has(code: &Code, number: usize, words: &[u64]) -> bool
+fn guard_has(code: &Code, number: usize, words: &Bits) -> bool
     ensures { IsTrue result → (g : Guard) → slice_get code.now.guards number ≡ Some g
         → words.now ≡ g.mask.words }
 {
     match code.guards.as_slice().get(number) {
-        Some(guard) => words == guard.mask.words.as_slice(),
+        Some(guard) => words.same(&guard.mask.words),
         None => false,
     }
 }
@@ -219,7 +329,7 @@ fn are_masks_of(code: &Code, number: usize, masks: &[Bits]) -> bool
         return false;
     }
     for place in 0..masks.len() {
-        if !guard_has(code, first + place, masks[place].as_slice()) {
+        if !guard_has(code, first + place, &masks[place]) {
             return false;
         }
     }
@@ -236,7 +346,7 @@ pub(crate) fn agrees(covering: &Covering, code: &Code) -> bool
     }
     for number in 0..covering.levels.len() {
         if let Some(masks) = &covering.levels[number] {
-            if !are_masks_of(code, number, masks.as_slice()) {
+            if !are_masks_of(code, number, masks.masks()) {
                 return false;
             }
         }
@@ -245,15 +355,33 @@ pub(crate) fn agrees(covering: &Covering, code: &Code) -> bool
 }
 
 // Copies the mask of the guard of the code with this number, where it is there.
-fn copy_mask(masks: &mut Masks, alloc: Global, code: &Code, number: usize) -> Result<(), Memory> {
+fn copy_mask(
+    masks: &mut LevelMasks,
+    alloc: Global,
+    code: &Code,
+    number: usize,
+) -> Result<(), Memory> {
     match code.guards.as_slice().get(number) {
-        Some(guard) => masks.push(guard.mask.words.copy(alloc)?),
+        Some(guard) => masks.add(alloc, guard),
         None => Ok(()),
     }
 }
 
+// How many channels a level of the code has.
+fn channels_of(code: &Code, number: usize) -> usize {
+    match code.levels.as_slice().get(number) {
+        Some(level) => level.counts.len(),
+        None => 0,
+    }
+}
+
 // Copies the masks of a level of the code.
-fn copy_masks(masks: &mut Masks, alloc: Global, code: &Code, number: usize) -> Result<(), Memory> {
+fn copy_masks(
+    masks: &mut LevelMasks,
+    alloc: Global,
+    code: &Code,
+    number: usize,
+) -> Result<(), Memory> {
     let Some(level) = code.levels.as_slice().get(number) else {
         return Ok(());
     };
@@ -265,7 +393,7 @@ fn copy_masks(masks: &mut Masks, alloc: Global, code: &Code, number: usize) -> R
 }
 
 // Makes room for a level with this number.
-fn grow(levels: &mut Vec<Option<Masks>>, number: usize) -> Result<(), Memory>
+fn grow(levels: &mut Vec<Option<LevelMasks>>, number: usize) -> Result<(), Memory>
     ensures { SameLevels levels.old.items levels.new.items }
 {
     for _at in levels.len()..=number {
@@ -275,7 +403,7 @@ fn grow(levels: &mut Vec<Option<Masks>>, number: usize) -> Result<(), Memory>
 }
 
 // Notes the masks of a level, where there is room.
-fn set_level(levels: &mut Vec<Option<Masks>>, number: usize, masks: Masks)
+fn set_level(levels: &mut Vec<Option<LevelMasks>>, number: usize, masks: LevelMasks)
     ensures { levels.new.items ≡ slice_set levels.old.items number (Some masks) }
 {
     if let Some(place) = levels.get_mut(number) {
@@ -285,7 +413,7 @@ fn set_level(levels: &mut Vec<Option<Masks>>, number: usize, masks: Masks)
 
 // Adds the masks of a level that isn't known.
 fn add_level(
-    levels: &mut Vec<Option<Masks>>,
+    levels: &mut Vec<Option<LevelMasks>>,
     alloc: Global,
     code: &Code,
     number: usize,
@@ -294,7 +422,7 @@ fn add_level(
     ensures { KeepsLevels levels.old.items levels.new.items }
 {
     grow(levels, number)?;
-    let mut masks = Items::new(alloc);
+    let mut masks = LevelMasks::new(alloc, channels_of(code, number))?;
     match copy_masks(&mut masks, alloc, code, number) {
         Ok(()) => {
             set_level(levels, number, masks);
@@ -309,11 +437,11 @@ fn add_level(
 
 // Whether the masks of a level are known, and are those of the code: where they aren't known they
 // are added.
-fn knows(levels: &mut Vec<Option<Masks>>, alloc: Global, code: &Code, number: usize) -> bool
+fn knows(levels: &mut Vec<Option<LevelMasks>>, alloc: Global, code: &Code, number: usize) -> bool
     ensures { KeepsLevels levels.old.items levels.new.items }
 {
     if let Some(Some(masks)) = levels.get(number) {
-        return are_masks_of(code, number, masks.as_slice());
+        return are_masks_of(code, number, masks.masks());
     }
     add_level(levels, alloc, code, number).is_ok()
 }

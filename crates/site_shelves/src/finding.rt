@@ -1,10 +1,10 @@
 // The queue of a message's channel.
 ghost use Rattle.std.specs.Prelude.{◌≡◌, ◌≤◌, ◌<◌, ◌+◌, ◌-◌, ◌^◌, ◌++◌, ◌∷◌, [], ℕ, List};
 ghost use Rattle.std.specs.Prelude.{Some, cond};
-ghost use Rattle.std.specs.Prelude.{length, slice_get, vec_capacity, OnOk, OnErr, IfErr};
+ghost use Rattle.std.specs.Prelude.{length, slice_get, vec_capacity, IsTrue, OnOk, OnErr, IfErr};
 ghost use Rattle.std.specs.HashMap as hash;
 ghost use Rattle.std.specs.HashMap.{spare};
-ghost use Rattle.queue_cells.specs.Grouped.{lists_at, with_last};
+ghost use Rattle.queue_cells.specs.Grouped.{lists_at, queue_in, with_last};
 ghost use Rattle.chem_model.specs.declared.name.Loc.{Loc};
 ghost use Rattle.net_laws.specs.Site.{Group, Site};
 ghost use Rattle.net_laws.specs.Kept.{AreApart};
@@ -15,7 +15,7 @@ ghost use Rattle.site_shelves.specs.inside.Index.{key_of, is_one_of, holding};
 ghost use Rattle.site_shelves.specs.inside.Index.{groups_of, told_of, same_key, spot_of};
 ghost use Rattle.site_shelves.specs.inside.Index.{on_count, Rise, place_of, IsIndex, HasRoom};
 
-use crate::covering::{Covering, refresh};
+use crate::covering::{Covering, refresh, refresh_on};
 use crate::told::{Mark, NewGroup, Spot, Spots, Told};
 use chem_model::{AtomId, Loc, Memory, Name};
 use queue_cells::Groups;
@@ -92,7 +92,17 @@ pub(crate) fn find(groups: &Groups<Told, Msg>, spots: &Spots, msg: &Msg) -> Opti
     with_count(groups.told(spot.group), spot, msg.args.len())
 }
 
-// Appends a message to a queue. It takes no memory but for the index of covered guards.
+// Whether a queue holds a message.
+fn holds(groups: &Groups<Told, Msg>, group: usize, chan: u32) -> bool
+    requires group { group < length groups.now.groups }
+    requires chan { chan < length (lists_at groups.now.groups group) }
+    ensures { IsTrue result → 0 < length (queue_in groups.now.groups group chan) }
+{
+    groups.front(group, chan).is_some()
+}
+
+// Appends a message to a queue. It takes no memory but for the index of covered guards, which
+// changes where the queue was empty.
 fn push_in(
     groups: &mut Groups<Told, Msg>,
     spots: &Spots,
@@ -112,8 +122,11 @@ fn push_in(
     ensures covering { IsCovering covering.new spots.now.serials.items
         (groups_of groups.new.groups) }
 {
+    let held = holds(groups, group, chan);
     groups.push_reserved(group, chan, msg);
-    refresh(covering, groups, spots, group);
+    if !held {
+        refresh_on(covering, groups, spots, group, chan);
+    }
 }
 
 // Appends a message to a queue, or hands it back where there is no memory.

@@ -9,7 +9,7 @@ ghost use Rattle.site_shelves.specs.inside.Fired.{NothingFired, IsFirstFired, Ar
 use crate::covering::Key;
 use crate::finding::place_of;
 use crate::told::{Spots, Told};
-use env_store::Code;
+use env_store::{Bits, Code};
 use loc_tree::LocTree;
 use queue_cells::Groups;
 use std::collections::BTreeSet;
@@ -69,13 +69,13 @@ fn guard_of(code: &Code, told: &Told, key: Key) -> Option<u32>
 }
 
 // The words of a guard's mask.
-fn words_of(code: &Code, guard: u32) -> &[u64]
+fn words_of(code: &Code, guard: u32) -> &Bits
     requires { guard < length code.now.guards }
     ensures { (u : Guard) → slice_get code.now.guards guard ≡ Some u
         → result.now ≡ u.mask.words }
 {
     let guard = &code.guards.as_slice()[guard as usize];
-    guard.mask.words.as_slice()
+    &guard.mask.words
 }
 
 // Whether the group's location is live.
@@ -104,7 +104,7 @@ fn fired(
     let group = placed(spots, key.2)?;
     let told = groups.told(group);
     let guard = guard_of(code, told, key)?;
-    if !groups.covers(group, words_of(code, guard)) {
+    if !groups.covers_bits(group, words_of(code, guard)) {
         return None;
     }
     if !lives(tree, told) {

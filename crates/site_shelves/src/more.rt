@@ -15,7 +15,7 @@ ghost use Rattle.site_shelves.specs.inside.Covered.{HasSerials, IsCovering};
 ghost use Rattle.site_shelves.specs.inside.New.{told_of_new, widths, IsNewGroup, gone_at};
 ghost use Rattle.site_shelves.specs.inside.Room.{IsRestacked, lays, HasRoomFor};
 
-use crate::covering::{Covering, refresh};
+use crate::covering::{Covering, refresh_on};
 use crate::finding::{add_group, reserve_spots, settle};
 use crate::told::{NewGroup, Spots, Told};
 use chem_model::{Items, Memory, Nums};
@@ -145,6 +145,59 @@ fn take_one(groups: &mut Groups<Told, Msg>, group: usize, chan: u32)
     }
 }
 
+// Whether a queue is there and holds no message.
+fn is_empty(groups: &Groups<Told, Msg>, group: usize, chan: u32) -> bool {
+    if group >= groups.len() || chan >= groups.width(group) {
+        return false;
+    }
+    groups.front(group, chan).is_none()
+}
+
+// Puts the keys of those guards of a group right that wait on a channel whose queue has become
+// empty. Without it there are keys of guards that are no longer covered.
+fn refresh_where(
+    gone: bool,
+    covering: &mut Covering,
+    groups: &Groups<Told, Msg>,
+    spots: &Spots,
+    group: usize,
+    chan: u32,
+)
+    requires serials { HasSerials spots.now (length groups.now.groups) }
+    requires is { IsCovering covering.old spots.now.serials.items
+        (groups_of groups.now.groups) }
+    ensures { IsCovering covering.new spots.now.serials.items (groups_of groups.now.groups) }
+{
+    if gone {
+        refresh_on(covering, groups, spots, group, chan);
+    }
+}
+
+// Drops the front of a queue of a group, where there is one, and the keys of those guards that wait
+// on it where it was the last. It takes no memory.
+fn take_noted(
+    groups: &mut Groups<Told, Msg>,
+    spots: &Spots,
+    covering: &mut Covering,
+    group: usize,
+    chan: u32,
+)
+    requires serials { HasSerials spots.now (length groups.old.groups) }
+    requires covering { IsCovering covering.old spots.now.serials.items
+        (groups_of groups.old.groups) }
+    ensures groups { groups_of groups.new.groups
+        ≡ gone_at group (chan ∷ []) (groups_of groups.old.groups) }
+    ensures many { length groups.new.groups ≡ length groups.old.groups }
+    ensures spare { groups.old.spare ≤ groups.new.spare }
+    ensures spare_groups { groups.new.spare_groups ≡ groups.old.spare_groups }
+    ensures covering { IsCovering covering.new spots.now.serials.items
+        (groups_of groups.new.groups) }
+{
+    take_one(groups, group, chan);
+    let gone = is_empty(groups, group, chan);
+    refresh_where(gone, covering, groups, spots, group, chan);
+}
+
 // Drops the front of each of these queues of a group in turn, where there is one. It takes no
 // memory.
 pub(crate) fn take_fronts(
@@ -165,13 +218,9 @@ pub(crate) fn take_fronts(
     ensures covering { IsCovering covering.new spots.now.serials.items
         (groups_of groups.new.groups) }
 {
-    if chans.is_empty() {
-        return;
-    }
     for chan in chans {
-        take_one(groups, group, *chan);
+        take_noted(groups, spots, covering, group, *chan);
     }
-    refresh(covering, groups, spots, group);
 }
 
 // Makes room for more stuck messages. Where groups are laid, those that are stuck are handed out,

@@ -27,6 +27,8 @@ fn copy_group(
     ensures names { Each HasFewNames members.old → Each HasFewNames members.new }
 {
     if same_loc(loc, inst.loc) {
+        // its environment has fewer than 2^32 names
+        let _few = inst.env.len();
         members.push(inst.copy(alloc)?)?;
     }
     Ok(())

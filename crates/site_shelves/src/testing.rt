@@ -15,7 +15,7 @@ use env_store::Code;
 use queue_cells::{Groups, Iter};
 use wire_packet::{Msg, Waiting};
 
-fn same_counts(one: &[u32], other: &[u32]) -> bool
+pub fn same_counts(one: &[u32], other: &[u32]) -> bool
     ensures { result ≡ same_counts one.now other.now }
 {
     if one.len() != other.len() {

@@ -1,6 +1,6 @@
 -- The index of covered guards.
 use Rattle.std.specs.Prelude.{◌≡◌, ℕ, ◌+◌, ◌<◌, Bool, true, false, List, Option, Some, slice_get}
-use Rattle.std.specs.Prelude.{length, ◌↔◌}
+use Rattle.std.specs.Prelude.{length, ◌↔◌, ◌⊎◌}
 use Rattle.std.specs.BTreeSet.{BTreeSet, contains}
 use Rattle.std.specs.BTreeMap.{is_at}
 use Rattle.std.specs.declared.cmp.Ordering.{Ordering}
@@ -8,11 +8,12 @@ use Rattle.std.specs.Ordering.{ordering_then, nat_cmp}
 use Rattle.chem_model.specs.declared.event.RuleId.{RuleId}
 use Rattle.chem_model.specs.declared.name.Loc.{Loc}
 use Rattle.chem_model.specs.Solution.{same_loc}
+use Rattle.chem_model.specs.Binders.{is_among}
 use Rattle.env_store.specs.declared.code.Guard.{Guard}
 use Rattle.env_store.specs.declared.code.Level.{Level}
 use Rattle.env_store.specs.CodeParts.{CodeParts}
 use Rattle.wire_packet.specs.MessageFacts.{MessageParts}
-use Rattle.status_words.specs.Words.{number_of_words}
+use Rattle.status_words.specs.Words.{number_of_words, has_bit}
 use Rattle.queue_cells.specs.Grouped.{AllHeld}
 use Rattle.net_laws.specs.Site.{Group}
 use Rattle.site_shelves.specs.inside.Index.{Rise}
@@ -36,6 +37,10 @@ has ks q = contains key_cmp ks q
 -- the key of the guard n of a group whose first rule this is
 abbrev pub key_at : RuleId → ℕ → ℕ → Key
 key_at r n s = (r.site, r.k + n, s)
+
+-- the key that comes so many places behind another one
+abbrev pub key_from : Key → ℕ → Key
+key_from p n = (p.0, p.1 + n, p.2)
 
 -- all but this key stand as before
 abbrev pub KeepsAllBut : Key → Keys → Keys → Type 0
@@ -74,6 +79,25 @@ abbrev pub AreNoted :
 AreNoted ks r s masks qs =
     (i : ℕ) (m : List ℕ) → slice_get masks i ≡ Some m → IsNoted ks (key_at r i s) qs m
 
+-- ---- some of a group's guards are noted anew
+
+-- it isn't one of these places, and its key stands as before
+pub record IsUnasked (ns : List ℕ) (i : ℕ) (old new : Keys) (key : Key) : Type 0 where
+  pub out : is_among ns i ≡ false
+  pub same : has new key ≡ has old key
+
+-- those at these places are noted, where this is the key of the first
+abbrev pub AreNotedAmong :
+    List ℕ → Keys → Keys → Key → List (List ℕ) → List (List MessageParts) → Type 0
+AreNotedAmong ns old new first masks qs =
+    (i : ℕ) (m : List ℕ) → slice_get masks i ≡ Some m
+    → IsNoted new (key_from first i) qs m ⊎ IsUnasked ns i old new (key_from first i)
+
+-- its mask hasn't the channel, and its key stands as before
+pub record IsAside (c : ℕ) (mask : List ℕ) (old new : Keys) (key : Key) : Type 0 where
+  pub without : has_bit mask c ≡ false
+  pub same : has new key ≡ has old key
+
 -- ---- groups
 
 -- the masks of the group with this serial are known, and each that is covered has its key
@@ -81,6 +105,25 @@ pub record IsIndexed (levels : Levels) (ks : Keys) (s : ℕ) (g : Group) : Type 
   pub masks : List (List ℕ)
   pub known : slice_get levels g.told.inst.level ≡ Some (Some masks)
   pub noted : AreNoted ks g.told.inst.rules s masks g.queues
+
+-- the same of those guards whose masks haven't this channel
+pub record IsIndexedAside (c : ℕ) (levels : Levels) (ks : Keys) (s : ℕ) (g : Group)
+    : Type 0 where
+  pub masks : List (List ℕ)
+  pub known : slice_get levels g.told.inst.level ≡ Some (Some masks)
+  pub noted :
+      (i : ℕ) (m : List ℕ) → slice_get masks i ≡ Some m → has_bit m c ≡ false
+      → IsNoted ks (key_at g.told.inst.rules i s) g.queues m
+
+-- those that have it were noted anew
+pub record IsRenoted (c : ℕ) (levels : Levels) (old new : Keys) (s : ℕ) (g : Group)
+    : Type 0 where
+  pub masks : List (List ℕ)
+  pub known : slice_get levels g.told.inst.level ≡ Some (Some masks)
+  pub noted :
+      (i : ℕ) (m : List ℕ) → slice_get masks i ≡ Some m
+      → IsNoted new (key_at g.told.inst.rules i s) g.queues m
+      ⊎ IsAside c m old new (key_at g.told.inst.rules i s)
 
 module _ (levels : Levels) (ks : Keys) (ss : List ℕ) (gs : List Group) where
   -- of each group
@@ -112,6 +155,14 @@ IsCovering a ss gs = a.lost ≡ false → AreIndexed a.levels.items a.keys ss gs
 
 abbrev pub IsCoveringBut : ℕ → Covering → List ℕ → List Group → Type 0
 IsCoveringBut i a ss gs = a.lost ≡ false → AreIndexedBut a.levels.items a.keys ss gs i
+
+-- and of this one those guards are right whose masks haven't the channel
+abbrev pub IsCoveringAside : ℕ → ℕ → Covering → List ℕ → List Group → Type 0
+IsCoveringAside c i a ss gs =
+    a.lost ≡ false
+    → AreIndexedBut a.levels.items a.keys ss gs i
+    × ((s : ℕ) (g : Group) → slice_get ss i ≡ Some s → slice_get gs i ≡ Some g
+    → IsIndexedAside c a.levels.items a.keys s g)
 
 abbrev pub IsCoveringAway : Loc → Covering → List ℕ → List Group → Type 0
 IsCoveringAway l a ss gs = a.lost ≡ false → AreIndexedAway a.levels.items a.keys ss gs l

@@ -6,6 +6,9 @@ use Rattle.site_shelves.proofs.covering.add_level.Goals as goal
 pub returns-in_err-grow : goal.returns-in_err-grow
 returns-in_err-grow c = λ v ms at. (c.grow.ensures v ms).0 at
 
+pub returns-in_err-masks : goal.returns-in_err-masks
+returns-in_err-masks c = λ v ms at. (c.grow.ensures v ms).0 at
+
 pub returns-in-Ok : goal.returns-in-Ok
 returns-in-Ok c = subst (λ (ls : Levels). KeepsLevels c.args.levels.now.items ls)
     (sym c.set_level.ensures) (level-set c.args.levels.now.items c.grow.new.levels.items

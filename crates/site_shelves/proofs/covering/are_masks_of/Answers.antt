@@ -22,7 +22,7 @@ loop-place-preserved c = λ i m g less at has. elim (below-or i c.loop-place.pla
       subst (λ j. slice_get c.args.code.now.guards (c.in-Some.level.now.first + j) ≡ Some g) same
       has in
       some-is (slice_get masks c.loop-place.place) m c.index-masks-place.result here read
-      ∙ sym c.as_slice-in-loop-place.ensures.members ∙ c.if-not-guard_has.ensures refl g guard
+      ∙ c.if-not-guard_has.ensures refl g guard
 ]
 
 pub returns : goal.returns

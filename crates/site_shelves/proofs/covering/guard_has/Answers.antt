@@ -1,8 +1,6 @@
 use Rattle.std.proofs.Common.{◌≡◌, Some, length, refl, sym, ◌∙◌, ap, ltb-true}
 use Rattle.std.specs.Prelude.{slice_get}
 use Rattle.std.proofs.lemmas.Option.{slice_get_read}
-use Rattle.std.proofs.lemmas.Bool.Decides.{Decides-eqb}
-use Rattle.std.proofs.lemmas.Slice.Eq.{slice_eq-Decides}
 use Rattle.env_store.specs.CodeParts.{CodeParts}
 use Rattle.env_store.specs.declared.code.Guard.{Guard}
 use Rattle.site_shelves.proofs.Noting.{some-is}
@@ -17,8 +15,6 @@ returns-in-Some c = λ e g at.
     ap (λ gs. slice_get gs c.args.number) (sym guards)
     ∙ slice_get_read c.as_slice.result.now (length c.as_slice.result.now)
     c.args.number c.in-Some.guard.now refl less c.in-Some.ensures.lookup.1 in
-    let same : c.args.words.now ≡ c.as_slice-in-Some.result.now =
-    (slice_eq-Decides Decides-eqb _ _ _ c.eq.ensures).0 e in
-    same ∙ c.as_slice-in-Some.ensures.members
+    c.same.ensures e
     ∙ ap (λ (u : Guard). u.mask.words)
     (some-is (slice_get c.args.code.now.guards c.args.number) c.in-Some.guard.now g read at)

@@ -1,7 +1,7 @@
 use Rattle.site_shelves.proofs.Noting.{others-next, noted-more, noted-all}
 use Rattle.site_shelves.proofs.covering.note.Goals as goal
 use Rattle.std.proofs.lemmas.Option.{slice_get_read}
-use Rattle.std.proofs.Common.{refl, ◌≡◌, ◌+◌, Some, length, sym, ap, subst, ◌∙◌, arith, rules}
+use Rattle.std.proofs.Common.{refl, ◌≡◌, ◌+◌, Some, length, subst, arith, rules}
 use Rattle.std.specs.Prelude.{slice_get}
 use Rattle.queue_cells.specs.Grouped.{lists_at}
 use Rattle.site_shelves.specs.inside.Covered.{IsNoted, KeepsAllBut}
@@ -12,9 +12,8 @@ loop-place-preserved c =
     let read : slice_get c.args.masks.now c.loop-place.place ≡ Some c.index-masks-place.result =
     slice_get_read c.args.masks.now (length c.args.masks.now)
     c.loop-place.place c.index-masks-place.result refl (omega arith) c.index-masks-place.is in
-    let at = read ∙ ap Some (sym c.as_slice-mask.ensures.members) in
     let noted = subst (λ n. IsNoted c.note_one.new.keys (c.args.rules.site, n, c.args.serial)
-    (lists_at c.args.groups.now.groups c.args.group) c.as_slice-mask.result.now) k
+    (lists_at c.args.groups.now.groups c.args.group) c.index-masks-place.result) k
     (c.if-not-note_one.ensures.noted refl) in
     let keeps = subst
     (λ n. KeepsAllBut (c.args.rules.site, n, c.args.serial) c.loop-place.keys c.note_one.new.keys) k
@@ -22,7 +21,7 @@ loop-place-preserved c =
     record {
       below = noted-more c.loop-place.place c.loop-place.keys c.note_one.new.keys c.args.rules
           c.args.serial c.args.masks.now (lists_at c.args.groups.now.groups c.args.group)
-          c.as_slice-mask.result.now c.loop-place.invariant.below at noted keeps;
+          c.index-masks-place.result c.loop-place.invariant.below read noted keeps;
       others =
           others-next c.args.serial c.args.rules.site c.in-Some.k c.args.keys.now c.loop-place.keys
           c.note_one.new.keys c.loop-place.invariant.others c.note_one.ensures.others;

@@ -38,6 +38,6 @@ returns-in-Some-Some-clause-indexed c = λ e g here.
     read ∙ ap Some c.in-Some-Some.field-0-is in
     let noted = subst
     (λ ms. AreNoted c.note.new.keys d.inst.rules c.args.serial ms (lists_at rows c.args.group))
-    c.as_slice.ensures.members (c.note.ensures.noted e) in
+    c.masks.ensures (c.note.ensures.noted e) in
     indexed-at levels c.note.new.keys c.args.serial rows c.args.group d c.in-Some-Some.masks g row
     known noted here

@@ -39,14 +39,14 @@ returns-in_err-guard-clause-none c =
     no-guard code tree gs ss next rise key j g serial at c.in_err-guard.ensures.none in
     search (rules, none)
 
-pub covers-requires-clause-group : goal.covers-requires-clause-group
-covers-requires-clause-group c =
+pub covers_bits-requires-clause-group : goal.covers_bits-requires-clause-group
+covers_bits-requires-clause-group c =
     let within = slice_get_within c.args.spots.now.serials.items c.in_ok-group.group _
     c.in_ok-group.ensures.some in
     omega (arith, within, c.requires.index.many, groups-many c.args.groups.now.groups)
 
-pub covers-requires-clause-words : goal.covers-requires-clause-words
-covers-requires-clause-words c =
+pub covers_bits-requires-clause-words : goal.covers_bits-requires-clause-words
+covers_bits-requires-clause-words c =
     let code = c.args.code.now in
     let tree = c.args.tree.now in
     let rows = c.args.groups.now.groups in
@@ -76,8 +76,8 @@ overflow_cast-group c =
     omega
     (arith, within, c.requires.few, c.requires.index.many, groups-many c.args.groups.now.groups)
 
-pub returns-then-not-covers-clause-none : goal.returns-then-not-covers-clause-none
-returns-then-not-covers-clause-none c =
+pub returns-then-not-covers_bits-clause-none : goal.returns-then-not-covers_bits-clause-none
+returns-then-not-covers_bits-clause-none c =
     let code = c.args.code.now in
     let tree = c.args.tree.now in
     let rows = c.args.groups.now.groups in
@@ -101,9 +101,9 @@ returns-then-not-covers-clause-none c =
     let queues =
     subst (λ (h : Group). AllHeld h.queues x.guard.mask.words) group fires.covers.held in
     let held = subst (λ (v : Guard). AllHeld (lists_at rows j) v.mask.words) guard queues in
-    not-both c.covers.result (c.covers.ensures.1
+    not-both c.covers_bits.result (c.covers_bits.ensures.1
     (subst (AllHeld (lists_at rows j)) (sym (c.words_of.ensures u there.1)) held))
-    c.if-not-covers.true)
+    c.if-not-covers_bits.true)
 
 pub returns-then-not-lives-clause-none : goal.returns-then-not-lives-clause-none
 returns-then-not-lives-clause-none c =
@@ -153,7 +153,7 @@ returns-clause-some c =
     let u : Guard = there.0 in
     let picks = picked-by code tree gs ss next rise key j g serial at n u is there.1 in
     let held : AllHeld (lists_at rows j) u.mask.words = subst (AllHeld (lists_at rows j))
-    (c.words_of.ensures u there.1) (c.covers.ensures.0 c.if-not-covers.false) in
+    (c.words_of.ensures u there.1) (c.covers_bits.ensures.0 c.if-not-covers_bits.false) in
     fired-by code tree gs ss next rise key j g serial at n u is there.1 (record {
       covers = record { picks = picks; held = held };
       live = sym c.lives.ensures ∙ c.if-not-lives.false;

@@ -19,4 +19,4 @@ returns c = λ u at.
     let same : own ≡ u =
     some-is (slice_get c.args.code.now.guards c.args.guard) own u
     (ap (λ gs. slice_get gs c.args.guard) (sym guards) ∙ read) at in
-    c.as_slice-2.ensures.members ∙ ap (λ (g : Guard). g.mask.words) same
+    ap (λ (g : Guard). g.mask.words) same

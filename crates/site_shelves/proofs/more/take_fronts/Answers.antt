@@ -1,11 +1,10 @@
-use Rattle.std.proofs.Common.{ℕ, subst, length, eqb-true, ◌≡◌, ◌+◌, [], drop, sym, ap, ◌∙◌, arith}
+use Rattle.std.proofs.Common.{ℕ, subst, ◌≡◌, ◌+◌, [], drop, sym, ap, ◌∙◌, arith}
 use Rattle.site_shelves.specs.inside.Index.{groups_of}
 use Rattle.site_shelves.specs.inside.New.{gone_at}
 use Rattle.site_shelves.proofs.Drops.{drop-here}
 use Rattle.site_shelves.proofs.Walked.{drop-past}
 use Rattle.site_shelves.proofs.Fronts.{gone-more, gone-nothing}
 use Rattle.site_shelves.specs.inside.Covered.{HasSerials}
-use Rattle.site_shelves.proofs.Noting.{fronts-covering}
 use Rattle.site_shelves.proofs.more.take_fronts.Goals as goal
 
 pub loop-chan-preserved : goal.loop-chan-preserved
@@ -13,38 +12,20 @@ loop-chan-preserved c =
     let here = drop-here c.args.chans.now c.loop-chan.chan-index 0 c.loop-chan-test.true in
     record {
       done = ap (gone_at c.args.group (drop (c.loop-chan.chan-index + 1) c.args.chans.now))
-          c.take_one.ensures.groups
+          c.take_noted.ensures.groups
           ∙ sym (gone-more (groups_of c.loop-chan.groups.groups) c.args.group _
           (drop (c.loop-chan.chan-index + 1) c.args.chans.now))
           ∙ ap (λ cs. gone_at c.args.group cs (groups_of c.loop-chan.groups.groups)) (sym here)
           ∙ c.loop-chan.invariant.done;
-      many = c.take_one.ensures.many ∙ c.loop-chan.invariant.many;
-      spare = omega (arith, c.take_one.ensures.spare, c.loop-chan.invariant.spare);
-      spare_groups = c.take_one.ensures.spare_groups ∙ c.loop-chan.invariant.spare_groups;
+      many = c.take_noted.ensures.many ∙ c.loop-chan.invariant.many;
+      spare = omega (arith, c.take_noted.ensures.spare, c.loop-chan.invariant.spare);
+      spare_groups = c.take_noted.ensures.spare_groups ∙ c.loop-chan.invariant.spare_groups;
+      covering = c.take_noted.ensures.covering;
     }
 
-pub returns-then-is_empty-clause-groups : goal.returns-then-is_empty-clause-groups
-returns-then-is_empty-clause-groups c =
-    let none : c.args.chans.now ≡ [] =
-    drop-past c.args.chans.now 0
-    (omega (arith, eqb-true (length c.args.chans.now) 0 (sym c.if-is_empty.ensures))) in
-    sym (ap (λ cs. gone_at c.args.group cs (groups_of c.args.groups.now.groups)) none
-    ∙ gone-nothing (groups_of c.args.groups.now.groups) c.args.group)
-
-pub refresh-requires-clause-serials : goal.refresh-requires-clause-serials
-refresh-requires-clause-serials c = subst (λ (n : ℕ). HasSerials c.args.spots.now n)
+pub take_noted-requires-clause-serials : goal.take_noted-requires-clause-serials
+take_noted-requires-clause-serials c = subst (λ (n : ℕ). HasSerials c.args.spots.now n)
     (sym c.loop-chan.invariant.many) c.requires.serials
-
-pub refresh-requires-clause-others : goal.refresh-requires-clause-others
-refresh-requires-clause-others c =
-    let past : drop c.loop-chan.chan-index c.args.chans.now ≡ [] =
-    drop-past c.args.chans.now c.loop-chan.chan-index (omega (arith, c.loop-chan-test.false)) in
-    let is = sym (ap (λ cs. gone_at c.args.group cs (groups_of c.loop-chan.groups.groups)) past
-    ∙ gone-nothing (groups_of c.loop-chan.groups.groups) c.args.group)
-    ∙ c.loop-chan.invariant.done in
-    fronts-covering c.args.covering.now c.args.spots.now.serials.items
-    (groups_of c.args.groups.now.groups) (groups_of c.loop-chan.groups.groups)
-    c.args.group c.args.chans.now is c.requires.covering
 
 pub returns-clause-groups : goal.returns-clause-groups
 returns-clause-groups c =
