@@ -1,7 +1,7 @@
 -- What the tests of a site say after a location has come to it, and a continuation with it.
 use Rattle.site_solution.proofs.Dropping.{operated_none}
 use Rattle.std.proofs.Common.{◌≡◌, ℕ, ◌+◌, ◌≤◌, ◌++◌, Bool, true, false, cond, List, [], ◌∷◌}
-use Rattle.std.proofs.Common.{length, Option, Result, Ok, Err, refl, sym, ap, subst, ◌∙◌, arith}
+use Rattle.std.proofs.Common.{Option, Result, Ok, Err, refl, sym, ap, subst, ◌∙◌, arith}
 use Rattle.std.specs.Prelude.{◌&&◌, is_some, slice_get, OnOk}
 use Rattle.std.specs.List.{list_all}
 use Rattle.std.proofs.lemmas.Bool.{and_parts, and_from, or_left}
@@ -35,7 +35,7 @@ use Rattle.site_solution.specs.declared.coming.Coming.{Coming}
 use Rattle.site_shelves.specs.Named.{name_in, names_in, message_in, request_in, in_tree}
 use Rattle.site_shelves.specs.InTree.{is_number, has_number, name_stands, is_in_tree}
 use Rattle.site_shelves.specs.InCode.{is_told_by, is_in_code}
-use Rattle.site_shelves.specs.Draws.{is_drawn, are_drawn, message_drawn, told_drawn, all_drawn}
+use Rattle.site_shelves.specs.Draws.{is_drawn, message_drawn, told_drawn, all_drawn}
 use Rattle.site_shelves.specs.Draws.{CanDraw}
 use Rattle.site_solution.specs.inside.Split.{waits_in, asked_in}
 use Rattle.site_shelves.specs.inside.New.{told_of_new}
@@ -50,6 +50,7 @@ use Rattle.site_solution.proofs.AllHold.{AllHold, all-both, all-weaker, holds-we
 use Rattle.site_solution.proofs.Leaves.{drawn-later}
 use Rattle.site_solution.proofs.Together.{in_tree_parts, in_tree_from, drawn_parts, drawn_from}
 use Rattle.site_solution.proofs.Together.{tree_same, code_same, fresh_same}
+pub use Rattle.site_limits.proofs.Stays.{told_later}
 
 -- ---- what has come to a site
 
@@ -63,19 +64,6 @@ has_come ls m s new can kept is =
     (may-come ls m s can kept))
 
 -- ---- numbers below a larger count
-
-range_later : (i k n s j many : ℕ) → k ≤ n → are_drawn i k s j many ≡ true
-    → are_drawn i n s j many ≡ true
-range_later i k n s j many later drawn = grind (arith, nat_tests)
-
-told_later : (i k n : ℕ) (d : Told) → k ≤ n → told_drawn i k d ≡ true → told_drawn i n d ≡ true
-told_later i k n d later drawn =
-    let both = and_parts (are_drawn i k d.inst.chans.site d.inst.chans.k (length d.counts))
-    (are_drawn i k d.inst.rules.site d.inst.rules.k d.guards) drawn in
-    and_from (are_drawn i n d.inst.chans.site d.inst.chans.k (length d.counts))
-    (are_drawn i n d.inst.rules.site d.inst.rules.k d.guards)
-    (range_later i k n d.inst.chans.site d.inst.chans.k (length d.counts) later both.0)
-    (range_later i k n d.inst.rules.site d.inst.rules.k d.guards later both.1)
 
 -- ---- what comes at one location
 

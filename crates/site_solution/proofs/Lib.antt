@@ -11,7 +11,6 @@ pub mod Leaves
 pub mod AllHold
 pub mod Poured
 pub mod Answering
-pub mod Hosting
 pub use Rattle.site_shelves.proofs.Walked
 pub mod Puts
 pub mod Together
@@ -24,4 +23,5 @@ pub mod Carrying
 pub mod Receiving
 pub mod Staying
 pub mod Arriving
-pub mod SamePair
+pub mod WithinLimits
+pub mod Knowing

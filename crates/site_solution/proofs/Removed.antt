@@ -1,8 +1,7 @@
 -- What a site keeps where a location leaves it.
 use Rattle.std.proofs.Common.{◌≡◌, ℕ, suc, ◌+◌, ◌≤◌, Bool, true, false, cond, List, [], ◌∷◌, length}
-use Rattle.std.proofs.Common.{refl, sym, ap, subst, ◌∙◌, arith}
-use Rattle.std.specs.Prelude.{not, filter, nat_eq, ◌||◌}
-use Rattle.std.proofs.lemmas.Bool.Decides.{nat_tests}
+use Rattle.std.proofs.Common.{refl, sym, ap, subst, arith}
+use Rattle.std.specs.Prelude.{not, filter}
 use Rattle.chem_model.specs.declared.name.Loc.{Loc}
 use Rattle.chem_model.specs.declared.event.AtomId.{AtomId}
 use Rattle.chem_model.specs.Solution.{same_loc}
@@ -10,13 +9,12 @@ use Rattle.wire_packet.specs.MessageFacts.{MessageParts}
 use Rattle.wire_packet.specs.declared.packet.Waiting.{Waiting}
 use Rattle.wire_packet.specs.GroupFacts.{RequestParts}
 use Rattle.net_laws.specs.Site.{Group, Site}
-use Rattle.net_laws.specs.Parcels.{groups_but, stuck_but, requests_but, locs_but, remove}
+use Rattle.net_laws.specs.Parcels.{groups_but, stuck_but, requests_but, remove}
 use Rattle.net_laws.proofs.Parcels.{removed_kept}
 use Rattle.site_shelves.specs.Counted.{over_queues, over_groups, over_stuck, over_requests, is_id}
 use Rattle.site_shelves.specs.Counted.{id_of, one_each}
-use Rattle.site_solution.specs.inside.Hosted.{locs_of}
 use Rattle.site_solution.specs.Rising.{AllAfter, Rising, AreAsked}
-use Rattle.site_solution.proofs.Adding.{IsWhole}
+use Rattle.site_solution.specs.inside.Stored.{IsStored}
 
 -- ---- counts
 
@@ -51,11 +49,11 @@ over-requests_but i l (q ∷ qs) = by_test (same_loc l q.loc) (over-requests_but
     by_test true rest = omega arith
     by_test false rest = omega arith
 
-pub removed-whole : (l : Loc) (s : Site) → IsWhole s → IsWhole (remove l s)
-removed-whole l s whole = record {
-  kept = removed_kept l s whole.kept;
+pub removed-stored : (l : Loc) (s : Site) → IsStored s → IsStored (remove l s)
+removed-stored l s h = record {
+  kept = removed_kept l s h.kept;
   once = λ i.
-      let o = whole.once i in
+      let o = h.once i in
       omega (
         arith,
         over-groups_but (id_of i) l s.groups,
@@ -63,7 +61,7 @@ removed-whole l s whole = record {
         over-requests_but i l s.requests,
       );
   few_waiting =
-      let few = whole.few_waiting in
+      let few = h.few_waiting in
       omega (arith, over-groups_but one_each l s.groups, over-stuck_but one_each l s.stuck);
 }
 
@@ -81,27 +79,6 @@ requests-kept l (q ∷ qs) = by_test (same_loc l q.loc) (requests-kept l qs)
         ≡ cond b (requests_but l qs) (q ∷ requests_but l qs)
     by_test true rest = rest
     by_test false rest = ap (λ rs. q ∷ rs) rest
-
--- the pair is another one than that of the location
-abbrev pub is_other : Loc → ℕ × ℕ → Bool
-is_other l p = not (nat_eq p.0 l.site) || not (nat_eq p.1 l.k)
-
-other-is : (l : Loc) (p : ℕ × ℕ) → is_other l p ≡ not (same_loc l (record { site = p.0; k = p.1 }))
-other-is l p = grind (arith, nat_tests)
-
-pub locs-kept : (l : Loc) (ps : List (ℕ × ℕ))
-    → locs_of (filter (is_other l) ps) ≡ locs_but l (locs_of ps)
-locs-kept l [] = refl
-locs-kept l (p ∷ ps) =
-    ap (λ b. locs_of (cond b (p ∷ filter (is_other l) ps) (filter (is_other l) ps))) (other-is l p)
-    ∙ by_test (same_loc l (record { site = p.0; k = p.1 })) (locs-kept l ps)
-  where
-    by_test : (b : Bool) → locs_of (filter (is_other l) ps) ≡ locs_but l (locs_of ps)
-        → locs_of (cond (not b) (p ∷ filter (is_other l) ps) (filter (is_other l) ps))
-        ≡ cond b (locs_but l (locs_of ps))
-        (record { site = p.0; k = p.1 } ∷ locs_but l (locs_of ps))
-    by_test true rest = rest
-    by_test false rest = ap (λ xs. record { site = p.0; k = p.1 } ∷ xs) rest
 
 -- ---- requests still rise
 

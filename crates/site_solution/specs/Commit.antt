@@ -1,5 +1,5 @@
 -- When what a run made may be left at a site.
-use Rattle.std.specs.Prelude.{◌≡◌, ℕ, ◌+◌, ◌≤◌, List, [], ◌∷◌, ◌++◌, true, false}
+use Rattle.std.specs.Prelude.{◌≡◌, ℕ, ◌+◌, ◌≤◌, List, [], ◌∷◌, ◌++◌, true}
 use Rattle.chem_model.specs.declared.name.Loc.{Loc}
 use Rattle.chem_model.specs.declared.event.AtomId.{AtomId}
 use Rattle.chem_model.specs.Each.{Each}
@@ -9,11 +9,7 @@ use Rattle.net_laws.specs.Kept.{AreApart}
 use Rattle.net_laws.specs.Posting.{Posted, a_message, a_request}
 use Rattle.site_shelves.specs.CanLay.{HasNumbers}
 use Rattle.site_shelves.specs.Counted.{is_id, times}
-
--- none of these is among the locations, and all are different
-abbrev pub AreNew : List Loc → List Loc → Type 0
-AreNew ls [] = Unit {0}
-AreNew ls (b ∷ bs) = (among ls b ≡ false) × AreNew (ls ++ b ∷ []) bs
+pub use Rattle.site_limits.specs.Hosted.{AreNew}
 
 -- a message on a channel stands at its home, and a request at one of these locations
 abbrev pub MayStand : List Loc → Posted → Type 0

@@ -7,4 +7,3 @@ pub use Rattle.site_shelves.specs.inside.InTree
 pub mod Parted
 pub mod Coming
 pub mod Leave
-pub mod Hosted

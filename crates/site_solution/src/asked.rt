@@ -1,7 +1,6 @@
 // Requests in the order of their ids.
 ghost use Rattle.std.specs.Prelude.{◌≡◌, [], length, slice_get, Some, None, IsSome, OnOk, OnErr};
 ghost use Rattle.std.specs.Prelude.{◌≤◌, ◌<◌, ◌+◌, ◌^◌, option_copied};
-ghost use Rattle.chem_model.specs.Apply.{same_atom};
 ghost use Rattle.net_laws.specs.Holding.{precedes, request_with, with_request, without_request};
 ghost use Rattle.site_solution.specs.inside.Rising.{rank, with_requests, AreNewIn};
 ghost use Rattle.site_solution.specs.Rising.{AreAsked};

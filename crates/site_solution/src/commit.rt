@@ -1,5 +1,5 @@
 // What a run leaves at a site, and what it sends.
-ghost use Rattle.std.specs.Prelude.{◌≡◌, ◌||◌, ◌++◌, ◌∷◌, [], IfOk, OnOk, OnErr};
+ghost use Rattle.std.specs.Prelude.{◌≡◌, ◌||◌, ◌++◌, [], IfOk, OnOk, OnErr};
 ghost use Rattle.chem_model.specs.Each.{Each};
 ghost use Rattle.net_laws.specs.Net.{address, among};
 ghost use Rattle.net_laws.specs.ByCode.{told_by};
@@ -10,16 +10,16 @@ ghost use Rattle.site_solution.specs.Answers.{IsFlightOf, Answers};
 ghost use Rattle.site_solution.specs.Commit.{AreNew, CanLeave};
 ghost use Rattle.site_shelves.specs.Held.{taken_at};
 ghost use Rattle.site_shelves.specs.inside.New.{told_of_new, IsNewGroup};
-ghost use Rattle.site_solution.specs.inside.Leave.{IsSorted, Sorts, IsLeft};
+ghost use Rattle.site_solution.specs.inside.Leave.{IsSorted, Sorts};
 
 use crate::coming::{Coming, Taking};
 use crate::effects::Effects;
-use crate::places::Places;
 use crate::site::Site;
 use chem_model::{Items, Loc, Memory};
 use code_run::{Post, Posts, Run};
 use env_store::{Code, Locs};
 use loc_tree::LocTree;
+use site_limits::Places;
 use site_shelves::{NewGroup, new_groups};
 use std::alloc::Global;
 use wire_packet::{Flight, Flights, Packet, Request, Waiting, encode};

@@ -11,7 +11,6 @@ mod commit;
 mod effects;
 mod laws;
 mod parcels;
-mod places;
 mod pouring;
 mod site;
 

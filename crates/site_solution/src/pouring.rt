@@ -1,5 +1,5 @@
 // The calls that pour.
-ghost use Rattle.std.specs.Prelude.{◌≡◌, [], true, length, Some, slice_get, IfOk, OnErr};
+ghost use Rattle.std.specs.Prelude.{◌≡◌, [], true, length, IfOk, OnErr};
 ghost use Rattle.chem_model.specs.declared.name.Ref.TheVariants.{Known};
 ghost use Rattle.chem_model.specs.Process.{Msg};
 ghost use Rattle.chem_model.specs.Reduction.{all_known};

@@ -1,5 +1,5 @@
 // What one root hosts.
-ghost use Rattle.std.specs.Prelude.{◌≡◌, ◌+◌, ◌<◌, ◌≤◌, ◌^◌, ◌∷◌, ◌++◌, ◌↔◌, [], length, slice_get};
+ghost use Rattle.std.specs.Prelude.{◌≡◌, ◌+◌, ◌<◌, ◌≤◌, ◌^◌, ◌∷◌, ◌↔◌, [], length, slice_get};
 ghost use Rattle.std.specs.Prelude.{Some, None, true, false, IfOk, IfErr, OnOk, OnErr, IsTrue};
 ghost use Rattle.std.specs.Prelude.{option_copied, IsSome};
 ghost use Rattle.chem_model.specs.Opening.{root_of};
@@ -19,9 +19,10 @@ ghost use Rattle.std.specs.Prelude.{is_some};
 ghost use Rattle.loc_tree.specs.Tree.{spot};
 ghost use Rattle.chem_model.specs.declared.name.Loc.{Loc};
 ghost use Rattle.chem_model.specs.declared.event.AtomId.{AtomId};
-ghost use Rattle.site_shelves.specs.InCode.{is_in_code};
+ghost use Rattle.site_shelves.specs.InCode.{is_told_by, is_in_code};
 ghost use Rattle.site_shelves.specs.Draws.{all_drawn, CanDraw};
 ghost use Rattle.site_shelves.specs.InTree.{has_number, is_in_tree};
+ghost use Rattle.site_shelves.specs.Named.{all_in, in_tree};
 ghost use Rattle.site_shelves.specs.Held.{queues_of, queue_of, without_front, inst_in, has_atom};
 ghost use Rattle.site_shelves.specs.Held.{taken_at};
 ghost use Rattle.site_shelves.specs.Guards.{Tells};
@@ -41,15 +42,19 @@ use crate::apart::{
 };
 use crate::asked::{Asked, copy_requests_at, requests_are_drawn, requests_are_there};
 use crate::coming::{Coming, Taking};
-use crate::places::{Places, locs_are_drawn};
 use chem_model::{AtomId, Loc, Memory, same_loc};
 use env_store::Code;
 use loc_tree::LocTree;
+use site_limits::{
+    Known, Places, is_beyond, levels_are_known, locs_are_drawn, names_are_known, note_all,
+    note_home, note_laid, note_msg, note_request, numbers_are_known, only_root,
+};
 use site_shelves::{
     Count, More, NewGroup, Search, Shelves, Told, are_told_by, copy_groups_at, copy_waiting_at,
     groups_are_drawn, groups_are_there, in_groups, in_stuck, is_drawn, new_group, stuck_are_drawn,
     stuck_are_there, told_by,
 };
+use status_words::Bits;
 use std::alloc::Global;
 use std::marker::Model;
 use wire_packet::{GroupInst, Msg, Parcel, Request};
@@ -61,6 +66,9 @@ use wire_packet::{GroupInst, Msg, Parcel, Request};
 /// queue holds messages on its channel with its count, no group could take a stuck message, and no
 /// two groups share a channel. The ids of waiting messages and requests are all different, and
 /// fewer than 2^32 messages wait.
+///
+/// It also knows limits within which all stands that it holds, so that its tests need no walk over
+/// it. Where the limits are too wide for that, or were given up for want of memory, a walk tells.
 #[derive(Drop)]
 pub struct Site {
     number: u32,
@@ -68,6 +76,7 @@ pub struct Site {
     locs: Places,
     shelves: Shelves,
     requests: Asked,
+    known: Known,
 }
 
 impl Model for Site {
@@ -75,11 +84,11 @@ impl Model for Site {
 
     ghost Value = { site_of_net };
 
-    ghost use Rattle.site_solution.specs.inside.Stored.{seen, IsStored};
+    ghost use Rattle.site_solution.specs.inside.Stored.{seen, IsSite};
 
     ghost view = { seen };
 
-    ghost invariant = { IsStored };
+    ghost invariant = { IsSite };
 }
 
 impl Site {
@@ -95,6 +104,7 @@ impl Site {
             locs,
             shelves: Shelves::new(alloc),
             requests: Asked::new(alloc),
+            known: only_root(alloc),
         })
     }
 
@@ -177,6 +187,16 @@ impl Site {
         self.shelves.rows().covers(group as usize, mask)
     }
 
+    /// The same of a mask as code has it.
+    pub fn covers(&self, group: u32, mask: &Bits) -> bool
+        requires group { group < length self.now.groups }
+        requires words { length mask.now
+            ≡ number_of_words (length (queues_of self.now.groups group)) }
+        ensures { IsTrue result ↔ AllHeld (queues_of self.now.groups group) mask.now }
+    {
+        self.shelves.rows().covers_bits(group as usize, mask)
+    }
+
     /// The front of the queue of one of a group's channels, if there is one.
     pub fn front(&self, group: u32, chan: u32) -> Option<&Msg>
         requires group { group < length self.now.groups }
@@ -228,6 +248,7 @@ impl Site {
         if self.waiting() >= u32::MAX as usize {
             return Err((msg, Memory));
         }
+        note_msg(&mut self.known, &msg);
         self.shelves.put(*loc, msg)
     }
 
@@ -305,6 +326,8 @@ impl Site {
             waiting,
             requests,
         } = coming;
+        note_all(&mut self.known, self.number, locs, &waiting, &requests);
+        let laid = self.shelves.rows().len();
         let more = More { groups, waiting };
         let group = fronts.group as usize;
         let Ok(()) = self.shelves.add(alloc, more, group, fronts.chans) else {
@@ -314,6 +337,8 @@ impl Site {
         self.made = next;
         self.locs.add_all(locs);
         self.requests.add_all(&requests);
+        let rows = self.shelves.rows();
+        note_laid(alloc, &mut self.known, self.number, rows, laid);
         Ok(())
     }
 
@@ -342,6 +367,7 @@ impl Site {
         ensures ok { OnOk result (self.new ≡ host_all (loc.now ∷ []) self.old) }
         ensures err { OnErr result (self.new ≡ self.old) }
     {
+        note_home(&mut self.known, self.number, *loc);
         self.locs.add(*loc)
     }
 
@@ -356,13 +382,30 @@ impl Site {
         count
     }
 
-    /// Whether a waiting message or a request has this id.
-    pub fn has_atom(&self, atom: &AtomId) -> bool
+    // Whether it is known that nothing here has this id.
+    fn lacks_atom(&self, atom: &AtomId) -> bool
+        ensures { IsTrue result → has_atom atom.now self.now ≡ false }
+    {
+        is_beyond(&self.known, *atom)
+    }
+
+    // Whether a walk finds something here that has it.
+    fn finds_atom(&self, atom: &AtomId) -> bool
         ensures { result ≡ has_atom atom.now self.now }
     {
         in_groups(self.shelves.rows(), *atom)
             || in_stuck(self.shelves.stuck(), *atom)
             || self.requests.find(*atom).is_some()
+    }
+
+    /// Whether a waiting message or a request has this id.
+    pub fn has_atom(&self, atom: &AtomId) -> bool
+        ensures { result ≡ has_atom atom.now self.now }
+    {
+        if self.lacks_atom(atom) {
+            return false;
+        }
+        self.finds_atom(atom)
     }
 
     // Whether each location here is in the tree with the number of the site.
@@ -381,6 +424,38 @@ impl Site {
         true
     }
 
+    // Whether it is known that all that is named here is in the tree.
+    fn knows_names(&self, tree: &LocTree) -> bool
+        ensures { IsTrue result → all_in (in_tree tree.now) self.now ≡ true }
+    {
+        names_are_known(&self.known, tree)
+    }
+
+    // Whether a walk finds all that is named here in the tree.
+    fn finds_names(&self, tree: &LocTree) -> bool
+        ensures { result ≡ all_in (in_tree tree.now) self.now }
+    {
+        groups_are_there(tree, self.shelves.rows())
+            && stuck_are_there(tree, self.shelves.stuck())
+            && requests_are_there(tree, self.requests.as_slice())
+    }
+
+    // Whether there are so few names within the limits that to look them all up is no longer than a
+    // walk. Names that have gone stay there, so that there may be many.
+    fn names_are_few(&self) -> bool {
+        let held = self.shelves.rows().messages() + self.shelves.stuck().len();
+        let asking = self.requests.as_slice().len();
+        let laid = self.shelves.rows().len();
+        self.known.named.as_slice().len() / 4
+            <= held.saturating_add(asking).saturating_add(laid) / 4 + 16
+    }
+
+    fn names_are_there(&self, tree: &LocTree) -> bool
+        ensures { result ≡ all_in (in_tree tree.now) self.now }
+    {
+        self.names_are_few() && self.knows_names(tree) || self.finds_names(tree)
+    }
+
     /// Whether each location here is in the tree with the number of the site, its root is one of
     /// them, and each location and each home of a channel that an environment, a waiting message or
     /// a request names is in the tree.
@@ -391,11 +466,21 @@ impl Site {
             site: self.number,
             k: 0,
         };
-        self.locs_are_there(tree)
-            && self.has(&root)
-            && groups_are_there(tree, self.shelves.rows())
-            && stuck_are_there(tree, self.shelves.stuck())
-            && requests_are_there(tree, self.requests.as_slice())
+        self.locs_are_there(tree) && self.has(&root) && self.names_are_there(tree)
+    }
+
+    // Whether it is known that each group is of a level of the code.
+    fn knows_levels(&self, code: &Code) -> bool
+        ensures { IsTrue result
+            → list_all (is_told_by code.now) (told_in self.now.groups) ≡ true }
+    {
+        levels_are_known(&self.known, code)
+    }
+
+    fn groups_are_told(&self, code: &Code) -> bool
+        ensures { result ≡ list_all (is_told_by code.now) (told_in self.now.groups) }
+    {
+        self.knows_levels(code) || are_told_by(code, self.shelves.rows())
     }
 
     /// Whether each group is of a level of the code, with the counts, the guards and the length of
@@ -403,7 +488,7 @@ impl Site {
     pub fn in_code(&self, code: &Code, tree: &LocTree) -> bool
         ensures { result ≡ is_in_code code.now tree.now self.now }
     {
-        are_told_by(code, self.shelves.rows()) && tops_are_there(tree, code.tops.as_slice())
+        self.groups_are_told(code) && tops_are_there(tree, code.tops.as_slice())
     }
 
     /// Whether the count is below 2^63, each location, rule, channel and atom that this site made
@@ -414,7 +499,15 @@ impl Site {
         self.made < 1 << 63 && self.all_drawn() && tree.fresh(self.number, self.made)
     }
 
-    fn all_drawn(&self) -> bool
+    // Whether it is known that all numbers are below the count.
+    fn knows_numbers(&self) -> bool
+        ensures { IsTrue result → all_drawn self.now ≡ true }
+    {
+        numbers_are_known(&self.known, self.number, self.made)
+    }
+
+    // Whether a walk finds all of them below it.
+    fn finds_numbers(&self) -> bool
         ensures { result ≡ all_drawn self.now }
     {
         let count = Count {
@@ -427,6 +520,12 @@ impl Site {
             && requests_are_drawn(count, self.requests.as_slice())
     }
 
+    fn all_drawn(&self) -> bool
+        ensures { result ≡ all_drawn self.now }
+    {
+        self.knows_numbers() || self.finds_numbers()
+    }
+
     /// Adds a request.
     pub fn ask(&mut self, request: Request) -> Result<(), Memory>
         requires here { among self.old.locs request.loc ≡ true }
@@ -434,6 +533,7 @@ impl Site {
         ensures ok { OnOk result (self.new ≡ ask request self.old) }
         ensures err { OnErr result (self.new ≡ self.old) }
     {
+        note_request(&mut self.known, &request);
         self.requests.add(request)
     }
 

@@ -5,6 +5,7 @@ use Rattle.net_laws.specs.Site.{Site}
 use Rattle.net_laws.specs.Kept.{IsKept}
 use Rattle.site_shelves.specs.Counted.{times, waiting_in}
 use Rattle.site_solution.specs.declared.site.Site.TheInside.{Inside}
+use Rattle.site_limits.specs.Knows.{IsKnown}
 
 abbrev pub seen : Inside → Site
 seen a = record {
@@ -16,7 +17,13 @@ seen a = record {
   requests = a.requests.items;
 }
 
-pub record IsStored (a : Inside) : Type 0 where
-  pub kept : IsKept (seen a)
-  pub once : (i : AtomId) → times i (seen a) ≤ 1
-  pub few_waiting : waiting_in (seen a) < 2 ^ 32
+-- what a site keeps of what contracts see
+pub record IsStored (s : Site) : Type 0 where
+  pub kept : IsKept s
+  pub once : (i : AtomId) → times i s ≤ 1
+  pub few_waiting : waiting_in s < 2 ^ 32
+
+-- and all of it stands within the limits that are known
+pub record IsSite (a : Inside) : Type 0 where
+  pub stored : IsStored (seen a)
+  pub known : IsKnown a.known (seen a)

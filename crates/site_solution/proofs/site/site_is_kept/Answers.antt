@@ -8,7 +8,7 @@ use Rattle.site_shelves.specs.CanLay.{HasNumbers}
 use Rattle.site_solution.proofs.site.site_is_kept.Goals as goal
 
 pub returns-clause-kept : goal.returns-clause-kept
-returns-clause-kept c = subst IsKept c.site.view_is c.site.invariant.kept
+returns-clause-kept c = subst IsKept c.site.view_is c.site.invariant.stored.kept
 
 pub returns-clause-numbers : goal.returns-clause-numbers
 returns-clause-numbers c =
@@ -16,11 +16,11 @@ returns-clause-numbers c =
 
 pub returns-clause-once : goal.returns-clause-once
 returns-clause-once c =
-    subst (λ (s : Site). (i : AtomId) → times i s ≤ 1) c.site.view_is c.site.invariant.once
+    subst (λ (s : Site). (i : AtomId) → times i s ≤ 1) c.site.view_is c.site.invariant.stored.once
 
 pub returns-clause-few_waiting : goal.returns-clause-few_waiting
 returns-clause-few_waiting c =
-    subst (λ (s : Site). waiting_in s < 2 ^ 32) c.site.view_is c.site.invariant.few_waiting
+    subst (λ (s : Site). waiting_in s < 2 ^ 32) c.site.view_is c.site.invariant.stored.few_waiting
 
 pub returns-clause-few_locs : goal.returns-clause-few_locs
 returns-clause-few_locs c =

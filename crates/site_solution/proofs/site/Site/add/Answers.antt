@@ -24,7 +24,8 @@ add_all-requires c =
     ∙ ap (λ (xs : List NewGroup). xs ++ c.in_ok-new_group.field-0 ∷ [])
     c.in_ok-groups.ensures.items in
     let once =
-    subst (λ (s : Site). (i : AtomId) → times i s ≤ 1) c.self.view_is c.self.invariant.once in
+    subst (λ (s : Site). (i : AtomId) → times i s ≤ 1)
+    c.self.view_is c.self.invariant.stored.once in
     subst (CanAdd [] m) (sym c.expect_all.ensures)
     (lay-can c.args.told m c.in_ok-new_group.field-0 c.args.self.now c.requires once items
     c.in_ok-new_group.ensures.told c.in_ok-new_group.ensures.is c.new.ensures.items

@@ -14,4 +14,5 @@ front-requires-clause-chan c =
 
 pub returns : goal.returns
 returns c = rw (← c.self.view_is) (c.front.ensures
-    ∙ ap (λ qs. slice_get (slice_index_or qs c.args.chan []) 0) (c.rows.ensures.queues c.args.group))
+    ∙ ap (λ qs. slice_get (slice_index_or qs c.args.chan []) 0)
+    (c.rows.ensures.queues c.args.group))

@@ -43,10 +43,12 @@ returns-clause-ok c =
     resort c.args.tree.now _ _ _ _ _ _ c.in_ok-waiting.field-0 c.places.ensures
     c.as_slice.ensures.members refl c.in_ok-waiting.ensures in
     let is = c.in_ok-add_all.ensures.ok
-    ∙ ap (λ ls. added ls m (taken_at c.args.fronts.now.group c.args.fronts.now.chans.now c.args.self.now))
+    ∙ ap (λ ls.
+    added ls m (taken_at c.args.fronts.now.group c.args.fronts.now.chans.now c.args.self.now))
     c.as_slice-2.ensures.members in
     let left = left-is c.args.tree.now c.args.run.births (all_posted c.args.run.posts) m
-    c.args.fronts.now.group c.args.fronts.now.chans.now c.args.self.now c.add_all.new.self c.in_ok-waiting.field-0.flights
+    c.args.fronts.now.group c.args.fronts.now.chans.now c.args.self.now c.add_all.new.self
+    c.in_ok-waiting.field-0.flights
     sorted.waiting_are sorted.requests_are sorted.flights_are is in
     left-answers _
     c.add_all.new.self c.in_ok-waiting.field-0.flights c.args.run.outs c.args.run.births left

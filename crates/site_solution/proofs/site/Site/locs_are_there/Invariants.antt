@@ -1,6 +1,6 @@
 use Rattle.std.proofs.Common.{◌≡◌, drop}
 use Rattle.std.specs.List.{list_all}
-use Rattle.site_solution.specs.inside.Hosted.{locs_of}
+use Rattle.site_limits.specs.Hosted.{locs_of}
 use Rattle.site_shelves.specs.InTree.{has_number}
 use Rattle.site_solution.proofs.site.Site.locs_are_there.Given as goal
 

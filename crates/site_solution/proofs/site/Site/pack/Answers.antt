@@ -43,7 +43,7 @@ invariant_of-result c =
     waiting
     ∙ ap (λ qs. record (parcel_of (pack l s)) { requests = qs }) requests in
     subst IsParcel (sym is) (packed-parcel l s
-    c.self.invariant.kept c.as_slice.ensures.asked c.self.invariant.once (record {
+    c.self.invariant.stored.kept c.as_slice.ensures.asked c.self.invariant.stored.once (record {
       groups = subst (λ (gs : List GroupParts). length gs < 2 ^ 32) groups few_groups;
       waiting = subst (λ (ws : List Waiting). length ws < 2 ^ 32) waiting few_waiting;
       names =

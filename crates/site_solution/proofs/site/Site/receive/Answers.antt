@@ -17,7 +17,6 @@ use Rattle.site_shelves.specs.InTree.{name_stands, is_in_tree}
 use Rattle.site_solution.specs.Answers.{Answers}
 use Rattle.site_solution.specs.Arriving.{FitsInto}
 use Rattle.site_solution.specs.Staying.{AgreeBut, HasReceived}
-use Rattle.site_solution.specs.declared.effects.Effects.{Effects}
 use Rattle.site_solution.specs.inside.Coming.{CanAdd, added}
 use Rattle.site_solution.specs.inside.Carried.{IsContinued}
 use Rattle.site_solution.proofs.Answering.{ok-more, ok-both}

@@ -1,9 +1,10 @@
 use Rattle.std.proofs.Common.{◌∙◌, List, ap, sym, subst}
 use Rattle.net_laws.specs.Site.{Group, Site}
 use Rattle.net_laws.specs.Parcels.{remove}
-use Rattle.site_solution.specs.inside.Stored.{seen}
-use Rattle.site_solution.proofs.Adding.{as-whole, whole-stored}
-use Rattle.site_solution.proofs.Removed.{removed-whole}
+use Rattle.site_solution.specs.inside.Stored.{seen, IsStored}
+use Rattle.site_limits.specs.Knows.{IsKnown}
+use Rattle.site_solution.proofs.Knowing.{known-removed}
+use Rattle.site_solution.proofs.Removed.{removed-stored}
 use Rattle.site_solution.specs.Staying.{StillFits}
 use Rattle.site_solution.proofs.Staying.{removed_fits}
 use Rattle.site_solution.proofs.site.Site.remove.Goals as goal
@@ -27,12 +28,12 @@ invariant_of-self c =
     (λ ws. record (remove c.args.loc.now was) { stuck = ws; requests = c.drop_at.new.self.items })
     c.remove.ensures.stuck
     ∙ ap (λ qs. record (remove c.args.loc.now was) { requests = qs }) c.drop_at.ensures in
-    whole-stored (record c.self.inside {
-      locs = c.remove-2.new.self;
-      shelves = c.remove.new.self;
-      requests = c.drop_at.new.self;
-    }) (remove c.args.loc.now was) is
-    (removed-whole c.args.loc.now was (as-whole c.self.inside c.self.invariant))
+    record {
+      stored = subst IsStored (sym is)
+          (removed-stored c.args.loc.now was c.self.invariant.stored);
+      known = subst (IsKnown c.self.inside.known) (sym is)
+          (known-removed c.args.loc.now c.self.inside.known was c.self.invariant.known);
+    }
 
 pub returns-clause-keeps : goal.returns-clause-keeps
 returns-clause-keeps c = λ code t u agree no_root.

@@ -36,7 +36,8 @@ returns-clause-keeps c =
     let loc = ap (λ (p : ParcelParts). p.loc) c.parcel.view_is in
     let is = subst (λ n. IsCarried c.args.code.now c.args.parcel.now n c.in_ok-coming.coming)
     c.made.ensures c.in_ok-coming.ensures.carried in
-    let can = carried-can c.args.code.now c.args.parcel.now c.args.self.now.made c.in_ok-coming.coming
+    let can =
+    carried-can c.args.code.now c.args.parcel.now c.args.self.now.made c.in_ok-coming.coming
     c.args.self.now c.in_ok-coming.ensures.kept c.requires is in
     on_ok _ c.add_all.result c.add_all.new.self _
     c.add_all.ensures.ok (λ was. taken_fits c.args.code.now c.args.parcel.now c.in_ok-coming.coming

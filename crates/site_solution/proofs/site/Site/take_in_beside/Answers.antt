@@ -21,7 +21,8 @@ add_all-requires c =
     let sorted : IsSorted c.args.tree.now ls ps c.in_ok-waiting.field-0 =
     resort c.args.tree.now _ _ _ _ _ _ c.in_ok-waiting.field-0 c.places.ensures
     (ap (λ (l : Loc). l ∷ []) loc) refl c.in_ok-waiting.ensures in
-    let arrive = arrive-sorted c.args.tree.now c.args.code.now c.args.parcel.now c.args.run.next ls ps
+    let arrive =
+    arrive-sorted c.args.tree.now c.args.code.now c.args.parcel.now c.args.run.next ls ps
     c.in_ok-waiting.field-0 c.in_ok-coming.coming sorted c.in_ok-coming.ensures.more in
     subst (CanAdd (c.parcel.inside.loc ∷ []) c.in_ok-coming.coming) (sym c.expect_all.ensures)
     (subst (λ l. CanAdd (l ∷ []) c.in_ok-coming.coming c.args.self.now) (sym loc)
@@ -37,7 +38,8 @@ returns-clause-ok c =
     let sorted : IsSorted c.args.tree.now ls ps c.in_ok-waiting.field-0 =
     resort c.args.tree.now _ _ _ _ _ _ c.in_ok-waiting.field-0 c.places.ensures
     (ap (λ (l : Loc). l ∷ []) loc) refl c.in_ok-waiting.ensures in
-    let arrive = arrive-sorted c.args.tree.now c.args.code.now c.args.parcel.now c.args.run.next ls ps
+    let arrive =
+    arrive-sorted c.args.tree.now c.args.code.now c.args.parcel.now c.args.run.next ls ps
     c.in_ok-waiting.field-0 c.in_ok-coming.coming sorted c.in_ok-coming.ensures.more in
     record {
       more = c.in_ok-coming.coming;

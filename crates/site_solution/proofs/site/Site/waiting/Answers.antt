@@ -6,18 +6,20 @@ use Rattle.site_solution.proofs.site.Site.waiting.Goals as goal
 
 pub overflow_add-result : goal.overflow_add-result
 overflow_add-result c =
-    let is : c.messages.result + length c.stuck.result.now ≡ waiting_in (seen c.self.inside) = omega (
+    let is : c.messages.result + length c.stuck.result.now ≡ waiting_in (seen c.self.inside) =
+    omega (
       arith,
       c.messages.ensures,
       c.rows.ensures.messages,
       ap length c.stuck.ensures,
       stuck-many c.self.inside.shelves.stuck,
     ) in
-    omega (arith, is, c.self.invariant.few_waiting)
+    omega (arith, is, c.self.invariant.stored.few_waiting)
 
 pub returns-clause-count : goal.returns-clause-count
 returns-clause-count c =
-    let is : c.messages.result + length c.stuck.result.now ≡ waiting_in (seen c.self.inside) = omega (
+    let is : c.messages.result + length c.stuck.result.now ≡ waiting_in (seen c.self.inside) =
+    omega (
       arith,
       c.messages.ensures,
       c.rows.ensures.messages,
@@ -28,11 +30,12 @@ returns-clause-count c =
 
 pub returns-clause-few : goal.returns-clause-few
 returns-clause-few c =
-    let is : c.messages.result + length c.stuck.result.now ≡ waiting_in (seen c.self.inside) = omega (
+    let is : c.messages.result + length c.stuck.result.now ≡ waiting_in (seen c.self.inside) =
+    omega (
       arith,
       c.messages.ensures,
       c.rows.ensures.messages,
       ap length c.stuck.ensures,
       stuck-many c.self.inside.shelves.stuck,
     ) in
-    omega (arith, is, c.self.invariant.few_waiting)
+    omega (arith, is, c.self.invariant.stored.few_waiting)

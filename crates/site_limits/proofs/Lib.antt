@@ -1,0 +1,5 @@
+pub mod SamePair
+pub mod Hosting
+pub mod Learned
+pub mod Stays
+pub mod Tested

@@ -1,0 +1,4 @@
+pub mod Hosted
+pub mod Shapes
+pub mod Limits
+pub mod Knows
