@@ -2,7 +2,6 @@
 ghost use Rattle.std.specs.Prelude.{◌≡◌, ℕ, ◌<◌, ◌↔◌, length, slice_get, Some};
 ghost use Rattle.std.specs.Prelude.{IfSome, IfNone, IsTrue};
 ghost use Rattle.queue_cells.specs.Grouped.{AllHeld};
-ghost use Rattle.loc_tree.specs.Tree.{spot};
 ghost use Rattle.net_laws.specs.Site.{Group};
 ghost use Rattle.site_solution.specs.InTree.{is_in_tree};
 ghost use Rattle.site_solution.specs.InCode.{is_in_code};
@@ -37,7 +36,7 @@ fn is_covered(site: &Site, code: &Code, group: u32, guard: u32) -> bool
 {
     site_is_kept(site);
     let guard = guard_at(code, guard);
-    site.covered(group, guard.mask.words.as_slice())
+    site.covers(group, &guard.mask.words)
 }
 
 // The first guard of a group that is covered.

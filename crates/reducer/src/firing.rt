@@ -4,7 +4,7 @@ ghost use Rattle.loc_tree.specs.Tree.{is_alive};
 ghost use Rattle.net_laws.specs.Site.{Group};
 ghost use Rattle.site_solution.specs.InTree.{is_in_tree};
 ghost use Rattle.site_solution.specs.InCode.{is_in_code};
-ghost use Rattle.reducer.specs.Picks.{Picked, Picks, IsPick, IsCovered, MayFire};
+ghost use Rattle.reducer.specs.Picks.{IsPick, IsCovered, MayFire};
 ghost use Rattle.reducer.specs.inside.Searching.{IsOfLevel};
 
 use crate::parts::{code_is_kept, guard_at, level_at};
@@ -40,7 +40,7 @@ fn is_covered(site: &Site, code: &Code, pick: &Pick) -> bool
 {
     site_is_kept(site);
     let guard = guard_at(code, pick.guard);
-    site.covered(pick.group, guard.mask.words.as_slice())
+    site.covers(pick.group, &guard.mask.words)
 }
 
 // Whether the location of a group is live.

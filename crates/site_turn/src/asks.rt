@@ -1,23 +1,18 @@
 // Requests: where one to go leads, the event by which one is met, and what site and tree do once it
 // is known whether it was made.
-ghost use Rattle.std.specs.Prelude.{◌≡◌, ◌↔◌, ◌<◌, ◌≤◌, ℕ, [], ◌∷◌, Some, true, length};
+ghost use Rattle.std.specs.Prelude.{◌≡◌, ◌↔◌, ◌<◌, ℕ, Some, true};
 ghost use Rattle.std.specs.Prelude.{IfOk, IfSome, OnErr, IsTrue};
 ghost use Rattle.chem_model.specs.Each.{Each};
 ghost use Rattle.chem_model.specs.declared.event.Event.{Event as event};
-ghost use Rattle.net_laws.specs.Net.{with_births};
-ghost use Rattle.net_laws.specs.Opened.{AreNew};
 ghost use Rattle.net_laws.specs.Holding.{request_with};
 ghost use Rattle.site_solution.specs.Draws.{CanDraw};
-ghost use Rattle.site_solution.specs.Held.{queues_of, taken_at};
 ghost use Rattle.site_solution.specs.InTree.{is_in_tree};
-ghost use Rattle.reducer.specs.Picks.{Picked, Picks, MayFire, IsPick};
-ghost use Rattle.reducer.specs.Reacting.{ran_by};
 ghost use Rattle.migration.specs.Moves.{can_go};
 ghost use Rattle.site_turn.specs.declared.next.Chosen.TheVariants as choice;
 ghost use Rattle.site_turn.specs.declared.turn.Turn.TheVariants as turns;
 ghost use Rattle.site_turn.specs.Mail.{IsMessageFlight};
-ghost use Rattle.site_turn.specs.Next.{CanAct, ChoosesPick, OpensNone, may_meet, IsToGo, LeadsTo};
-ghost use Rattle.site_turn.specs.After.{event_for, IsEventOf, FitsHere, FitsAcross, AreNone};
+ghost use Rattle.site_turn.specs.Next.{CanAct, may_meet, IsToGo, LeadsTo};
+ghost use Rattle.site_turn.specs.After.{event_for, IsEventOf, FitsHere, FitsAcross};
 ghost use Rattle.site_turn.specs.After.{MeetsAsk, AfterAsk, AfterChosen, AfterCrossing};
 
 use crate::next::can_act;

@@ -1,5 +1,5 @@
 //! What a site does next, and doing it, on plain values: nothing here takes a lock, and no list of
-//! packets or sites occurs. The networks of rounds and of free threads stand on it.
+//! sites occurs. The networks of rounds and of free threads stand on it.
 #![tactic(auto)]
 
 mod arriving;

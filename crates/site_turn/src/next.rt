@@ -1,6 +1,5 @@
 // What a site does next. It takes no memory.
 ghost use Rattle.std.specs.Prelude.{◌≡◌, ◌↔◌, Ok, IfNone, IfSome, IsTrue};
-ghost use Rattle.reducer.specs.Ready.{NoneFires, IsReady};
 ghost use Rattle.site_solution.specs.InTree.{is_in_tree};
 ghost use Rattle.site_turn.specs.Next.{CanAct, may_meet, NoneMeets, IsLeastMet};
 ghost use Rattle.site_turn.specs.Next.{Chooses};

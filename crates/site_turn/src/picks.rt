@@ -1,23 +1,19 @@
 // Reactions: the event of a pick, what the site does once it is known whether it was made, and
 // births into the tree.
-ghost use Rattle.std.specs.Prelude.{◌≡◌, ◌↔◌, ◌<◌, ◌≤◌, ℕ, [], ◌∷◌, Some, true, length};
+ghost use Rattle.std.specs.Prelude.{◌≡◌, ◌↔◌, ◌<◌, ◌≤◌, [], ◌∷◌, length};
 ghost use Rattle.std.specs.Prelude.{IfOk, OnOk, OnErr, IsTrue};
 ghost use Rattle.chem_model.specs.Each.{Each};
 ghost use Rattle.net_laws.specs.Net.{with_births};
 ghost use Rattle.net_laws.specs.Opened.{AreNew};
-ghost use Rattle.net_laws.specs.Holding.{request_with};
-ghost use Rattle.site_solution.specs.Draws.{CanDraw};
 ghost use Rattle.site_solution.specs.Held.{queues_of, taken_at};
-ghost use Rattle.site_solution.specs.InTree.{is_in_tree};
 ghost use Rattle.reducer.specs.Picks.{Picked, Picks, MayFire, IsPick};
 ghost use Rattle.reducer.specs.Reacting.{ran_by};
-ghost use Rattle.migration.specs.Moves.{can_go};
 ghost use Rattle.site_turn.specs.declared.next.Chosen.TheVariants as choice;
 ghost use Rattle.site_turn.specs.declared.turn.Turn.TheVariants as turns;
 ghost use Rattle.site_turn.specs.Mail.{IsMessageFlight};
 ghost use Rattle.site_turn.specs.Reacting.{ReactsBy};
-ghost use Rattle.site_turn.specs.Next.{CanAct, ChoosesPick, OpensNone, may_meet, IsToGo, LeadsTo};
-ghost use Rattle.site_turn.specs.After.{event_for, IsEventOf, FitsHere, FitsAcross, AreNone};
+ghost use Rattle.site_turn.specs.Next.{CanAct, ChoosesPick, OpensNone};
+ghost use Rattle.site_turn.specs.After.{IsEventOf};
 ghost use Rattle.site_turn.specs.After.{AfterPick, StaysFitAt, IsSameTree, HasRoomFor};
 
 use crate::turn::{Turn, no_effects};
@@ -58,7 +54,7 @@ fn count_births(
     let chans = guard.chans.as_slice();
     let inst = site.group(pick.group);
     let received = front_args(alloc, site, pick.group, chans)?;
-    let env = extend(alloc, &inst.env, &received)?;
+    let env = extend(alloc, inst.env.names(), &received)?;
     let made = run(
         alloc,
         code,

@@ -49,7 +49,8 @@ run-requires-clause-body c =
       inst = (c.group-inst.ensures ∙ ap (λ (g : GroupParts). Some g) (sym c.inst.view_is));
       chans = c.as_slice-chans.ensures.members;
       args_are = c.in_ok-received.ensures.args;
-      env_is = c.in_ok-env.ensures;
+      env_is = c.in_ok-env.ensures
+          ∙ ap (λ (ns : List Name). ns ++ c.in_ok-received.received) c.names.ensures;
     } in
     let env = env_of c.args.code.now s c.args.pick.now x c.guard_at-guard.result.now (record {
       loc = c.inst.inside.loc;
@@ -66,8 +67,10 @@ run-requires-clause-body c =
     (subst (λ ns. IsBodyAt c.args.code.now (length ns) x.guard.body) (sym env) runs)
 
 pub run-requires-clause-env : goal.run-requires-clause-env
-run-requires-clause-env c = subst (Each IsPlain) (sym c.in_ok-env.ensures) (Each-append IsPlain
-    c.inst.inside.env c.in_ok-received.received c.inst.invariant c.in_ok-received.ensures.plain)
+run-requires-clause-env c = subst (Each IsPlain) (sym (c.in_ok-env.ensures
+    ∙ ap (λ (ns : List Name). ns ++ c.in_ok-received.received) c.names.ensures))
+    (Each-append IsPlain c.inst.inside.env c.in_ok-received.received c.inst.invariant
+    c.in_ok-received.ensures.plain)
 
 pub returns : goal.returns
 returns c = λ y picks.
@@ -89,7 +92,8 @@ returns c = λ y picks.
       inst = (c.group-inst.ensures ∙ ap (λ (g : GroupParts). Some g) (sym c.inst.view_is));
       chans = c.as_slice-chans.ensures.members;
       args_are = c.in_ok-received.ensures.args;
-      env_is = c.in_ok-env.ensures;
+      env_is = c.in_ok-env.ensures
+          ∙ ap (λ (ns : List Name). ns ++ c.in_ok-received.received) c.names.ensures;
     } in
     let env =
     env_of code s p y u g c.as_slice-chans.result.now c.in_ok-received.received names picks read in
