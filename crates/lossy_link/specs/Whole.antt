@@ -19,7 +19,7 @@ links_of p = record { net = p.net; wire = p.wire; lines = p.lines }
 abbrev pub AreSpelled : List Line → Type 0
 AreSpelled ls = Each (λ (l : Line). Each IsMessageText l.history.sent) ls
 
--- what is handed out of each pair is the front of what it sent, no more is acknowledged, and what
+-- what is handed over of each pair is the front of what it sent, no more is acknowledged, and what
 -- the frames say is so; each line sent a packet, and what was sent is a message's spelling; all
 -- packets of the network are with the links, and with those that aren't delivered it runs its code
 -- and stands for some solution

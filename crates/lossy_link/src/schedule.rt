@@ -1,5 +1,5 @@
 // The schedule of a run over links.
-ghost use Rattle.std.specs.Prelude.{◌≡◌, ◌+◌, ◌<◌, ◌≤◌, ◌^◌, ◌⊎◌, [], length, IfOk, OnOk, OnErr};
+ghost use Rattle.std.specs.Prelude.{◌≡◌, ◌+◌, ◌<◌, ◌≤◌, ◌^◌, ◌⊎◌, [], length, IfOk, OnOk, OnErr, Ok};
 ghost use Rattle.chem_model.specs.ProgramFacts.{IsProgram};
 ghost use Rattle.trace_history.specs.Book.{Replays};
 ghost use Rattle.env_store.specs.CodeFacts.{IsCode};
@@ -28,6 +28,15 @@ pub struct LinkCounts {
     pub lost: u64,
     pub repeated: u64,
     pub arrived: u64,
+}
+
+impl LinkCounts {
+    /// Counts that are equal to these. It takes no memory.
+    pub fn copy(&self, _alloc: Global) -> Result<LinkCounts, Memory>
+        ensures { result ≡ Ok self.now }
+    {
+        Ok(*self)
+    }
 }
 
 fn one_more(count: u64) -> u64
@@ -306,8 +315,8 @@ fn over_links(
 /// the first. Else the least packet that isn't acknowledged is sent, of the least pair that has
 /// one, by the two sites in order. Else the choice is made that is next. Each packet is delivered
 /// once, and in the order of its pair: so the journal is that of the run without links, whatever
-/// `loss` is. It takes memory only where a packet is under way or the budget leaves an event; book
-/// and network are dropped where there is none.
+/// `loss` is. It fails for want of memory only where a packet is under way or the budget leaves an
+/// event; book and network are dropped then.
 pub fn lossy(
     alloc: Global,
     net: Net,

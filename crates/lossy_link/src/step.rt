@@ -1,5 +1,9 @@
 // Steps over links.
+ghost use Rattle.std.specs.Prelude.{◌≡◌, Ok};
+
+use chem_model::Memory;
 use net_core::Choice;
+use std::alloc::Global;
 
 /// What happens next over links.
 #[derive(Clone, Copy, PartialEq, Eq, Debug)]
@@ -14,4 +18,13 @@ pub enum Step {
     Repeat { frame: u32 },
     /// It arrives.
     Arrive { frame: u32 },
+}
+
+impl Step {
+    /// A step that is equal to this one. It takes no memory.
+    pub fn copy(&self, _alloc: Global) -> Result<Step, Memory>
+        ensures { result ≡ Ok self.now }
+    {
+        Ok(*self)
+    }
 }

@@ -1,10 +1,11 @@
 // Packets that are handed out, each with the site that sent it.
-ghost use Rattle.std.specs.Prelude.{◌≡◌, [], ◌∷◌, MatchOption};
+ghost use Rattle.std.specs.Prelude.{◌≡◌, [], ◌∷◌, MatchOption, IfOk};
 ghost use Rattle.net_core.specs.Drained.{AreHandedOut};
 ghost use Rattle.net_core.specs.inside.Runs.{spread};
 
 use crate::net::Net;
 use crate::senders::Run;
+use chem_model::Memory;
 use std::alloc::Global;
 use std::collections::VecDeque;
 use std::marker::Model;
@@ -16,6 +17,19 @@ use wire_packet::Flight;
 pub struct FlightFrom {
     pub from: u32,
     pub flight: Flight,
+}
+
+impl FlightFrom {
+    /// A packet that is equal to this one.
+    pub fn copy(&self, alloc: Global) -> Result<FlightFrom, Memory>
+        ensures { IfOk result (λ copy. copy ≡ self.now) }
+    {
+        let flight = self.flight.copy(alloc)?;
+        Ok(FlightFrom {
+            from: self.from,
+            flight,
+        })
+    }
 }
 
 /// Packets that were under way, seen as the list of those that are left, in order.

@@ -1,5 +1,5 @@
 // Rounds of all sites, lent to workers.
-ghost use Rattle.std.specs.Prelude.{◌≡◌, ℕ, ◌+◌, ◌-◌, ◌*◌, ◌<◌, ◌≤◌, ◌^◌, length, IfOk, OnOk};
+ghost use Rattle.std.specs.Prelude.{ℕ, ◌+◌, ◌-◌, ◌*◌, ◌<◌, ◌≤◌, ◌^◌, length, IfOk, OnOk};
 ghost use Rattle.net_core.specs.inside.Slots.{HasRound, HasSent};
 ghost use Rattle.net_core.specs.Whole.{IsWhole};
 ghost use Rattle.net_core.specs.Working.{HasWorked};

@@ -1,5 +1,5 @@
 // A turn of a site, while it is lent: its mail is worked off, and then it reacts.
-ghost use Rattle.std.specs.Prelude.{◌≡◌, ℕ, ◌+◌, ◌<◌, ◌^◌, [], IfSome};
+ghost use Rattle.std.specs.Prelude.{ℕ, ◌+◌, ◌<◌, ◌^◌, [], IfSome};
 ghost use Rattle.std.specs.Prelude.{IfNone, IfOk, OnOk, IsTrue};
 ghost use Rattle.chem_model.specs.Each.{Each};
 ghost use Rattle.site_solution.specs.InTree.{is_in_tree};

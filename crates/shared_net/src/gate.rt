@@ -1,4 +1,8 @@
 // The gate that the workers of a run on threads pass.
+ghost use Rattle.std.specs.Prelude.{◌≡◌, Ok};
+
+use chem_model::Memory;
+use std::alloc::Global;
 use std::marker::Sync;
 
 /// The two moments of a turn at which a gate is passed.
@@ -8,6 +12,15 @@ pub enum Phase {
     Held,
     /// A turn that committed an event has released its locks.
     Done,
+}
+
+impl Phase {
+    /// A moment that is equal to this one. It takes no memory.
+    pub fn copy(&self, _alloc: Global) -> Result<Phase, Memory>
+        ensures { result ≡ Ok self.now }
+    {
+        Ok(*self)
+    }
 }
 
 /// What a worker of a run on threads passes in each turn, so that tests can hold it there. Workers

@@ -6,8 +6,9 @@
 //! all passes have receipts, whoever made them. So at the end a book with which the receipts agree
 //! has each of its events from the pass of a worker.
 //!
-//! `inside` has what is done behind the locks, on plain values. A turn at a site takes locks round
-//! that, and passes a gate; the workers make turns at one site after another.
+//! A turn at a site takes locks round the calls of `site_turn` and the book's, and passes a gate; the
+//! workers make turns at one site after another. `inside` has what a turn does as single calls on
+//! plain values, which tests hold beside it.
 #![tactic(auto)]
 
 mod across;

@@ -296,8 +296,8 @@ fn make_rounds<R: Threads + Sync>(
 /// often as its share of the budget allows, 64 times at most. Then each site in order makes its
 /// reaction that opens a location, and the requests are met in the order of their ids. Each event
 /// is committed to the book. How many workers there are makes no difference to the journal. It
-/// takes memory only where the budget leaves an event; book and network are dropped where there is
-/// none.
+/// fails for want of memory only where the budget leaves an event; book and network are dropped
+/// then.
 pub fn rounds<R: Threads + Sync>(
     rt: &R,
     alloc: Global,

@@ -71,8 +71,8 @@ pub(crate) fn finish(alloc: Global, book: Book, budget: u32) -> Result<Book, Mem
 }
 
 /// Makes the event that comes first, from the site after the last one's, until none is possible or
-/// the journal has `budget` events. It begins at the first site. It takes memory only where the
-/// budget leaves an event and one is possible.
+/// the journal has `budget` events. It begins at the first site. It fails for want of memory only
+/// where the budget leaves an event and one is possible.
 pub fn alone(alloc: Global, book: Book, budget: u32) -> Result<Done, Memory>
     requires { length book.journal ≤ budget }
     ensures run { IfOk result (λ done. RunsOn book budget done.book) }
