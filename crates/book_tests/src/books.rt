@@ -1,7 +1,7 @@
 // Books: what is first, and what is made or isn't.
+ghost use Rattle.std.specs.Prelude.{◌≡◌, [], IfOk};
 
-use crate::both::book_with;
-use chem_model::{AtomId, Event, Memory};
+use chem_model::{AtomId, Event, Memory, Program};
 use join_base::Front;
 use std::alloc::{AllocError, Global};
 use std::process::Abort;
@@ -11,6 +11,14 @@ use worked_programs::program_of;
 
 // More events than any book of these tests has.
 const MOST_EVENTS: usize = 100;
+
+// The book of a program, before any event.
+pub fn book_with(alloc: Global, program: &Program) -> Result<Box<Book>, Memory>
+    ensures { IfOk result (λ book. book.value.journal ≡ []) }
+{
+    let book = Book::start(alloc, program)?;
+    Ok(Box::new(alloc, book)?)
+}
 
 fn book_of(alloc: Global, text: &str) -> Result<Box<Book>, Front> {
     let program = program_of(alloc, text.as_bytes())?;

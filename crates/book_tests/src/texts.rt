@@ -1,7 +1,7 @@
 // Texts of traces and logs, byte for byte. The expected texts were written out by hand.
 ghost use Rattle.std.specs.Prelude.{◌≤◌, length};
 
-use crate::both::book_with;
+use crate::books::book_with;
 use chem_model::{AtomId, Event, Items, Journal, Memory, RuleId, Text};
 use join_base::Front;
 use std::alloc::Global;

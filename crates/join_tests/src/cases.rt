@@ -1,16 +1,16 @@
-// Worked cases as data, and the one test that runs them all.
+// Refused texts and lines of words as data, and the tests that run them all.
 ghost use denote.Param.Send.{IsSync};
 
+use crate::expected::expect_case;
 use crate::lines::{lines, no_lines, no_losses};
-use crate::outcome::{Made, Outcome, call};
 use crate::refusals::refusals;
-use chem_model::Memory;
 use std::marker::Sync;
 use std::process::Abort;
 use std::sync::Wait;
 use std::test::Fail;
 use std::thread::Threads;
-use worked_texts::{Case, QUIET, examples, runs, runs_in_rounds};
+use worked_calls::call_case;
+use worked_texts::{Case, QUIET};
 
 // A text that is refused.
 pub const REFUSED: Case = Case {
@@ -32,18 +32,6 @@ fn usage() -> &'static Case {
     USAGE
 }
 
-// How a case ends, run with these words.
-fn outcome_of<R: AllocGlobal + Abort + Threads + Wait + Sync>(
-    rt: &R,
-    words: &[&str],
-    case: &Case,
-) -> Result<Outcome, Memory>
-    requires { IsSync R.row }
-{
-    let source = case.source(rt.alloc())?;
-    call(rt, words, source.as_slice())
-}
-
 // That a case ends as it says, run with these words.
 pub fn expect<R: AllocGlobal + Abort + Threads + Wait + Sync>(
     rt: &R,
@@ -52,36 +40,8 @@ pub fn expect<R: AllocGlobal + Abort + Threads + Wait + Sync>(
 ) -> Result<(), Fail>
     requires { IsSync R.row }
 {
-    let outcome = outcome_of(rt, words, case)?;
-    outcome.expect_case(rt, case);
-    Ok(())
-}
-
-// That a case ends as it says, run with these words, and so made.
-pub fn expect_made<R: AllocGlobal + Abort + Threads + Wait + Sync>(
-    rt: &R,
-    words: &[&str],
-    case: &Case,
-    made: Made,
-) -> Result<(), Fail>
-    requires { IsSync R.row }
-{
-    let outcome = outcome_of(rt, words, case)?;
-    outcome.expect_case(rt, case);
-    outcome.expect_made(rt, case.events.map(|_| made));
-    Ok(())
-}
-
-// That each of these cases ends as it says, and is made on one thread.
-fn expect_all_alone<R: AllocGlobal + Abort + Threads + Wait + Sync>(
-    rt: &R,
-    cases: &[Case],
-) -> Result<(), Fail>
-    requires { IsSync R.row }
-{
-    for case in cases {
-        expect_made(rt, case.words, case, Made::Alone)?;
-    }
+    let run = call_case(rt, words, case)?;
+    expect_case(rt, &run, case);
     Ok(())
 }
 
@@ -98,18 +58,20 @@ fn expect_all<R: AllocGlobal + Abort + Threads + Wait + Sync>(
     Ok(())
 }
 
-#[test]
-fn worked_texts_alone(rt: HostRuntime) -> Result<(), Fail> {
-    for cases in runs() {
-        expect_all_alone(&rt, cases)?;
-    }
-    Ok(())
-}
+// The commands that run a text.
+const COMMANDS: &[&[&str]] = &[&["alone"], &["rounds"], &["run"], &["lossy"]];
 
-#[test]
-fn worked_texts_by_both(rt: HostRuntime) -> Result<(), Fail> {
-    for cases in runs_in_rounds() {
-        expect_all(&rt, cases)?;
+// That each command refuses these texts as they say.
+fn expect_refused<R: AllocGlobal + Abort + Threads + Wait + Sync>(
+    rt: &R,
+    cases: &[Case],
+) -> Result<(), Fail>
+    requires { IsSync R.row }
+{
+    for case in cases {
+        for words in COMMANDS {
+            expect(rt, *words, case)?;
+        }
     }
     Ok(())
 }
@@ -117,9 +79,26 @@ fn worked_texts_by_both(rt: HostRuntime) -> Result<(), Fail> {
 #[test]
 fn refused_texts(rt: HostRuntime) -> Result<(), Fail> {
     for cases in refusals() {
-        expect_all(&rt, cases)?;
+        expect_refused(&rt, cases)?;
     }
     Ok(())
+}
+
+// Texts that are refused, and words that ask for nothing, end as they do by the other commands.
+const REFUSED_OVER_LINKS: &Case = &Case {
+    words: &["lossy", "--loss", "3"],
+    text: &[(1, "site s [ none : x() ]")],
+    err: "scope 1 at 16\n",
+    ..REFUSED
+};
+
+fn refused_over_links() -> &'static Case {
+    REFUSED_OVER_LINKS
+}
+
+#[test]
+fn a_refused_text_over_links(rt: HostRuntime) -> Result<(), Fail> {
+    expect(&rt, refused_over_links().words, refused_over_links())
 }
 
 // That each of these lines of words asks for nothing.
@@ -142,12 +121,4 @@ fn lines_of_words(rt: HostRuntime) -> Result<(), Fail> {
     }
     expect_usage(&rt, no_lines())?;
     expect_usage(&rt, no_losses())
-}
-
-#[test]
-fn examples_on_one_thread(rt: HostRuntime) -> Result<(), Fail> {
-    for cases in examples() {
-        expect_all_alone(&rt, cases)?;
-    }
-    Ok(())
 }

@@ -1,7 +1,8 @@
 // Sources and sinks at their ends.
 
-use crate::outcome::{call, call_into, ends_of, sink_with, source_with};
+use crate::expected::{expect_ended, expect_unread};
 use std::test::Fail;
+use worked_calls::{call, call_into, ends_of, sink_with, source_with};
 
 const FIRST: &[u8] = b"observe out/1; site s [ x(u) => out(u) : x(s) ]";
 
@@ -13,7 +14,7 @@ fn one_write_is_enough(rt: HostRuntime) -> Result<(), Fail> {
     let mut ends = ends_of(rt.alloc(), FIRST)?;
     ends.out = sink_with(rt.alloc(), 64, 64, &[2])?;
     let run = call_into(&rt, &ALONE, &mut ends)?;
-    run.expect(&rt, 0, "out(s)\nquiescent\n", "");
+    expect_ended(&rt, &run, 0, "out(s)\nquiescent\n", "");
     Ok(())
 }
 
@@ -22,8 +23,8 @@ fn one_write_is_enough(rt: HostRuntime) -> Result<(), Fail> {
 fn a_text_past_the_limit(rt: HostRuntime) -> Result<(), Fail> {
     let blanks = vec![in rt.alloc(); b' '; 1_048_580]?;
     let run = call(&rt, &ALONE, blanks.as_slice())?;
-    run.expect(&rt, 1, "", "lex 1 at 1048576\n");
-    run.expect_unread(&rt, 3);
+    expect_ended(&rt, &run, 1, "", "lex 1 at 1048576\n");
+    expect_unread(&rt, &run, 3);
     Ok(())
 }
 
@@ -32,8 +33,8 @@ fn a_text_past_the_limit(rt: HostRuntime) -> Result<(), Fail> {
 fn sorts_of_a_text_past_the_limit(rt: HostRuntime) -> Result<(), Fail> {
     let blanks = vec![in rt.alloc(); b' '; 1_048_580]?;
     let run = call(&rt, &["sorts"], blanks.as_slice())?;
-    run.expect(&rt, 1, "", "lex 1 at 1048576\n");
-    run.expect_unread(&rt, 3);
+    expect_ended(&rt, &run, 1, "", "lex 1 at 1048576\n");
+    expect_unread(&rt, &run, 3);
     Ok(())
 }
 
@@ -43,7 +44,7 @@ fn sorts_of_a_source_that_fails(rt: HostRuntime) -> Result<(), Fail> {
     let mut ends = ends_of(rt.alloc(), b"")?;
     ends.source = source_with(rt.alloc(), FIRST, 16, &[2])?;
     let run = call_into(&rt, &["sorts"], &mut ends)?;
-    run.expect(&rt, 3, "", "read fault\n");
+    expect_ended(&rt, &run, 3, "", "read fault\n");
     Ok(())
 }
 
@@ -53,6 +54,6 @@ fn the_line_of_a_fault_is_cut(rt: HostRuntime) -> Result<(), Fail> {
     let mut ends = ends_of(rt.alloc(), b"")?;
     ends.err = sink_with(rt.alloc(), 3, 8, &[])?;
     let run = call_into(&rt, &ALONE, &mut ends)?;
-    run.expect(&rt, 1, "", "gra");
+    expect_ended(&rt, &run, 1, "", "gra");
     Ok(())
 }

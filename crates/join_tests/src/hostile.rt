@@ -2,7 +2,7 @@
 ghost use denote.Param.Send.{IsSync};
 
 use crate::cases::{REFUSED, expect};
-use crate::outcome::{Ends, Outcome, call_into, sink_with, source_with};
+use crate::expected::expect_case;
 use crate::refusals::refusals;
 use chem_model::Memory;
 use std::alloc::Global;
@@ -11,6 +11,7 @@ use std::process::Abort;
 use std::sync::Wait;
 use std::test::Fail;
 use std::thread::Threads;
+use worked_calls::{Ends, Outcome, call_into, sink_with, source_with};
 use worked_texts::{Case, QUIET};
 
 // More bytes than any line or text of these runs has.
@@ -220,7 +221,7 @@ fn expect_fault<R: AllocGlobal + Abort + Threads + Wait + Sync>(
     requires { IsSync R.row }
 {
     let run = run_with(rt, words, fault)?;
-    run.expect_case(rt, &fault.case);
+    expect_case(rt, &run, &fault.case);
     Ok(())
 }
 

@@ -1,12 +1,13 @@
 // Logs that are judged and explained.
 ghost use denote.Param.Send.{IsSync};
 
-use crate::outcome::{call, call_into, ends_of, sink_with, source_with};
+use crate::expected::{expect_ended, expect_events, expect_unread};
 use std::marker::Sync;
 use std::process::Abort;
 use std::sync::Wait;
 use std::test::Fail;
 use std::thread::Threads;
+use worked_calls::{call, call_into, ends_of, sink_with, source_with};
 use worked_texts::{Case, runs};
 
 // The words of a command on a log, its bytes, and how it ends.
@@ -136,9 +137,9 @@ fn expect_judged<R: AllocGlobal + Abort + Threads + Wait + Sync>(
 {
     for case in cases {
         let run = call(rt, case.words, case.log.as_bytes())?;
-        run.expect(rt, case.status, case.out, case.err);
-        run.expect_events(rt, None);
-        run.expect_unread(rt, 0);
+        expect_ended(rt, &run, case.status, case.out, case.err);
+        expect_events(rt, &run, None);
+        expect_unread(rt, &run, 0);
     }
     Ok(())
 }
@@ -163,7 +164,7 @@ fn expect_yes<R: AllocGlobal + Abort + Threads + Wait + Sync>(
         let log = call(rt, &["alone", "--budget", "10", "--log"], source.as_slice())?;
         if log.events.is_some() {
             let run = call(rt, &["check"], log.out.as_slice())?;
-            run.expect(rt, 0, "yes\n", "");
+            expect_ended(rt, &run, 0, "yes\n", "");
         }
     }
     Ok(())
@@ -186,10 +187,10 @@ fn faults_of_the_outside(rt: HostRuntime) -> Result<(), Fail> {
     let mut ends = ends_of(rt.alloc(), b"")?;
     ends.source = source_with(rt.alloc(), LOG, 16, &[2])?;
     let run = call_into(&rt, &["check"], &mut ends)?;
-    run.expect(&rt, 3, "", "read fault\n");
+    expect_ended(&rt, &run, 3, "", "read fault\n");
     let mut ends = ends_of(rt.alloc(), LOG)?;
     ends.out = sink_with(rt.alloc(), 2, 64, &[])?;
     let run = call_into(&rt, &["check"], &mut ends)?;
-    run.expect(&rt, 4, "ye", "write fault\n");
+    expect_ended(&rt, &run, 4, "ye", "write fault\n");
     Ok(())
 }

@@ -1,13 +1,14 @@
 // Programs with as many sites or levels as there may be, by each command.
 ghost use denote.Param.Send.{IsSync};
 
-use crate::outcome::{call, expect_bytes};
+use crate::expected::{expect_bytes, expect_status};
 use std::alloc::{AllocError, Global};
 use std::marker::Sync;
 use std::process::Abort;
 use std::sync::Wait;
 use std::test::Fail;
 use std::thread::Threads;
+use worked_calls::call;
 
 // That a text ends so with these words.
 fn expect_with<R: AllocGlobal + Abort + Threads + Wait + Sync>(
@@ -21,7 +22,7 @@ fn expect_with<R: AllocGlobal + Abort + Threads + Wait + Sync>(
     requires { IsSync R.row }
 {
     let run = call(rt, words, text)?;
-    run.expect_status(rt, status);
+    expect_status(rt, &run, status);
     expect_bytes(rt, run.out.as_slice(), out);
     expect_bytes(rt, run.err.as_slice(), err);
     Ok(())

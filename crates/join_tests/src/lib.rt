@@ -1,13 +1,13 @@
-//! Tests of the whole program: worked cases, faults and terms, from the bytes read to the bytes
-//! written.
+//! Tests of the whole program beside its runs: refused texts, words, faults of reads and writes,
+//! logs, limits and terms, from the bytes read to the bytes written.
 #![tactic(auto)]
 
 #[cfg(test)]
 mod cases;
 #[cfg(test)]
-mod faults;
+mod expected;
 #[cfg(test)]
-mod free;
+mod faults;
 #[cfg(test)]
 mod hostile;
 #[cfg(test)]
@@ -17,13 +17,7 @@ mod large;
 #[cfg(test)]
 mod lines;
 #[cfg(test)]
-mod links;
-#[cfg(test)]
-mod outcome;
-#[cfg(test)]
 mod refusals;
-#[cfg(test)]
-mod rounds;
 #[cfg(test)]
 mod terms;
 #[cfg(test)]

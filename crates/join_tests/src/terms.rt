@@ -1,15 +1,20 @@
 // Terms, programs and events: what is made, kept, copied and dropped.
+ghost use denote.Param.Send.{IsSync};
 
-use crate::outcome::{ended_alone, expect_bytes, kept_of};
+use crate::expected::expect_bytes;
 use chem_model::{
     AtomId, Defn, DefnNode, Defs, Event, Items, Journal, Loc, Memory, Name, Names, Out, Outs, Pat,
     Pats, Proc, ProcNode, Program, Ref, RuleId,
 };
 use chem_plain::replay;
-use join_top::Kept;
+use join_top::{Ended, Kept};
 use std::alloc::{AllocError, Global};
+use std::marker::Sync;
 use std::process::Abort;
+use std::sync::Wait;
 use std::test::Fail;
+use std::thread::Threads;
+use worked_calls::ended_with;
 
 // `def none in (process)`.
 fn one_level(alloc: Global, process: Proc) -> Result<Proc, Memory> {
@@ -124,6 +129,21 @@ fn a_place_and_its_copy(rt: HostRuntime) -> Result<(), Fail> {
         Some((Ref::Binder(4), Ref::Binder(7), Ref::Binder(8)))
     );
     Ok(())
+}
+
+// What a run of a text on one thread left.
+fn ended_alone<R: AllocGlobal + Abort + Threads + Wait + Sync>(
+    rt: &R,
+    text: &str,
+) -> Result<Box<Ended>, Memory>
+    requires { IsSync R.row }
+{
+    ended_with(rt, &["alone", "--budget", "10"], text.as_bytes())
+}
+
+// The run that a call kept.
+fn kept_of(ended: &Ended) -> Result<&Kept, Fail> {
+    Ok(ended.kept.as_ref().ok_or("nothing is kept")?)
 }
 
 // The first message that the last event took, if it is a reaction.

@@ -1,16 +1,17 @@
 // Words that leave the source unread, and rings.
 ghost use denote.Param.Send.{IsSync};
 
-use crate::outcome::{Outcome, call};
+use crate::expected::{expect_ended, expect_status, expect_unread};
 use chem_model::Memory;
 use std::marker::Sync;
 use std::process::Abort;
 use std::sync::Wait;
 use std::test::Fail;
 use std::thread::Threads;
+use worked_calls::{Outcome, call};
 
 // That no byte of the source is taken, and that the call ends with this status.
-fn expect_unread<R: AllocGlobal + Abort + Threads + Wait + Sync>(
+fn expect_untouched<R: AllocGlobal + Abort + Threads + Wait + Sync>(
     rt: &R,
     words: &[&str],
     status: u8,
@@ -18,8 +19,8 @@ fn expect_unread<R: AllocGlobal + Abort + Threads + Wait + Sync>(
     requires { IsSync R.row }
 {
     let run = call(rt, words, b"abc")?;
-    run.expect_status(rt, status);
-    run.expect_unread(rt, 3);
+    expect_status(rt, &run, status);
+    expect_unread(rt, &run, 3);
     Ok(())
 }
 
@@ -45,7 +46,7 @@ fn unread() -> &'static [(&'static [&'static str], u8)] {
 #[test]
 fn the_source_is_unread(rt: HostRuntime) -> Result<(), Fail> {
     for (words, status) in unread() {
-        expect_unread(&rt, *words, *status)?;
+        expect_untouched(&rt, *words, *status)?;
     }
     Ok(())
 }
@@ -69,7 +70,7 @@ fn expect_stopped<R: AllocGlobal + Abort + Threads + Wait + Sync>(
     requires { IsSync R.row }
 {
     let run = ring_of(rt, size)?;
-    run.expect(rt, 5, "events 0\nobservables 0\nstopped\n", "");
+    expect_ended(rt, &run, 5, "events 0\nobservables 0\nstopped\n", "");
     Ok(())
 }
 

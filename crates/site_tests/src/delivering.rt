@@ -1,14 +1,13 @@
 // A site that hosts its root alone, beside another site that hosts a location. The expected values
 // were worked out by hand.
 
-use crate::net::Pair;
-use crate::shown::{Fact, Look};
-use crate::steps::{Place, Step, run_by_hand};
+use crate::expected::run_by_hand;
 use chem_model::{AtomId, Items, Loc, Memory, Name};
 use router::Delivery;
 use std::alloc::Global;
 use std::test::Fail;
 use wire_packet::Msg;
+use worked_sites::{Fact, Look, Pair, Place, Step};
 
 const ROOT: Pair = (0, 0);
 

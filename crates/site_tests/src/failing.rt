@@ -1,12 +1,11 @@
 // A site that asks to halt, and to detect that it has halted. The expected values were worked out
 // by hand.
 
-use crate::net::Pair;
-use crate::shown::Look;
-use crate::steps::{Change, Place, Step, run_by_hand};
+use crate::expected::run_by_hand;
 use chem_model::{Loc, Name};
 use std::test::Fail;
 use wire_packet::Ask;
+use worked_sites::{Change, Look, Pair, Place, Step};
 
 const ROOT: Pair = (0, 0);
 

@@ -1,10 +1,9 @@
 // Locations that move into dead sites. The expected values were worked out by hand from the
 // numbering.
 
-use crate::net::Pair;
-use crate::shown::{Fact, Leaves, Look};
-use crate::steps::{Change, Deed, Place, Step, run};
+use crate::expected::run;
 use std::test::Fail;
+use worked_sites::{Change, Deed, Fact, Leaves, Look, Pair, Place, Step};
 
 // The location that falls.
 const M: Pair = (0, 1);

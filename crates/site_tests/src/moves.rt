@@ -1,15 +1,16 @@
 // Locations that move, halt and are found dead. The expected values were worked out by hand from
 // the numbering and the format of packets.
 
-use crate::by_hand::take_in_at;
-use crate::net::{Net, Pair, loc, net_of};
-use crate::shown::{Fact, Leaves, Look, packed};
-use crate::steps::{Change, Deed, Place, Step, go, run};
+use crate::expected::{go, run};
 use chem_model::{Loc, Memory, Name, Text};
 use std::alloc::Global;
 use std::process::Abort;
 use std::test::Fail;
 use wire_packet::Parcel;
+use worked_sites::{
+    Change, Deed, Fact, Fault, Leaves, Look, Net, Pair, Place, Step, loc, net_of, packed,
+    take_in_at,
+};
 
 // The location that moves.
 const M: Pair = (0, 1);
@@ -58,11 +59,11 @@ fn parcel_of(alloc: Global, net: &Net) -> Result<Parcel, Memory> {
 }
 
 // It is copied at the first site and taken in at the second one.
-fn carries(rt: &impl Abort, alloc: Global, net: &mut Net) -> Result<(), Memory> {
+fn carries(alloc: Global, net: &mut Net) -> Result<(), Fault> {
     let parcel = parcel_of(alloc, net)?;
     match net.sites.get_mut(1) {
-        Some(into) => take_in_at(rt, alloc, into, &net.code, &parcel),
-        None => Err(Memory),
+        Some(into) => take_in_at(alloc, into, &net.code, &parcel),
+        None => Err(Fault::Unmet),
     }
 }
 
@@ -77,10 +78,10 @@ fn after_it_is_carried() -> &'static [Step] {
 
 #[test]
 fn a_location_in_a_parcel(rt: HostRuntime) -> Result<(), Fail> {
-    let mut net = net_of(&rt, rt.alloc(), mover())?;
+    let mut net = net_of(rt.alloc(), mover())?;
     go(&rt, rt.alloc(), &mut net, before_it_is_carried())?;
     expect_bytes(&rt, rt.alloc(), &net)?;
-    carries(&rt, rt.alloc(), &mut net)?;
+    carries(rt.alloc(), &mut net)?;
     go(&rt, rt.alloc(), &mut net, after_it_is_carried())?;
     Ok(())
 }
@@ -224,7 +225,7 @@ fn reacts_there() -> &'static [Step] {
 
 #[test]
 fn a_location_moves_twice(rt: HostRuntime) -> Result<(), Fail> {
-    let mut net = net_of(&rt, rt.alloc(), traveller())?;
+    let mut net = net_of(rt.alloc(), traveller())?;
     go(&rt, rt.alloc(), &mut net, travels())?;
     go(&rt, rt.alloc(), &mut net, reacts_there())?;
     Ok(())
@@ -258,7 +259,7 @@ fn the_first_site_halts() -> &'static [Step] {
 
 #[test]
 fn the_old_site_halts(rt: HostRuntime) -> Result<(), Fail> {
-    let mut net = net_of(&rt, rt.alloc(), traveller())?;
+    let mut net = net_of(rt.alloc(), traveller())?;
     go(&rt, rt.alloc(), &mut net, travels())?;
     go(&rt, rt.alloc(), &mut net, the_first_site_halts())?;
     Ok(())

@@ -1,10 +1,9 @@
 // Operations at sites: what a sum becomes, and one that stays. The expected values were worked out
 // by hand from the numbering.
 
-use crate::net::Pair;
-use crate::shown::{Leaves, Look};
-use crate::steps::{Step, run};
+use crate::expected::run;
 use std::test::Fail;
+use worked_sites::{Leaves, Look, Pair, Step};
 
 // The channels are 0.1 and 1.1, the rules 0.2 and 1.2, and the message of the opening 0.3.
 fn sum_for_another_site() -> &'static [u8] {

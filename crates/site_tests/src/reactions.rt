@@ -1,13 +1,12 @@
 // Openings, reactions and single calls. The expected values were worked out by hand from the
 // numbering.
 
-use crate::net::Pair;
-use crate::shown::{Fact, Leaves, Look};
-use crate::steps::{Change, Deed, Step, run, run_by_hand};
+use crate::expected::{run, run_by_hand};
 use chem_model::Name;
 use std::alloc::{AllocError, Global};
 use std::test::Fail;
 use wire_packet::Ask;
+use worked_sites::{Change, Deed, Fact, Leaves, Look, Pair, Step};
 
 const ROOT: Pair = (0, 0);
 

@@ -1,14 +1,12 @@
 // A move whose memory may be refused. `bench/refused.sh` refuses each of its allocations in turn.
 
-use crate::net::{Net, Pair, loc, net_of};
-use crate::shown::{Fact, Look, packed};
-use crate::steps::{Place, Step, go, moved_on};
 use chem_model::{Items, Memory, Text};
 use loc_tree::LocTree;
 use site_solution::Site;
 use std::alloc::Global;
 use std::process::Abort;
 use std::test::Fail;
+use worked_sites::{Fact, Fault, Look, Net, Pair, Place, Step, go, loc, moved_on, net_of, packed};
 
 // The location that moves.
 const M: Pair = (0, 1);
@@ -64,9 +62,23 @@ fn told(alloc: Global, net: &Net) -> Result<Text, Memory> {
     Ok(text)
 }
 
+// That nothing but memory was wanting.
+fn expect_memory(rt: &impl Abort, fault: Fault) {
+    assert_eq!(rt; fault, Fault::Memory);
+}
+
 // Whether the location is made to move.
 fn goes(rt: &impl Abort, alloc: Global, net: &mut Net) -> bool {
-    moved_on(rt, alloc, net, 0, (0, 10)).is_ok()
+    match moved_on(alloc, net, 0, (0, 10)) {
+        Ok(effects) => {
+            drop(effects);
+            true
+        }
+        Err(fault) => {
+            expect_memory(rt, fault);
+            false
+        }
+    }
 }
 
 // Whether they hold the same as before.
@@ -101,11 +113,11 @@ fn all_there() -> &'static [Step] {
 }
 
 // Whether the location moved, with all that stands there.
-fn moves(rt: &impl Abort, alloc: Global) -> Result<bool, Memory> {
-    let mut net = net_of(rt, alloc, traveller())?;
+fn moves(rt: &impl Abort, alloc: Global) -> Result<bool, Fault> {
+    let mut net = net_of(alloc, traveller())?;
     let moved = has_moved(rt, alloc, &mut net)?;
     if moved {
-        go(rt, alloc, &mut net, all_there())?;
+        go(alloc, &mut net, all_there())?;
     }
     Ok(moved)
 }
@@ -116,7 +128,10 @@ fn a_move_is_whole_or_not_made(rt: HostRuntime) -> Result<(), Fail> {
     let ended = match moves(&rt, rt.alloc()) {
         Ok(true) => "moved",
         Ok(false) => "as before",
-        Err(_) => "beside the move",
+        Err(fault) => {
+            expect_memory(&rt, fault);
+            "beside the move"
+        }
     };
     println!(rt; "{ended}")?;
     Ok(())

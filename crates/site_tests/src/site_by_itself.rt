@@ -1,11 +1,10 @@
 // A site with one group of one channel, which takes one argument. The expected values were worked
 // out by hand.
 
-use crate::net::Pair;
-use crate::shown::Fact;
-use crate::steps::{Change, Step, run_by_hand};
+use crate::expected::run_by_hand;
 use std::test::Fail;
 use wire_packet::Ask;
+use worked_sites::{Change, Fact, Pair, Step};
 
 const ROOT: Pair = (0, 0);
 

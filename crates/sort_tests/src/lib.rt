@@ -1,5 +1,5 @@
 //! Tests of the judge of sorts, through the whole program: texts with each fault or none, and that
-//! all other commands pass over sort lines.
+//! `alone` and `check` pass over sort lines.
 #![tactic(auto)]
 
 mod arguments;

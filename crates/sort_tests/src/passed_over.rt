@@ -1,4 +1,4 @@
-// Texts behind sort lines, by the other commands.
+// Texts behind sort lines by `alone`, and their logs by `check`.
 ghost use denote.Param.Send.{IsSync};
 
 use crate::called::{Called, call};
