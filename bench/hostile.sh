@@ -1,7 +1,8 @@
 #!/usr/bin/env bash
 # Runs hostile texts by each command: a million messages, and as many as a text has room for; 64 sites that all halt at
 # once; a location that moves forever between two sites while others send to it; a detector for each of 10,000 locations,
-# and 10,000 of one; names of which an ordered map has to compare many letters.
+# and 10,000 of one; blocks of many places, levels of many rules, and agents alive at once; names of which an ordered map
+# has to compare many letters.
 # Each run must end quiet (status 0) or stopped at its budget (status 5), as its row says, within the seconds given
 # (default 60). It prints how long each took and how much memory it held at most. Where one ended otherwise, or not in
 # time, the status is 1.
@@ -70,17 +71,10 @@ runs 'a million messages that each go to the next of 64 sites' 5 1000000 < <(
 runs '250,000 messages of a text that wait' 0 10000 < <(
     printf 'site s [ y() | never() => 0 : %s0 ]\n' "$(times 250000 'y()|')"
 )
-# A turn of a free worker looks through all that its site holds, once for its event and once for each message that comes.
-# So in these two the time of `run` grows with the square of the messages, and it has fewer of them.
-commands=("${every_command[@]::2}")
 runs 'a million messages that wait in one queue before they react' 5 1000000 < <(bursts 1000 'y() => 0')
 runs '250,000 messages of a text that are sent to another site' 0 10000 < <(sent 250000)
 # With fewer events left than there are sites, each message is delivered on its own.
 runs 'the same, one after another' 0 1 < <(sent 250000)
-commands=("${every_command[2]}")
-runs '40,000 messages that wait in one queue before they react' 0 1000000 < <(bursts 40 'y() => 0')
-runs '80,000 messages of a text that are sent to another site' 0 10000 < <(sent 80000)
-commands=("${every_command[@]}")
 runs '64 sites that all halt at once' 0 100000 < <(numbered 64 'site s# [ x#() => 0 : halt() | x#() ]
 ')
 runs '64 sites that all halt at once, each watched by all' 0 100000 < <(
@@ -111,6 +105,24 @@ runs 'a detector for each of 10,000 locations whose site halts' 0 100000 < <(
 )
 runs '10,000 detectors of one location that lives, asked in each round' 5 20000 < <(
     printf 'site a [ m[none:0] and d() => 0 and x() => x() : %sx() ]\n' "$(times 10000 'fail(m,d)|')"
+)
+# groups of one block: each rule of a place sees all names of the block
+runs 'a block of 300 places beside an endless reaction' 5 20000 < <(
+    printf 'site s [ x() => x() : def %s in x() ]\n' "$(numbered 300 'm#[ a#() | b#() => 0 : a#() ]' ' and ')"
+)
+runs 'a block of 5,000 places' 0 10000 < <(
+    printf 'site s [ none : def %s in 0 ]\n' "$(numbered 5000 'm#[ a#() | b#() => 0 : 0 ]' ' and ')"
+)
+runs '1,000 messages of a channel with 20,000 rules' 0 10000 < <(
+    printf 'site s [ %s : %s0 ]\n' "$(numbered 20000 'x() | y#() => 0' ' and ')" "$(times 1000 'x()|')"
+)
+runs 'an endless reaction by the last of 10,000 rules' 5 10000 < <(
+    printf 'site s [ %s and x() => x() : x() ]\n' "$(numbered 9999 'y#() => 0' ' and ')"
+)
+runs '1,000 agents that are alive at once' 0 100000 < <(
+    printf 'site a [ gone() => 0 and x() => def m[ there() => halt() : go(b, there) ] in fail(m, gone) : %s0 ]\n' \
+        "$(times 1000 'x()|')"
+    printf 'site b [ none : 0 ]\n'
 )
 runs '40,000 names that begin alike' 0 10000 < <(
     numbered 40000 'observe seven_#/0; '

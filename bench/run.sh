@@ -1,6 +1,6 @@
 #!/usr/bin/env bash
 # Measures runs. Prints how many events a second pass on each of a few texts, on one thread, and in rounds and on free
-# threads with 1, 2 and 4 workers, beside each other. Then, of runs on one thread and in processor time: how that falls with the messages that
+# threads with 1, 2 and 4 workers, beside each other, and these as ratios. Then, of runs on one thread and in processor time: how that falls with the messages that
 # wait, with locations and with rules, and how long runs take that make names.
 # A measure and no test.
 set -eu
@@ -50,6 +50,8 @@ beside() {
         for (i in t) t[i] = budget / (t[i] + 0.0005)
         printf "%s, events a second: alone %d; in rounds with 1 worker %d, 2 workers %d, 4 workers %d; on free threads with 1 worker %d, 2 workers %d, 4 workers %d\n", \
             name, t[1], t[2], t[3], t[4], t[5], t[6], t[7]
+        printf "  so many times as much: one free worker as alone %.2f; two as one %.2f, four as one %.2f; in rounds four as one %.2f\n", \
+            t[5] / t[1], t[6] / t[5], t[7] / t[5], t[4] / t[2]
     }'
 }
 
