@@ -40,9 +40,15 @@ impl Waiting {
     }
 }
 
-// Whether one of the newest messages is on the channel with this number.
+// So many of the newest messages are looked at. There are more of them only before the first ones
+// are set apart, when all messages of a text are among them.
+const LOOKED_AT: usize = 64;
+
+// Whether one of the newest messages is on the channel with this number, as far as they are looked
+// at.
 fn is_newest(numbered: &Numbered, number: u64) -> bool {
-    for atom in numbered.atoms.as_slice() {
+    let newest = numbered.atoms.as_slice();
+    for atom in &newest[..newest.len().min(LOOKED_AT)] {
         if channel_of(&atom.term) == Some(number) {
             return true;
         }
