@@ -5,6 +5,7 @@ ghost use denote.Param.Send.{IsSync};
 use crate::called::call;
 use crate::plain::{Said, said_of};
 use chem_model::{Event, Items, Journal, Memory, Program, Text};
+use run_check::{Verdict, verdict};
 use std::alloc::Global;
 use std::marker::Sync;
 use std::process::Abort;
@@ -83,6 +84,36 @@ pub fn expect_said<R: AllocGlobal + Abort + Threads + Wait + Sync>(
     Ok(())
 }
 
+// What is said of a log that its caller keeps. None where it has more events than any log.
+fn lent_verdict(alloc: Global, program: &Program, log: &Log) -> Result<Option<Said>, Memory> {
+    if log.events.len() >= u32::MAX as usize {
+        return Ok(None);
+    }
+    match verdict(alloc, program, log)? {
+        Verdict::Yes(book) => {
+            drop(book);
+            Ok(Some(Said::Yes))
+        }
+        Verdict::Event { index } => Ok(Some(Said::Event(index))),
+        Verdict::Trace { place } => Ok(Some(Said::Trace(place))),
+    }
+}
+
+// That this is said of the log with these bytes where its caller keeps it, each time it asks.
+fn expect_lent<R: AllocGlobal + Abort>(
+    rt: &R,
+    program: &Program,
+    bytes: &[u8],
+    said: Said,
+) -> Result<(), Fail> {
+    let log = log_in(rt.alloc(), bytes)?;
+    for _time in 0..2 {
+        let lent = lent_verdict(rt.alloc(), program, &log)?;
+        assert_eq!(rt; lent, Some(said));
+    }
+    Ok(())
+}
+
 // That of a log with these events it is said what the plain program says.
 pub fn expect_plain<R: AllocGlobal + Abort + Threads + Wait + Sync>(
     rt: &R,
@@ -95,6 +126,7 @@ pub fn expect_plain<R: AllocGlobal + Abort + Threads + Wait + Sync>(
     let trace = log.trace.as_slice();
     let said = said_of(rt.alloc(), program, events.as_slice(), trace)?;
     let bytes = bytes_with(rt.alloc(), log, events, trace)?;
+    expect_lent(rt, program, bytes.as_slice(), said)?;
     expect_said(rt, bytes.as_slice(), said)
 }
 

@@ -1,5 +1,5 @@
-//! Tests of the commands on logs: what is said of the logs of worked texts, of logs that were
-//! changed, and of bytes that are no log or too many.
+//! Tests of the commands on logs: what is said of the logs of worked texts, whole and changed, and
+//! of bytes that are no log or too many.
 #![tactic(auto)]
 
 #[cfg(test)]
@@ -18,5 +18,3 @@ mod no_logs;
 mod plain;
 #[cfg(test)]
 mod whole;
-#[cfg(test)]
-mod worked;

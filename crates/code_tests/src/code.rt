@@ -43,6 +43,8 @@ pub enum Fact {
     Enter(Body, usize, u32),
     // An instruction that drops so many names.
     Leave(Body, usize, u32),
+    // How many instructions a body has.
+    Length(Body, usize),
 }
 
 fn has_sizes(code: &Code, sizes: [usize; 5]) -> bool {
@@ -124,10 +126,15 @@ fn instr(code: &Code, whose: Body, at: usize) -> Option<&Instr> {
     instrs.as_slice().get(at)
 }
 
+fn length(code: &Code, whose: Body) -> Option<usize> {
+    let instrs = code.bodies.as_slice().get(body_of(code, whose)? as usize)?;
+    Some(instrs.len())
+}
+
 fn sends(instr: Option<&Instr>, channel: Slot, arg: Option<Slot>) -> bool {
     match instr {
         Some(Instr::Send { on, args }) => {
-            *on == channel && args.as_slice().first().copied() == arg
+            *on == channel && args.len() <= 1 && args.as_slice().first().copied() == arg
         }
         _ => false,
     }
@@ -169,6 +176,7 @@ fn holds(code: &Code, fact: &Fact) -> bool {
         Fact::Send(whose, at, on, arg) => sends(instr(code, *whose, *at), *on, *arg),
         Fact::Enter(whose, at, names) => enters(code, instr(code, *whose, *at), *names),
         Fact::Leave(whose, at, names) => leaves(instr(code, *whose, *at), *names),
+        Fact::Length(whose, count) => length(code, *whose) == Some(*count),
     }
 }
 

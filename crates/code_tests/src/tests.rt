@@ -32,6 +32,8 @@ fn first_example() -> &'static [Fact] {
         Fact::Tops(&[ROOT]),
         Fact::Send(Body::Rule(0), 0, OBSERVED, Some(Slot::Env(0))),
         Fact::Send(Body::Site, 0, Slot::Known(CHANNEL), Some(AT_ROOT)),
+        Fact::Length(Body::Rule(0), 1),
+        Fact::Length(Body::Site, 1),
     ]
 }
 
@@ -40,6 +42,51 @@ fn the_first_example(rt: HostRuntime) {
     let text = b"observe out/1; site s [ x(u) => out(u) : x(s) ]";
     expect_code(&rt, rt.alloc(), text, first_example());
     assert!(rt; has_top_names(rt.alloc(), text, &[Name::Place(ROOT), CHANNEL]));
+}
+
+// A location that the first site makes.
+const MADE: Loc = Loc { site: 0, k: 1 };
+
+// A channel of that location.
+const AT_MADE: Name = Name::Chan {
+    site: 0,
+    k: 2,
+    home: MADE,
+};
+
+const SECOND_ROOT: Loc = Loc { site: 1, k: 0 };
+
+// The first site has level 0, the location in it level 1, and the second site level 2.
+fn two_sites() -> &'static [Fact] {
+    &[
+        Fact::Sizes([3, 1, 2, 4, 2]),
+        Fact::Level(1, [0, 0, 1], Some(0)),
+        Fact::Counts(1, 1, 0),
+        Fact::Block(0, &[0, 1], 2),
+        Fact::Block(2, &[2], 0),
+        Fact::Guard(0, [1, 0, 1]),
+        Fact::Mask(0, &[1]),
+        Fact::Send(
+            Body::Rule(0),
+            0,
+            OBSERVED,
+            Some(Slot::Known(Name::Place(MADE))),
+        ),
+    ]
+}
+
+#[test]
+fn levels_of_two_sites(rt: HostRuntime) {
+    let text = b"observe out/1; \
+        site a [ m[ k() => out(m) : go(b, k) ] : 0 ] site b [ none : 0 ]";
+    let names = &[
+        Name::Place(ROOT),
+        Name::Place(MADE),
+        AT_MADE,
+        Name::Place(SECOND_ROOT),
+    ];
+    expect_code(&rt, rt.alloc(), text, two_sites());
+    assert!(rt; has_top_names(rt.alloc(), text, names));
 }
 
 // The rule receives `u`, and the block within names the inner `x`.
@@ -122,6 +169,40 @@ fn nested_bodies() -> &'static [Fact] {
 #[test]
 fn bodies_of_nested_levels(rt: HostRuntime) {
     expect_code(&rt, rt.alloc(), nested(), nested_bodies());
+}
+
+// One pattern of 65 channels, and a message on each.
+fn wide() -> &'static [u8] {
+    b"observe out/0; site s [ c0() | c1() | c2() | c3() | c4() | c5() | c6() | c7() | c8() | \
+      c9() | c10() | c11() | c12() | c13() | c14() | c15() | c16() | c17() | c18() | c19() | \
+      c20() | c21() | c22() | c23() | c24() | c25() | c26() | c27() | c28() | c29() | c30() | \
+      c31() | c32() | c33() | c34() | c35() | c36() | c37() | c38() | c39() | c40() | c41() | \
+      c42() | c43() | c44() | c45() | c46() | c47() | c48() | c49() | c50() | c51() | c52() | \
+      c53() | c54() | c55() | c56() | c57() | c58() | c59() | c60() | c61() | c62() | c63() | \
+      c64() => out() : c0() | c1() | c2() | c3() | c4() | c5() | c6() | c7() | c8() | c9() | \
+      c10() | c11() | c12() | c13() | c14() | c15() | c16() | c17() | c18() | c19() | c20() | \
+      c21() | c22() | c23() | c24() | c25() | c26() | c27() | c28() | c29() | c30() | c31() | \
+      c32() | c33() | c34() | c35() | c36() | c37() | c38() | c39() | c40() | c41() | c42() | \
+      c43() | c44() | c45() | c46() | c47() | c48() | c49() | c50() | c51() | c52() | c53() | \
+      c54() | c55() | c56() | c57() | c58() | c59() | c60() | c61() | c62() | c63() | c64() ]"
+}
+
+// The mask has two words.
+fn wide_level() -> &'static [Fact] {
+    &[
+        Fact::Sizes([1, 1, 1, 2, 1]),
+        Fact::Level(0, [0, 0, 1], None),
+        Fact::Counts(0, 65, 0),
+        Fact::Guard(0, [0, 0, 1]),
+        Fact::Mask(0, &[u64::MAX, 1]),
+        Fact::Length(Body::Rule(0), 1),
+        Fact::Length(Body::Site, 65),
+    ]
+}
+
+#[test]
+fn a_level_with_two_status_words(rt: HostRuntime) {
+    expect_code(&rt, rt.alloc(), wide(), wide_level());
 }
 
 fn write_deep(text: &mut Vec<u8>, definitions: usize) -> Result<(), AllocError> {

@@ -8,7 +8,6 @@ use std::sync::Wait;
 use std::test::Fail;
 use std::thread::Threads;
 use worked_calls::{call, call_into, ends_of, sink_with, source_with};
-use worked_texts::{Case, runs};
 
 // The words of a command on a log, its bytes, and how it ends.
 struct Judged {
@@ -152,32 +151,6 @@ fn logs_that_are_judged(rt: HostRuntime) -> Result<(), Fail> {
     Ok(())
 }
 
-// That the log that a case prints on one thread is one of a run.
-fn expect_yes<R: AllocGlobal + Abort + Threads + Wait + Sync>(
-    rt: &R,
-    cases: &[Case],
-) -> Result<(), Fail>
-    requires { IsSync R.row }
-{
-    for case in cases {
-        let source = case.source(rt.alloc())?;
-        let log = call(rt, &["alone", "--budget", "10", "--log"], source.as_slice())?;
-        if log.events.is_some() {
-            let run = call(rt, &["check"], log.out.as_slice())?;
-            expect_ended(rt, &run, 0, "yes\n", "");
-        }
-    }
-    Ok(())
-}
-
-#[test]
-fn logs_of_worked_texts(rt: HostRuntime) -> Result<(), Fail> {
-    for cases in runs() {
-        expect_yes(&rt, cases)?;
-    }
-    Ok(())
-}
-
 const LOG: &[u8] = b"joinlog 1\nsource 19\nsite s [ none : 0 ]\nbudget 10\nevents 0\ntrace \
     10\nquiescent\n";
 
@@ -193,4 +166,28 @@ fn faults_of_the_outside(rt: HostRuntime) -> Result<(), Fail> {
     let run = call_into(&rt, &["check"], &mut ends)?;
     expect_ended(&rt, &run, 4, "ye", "write fault\n");
     Ok(())
+}
+
+// Its message isn't there.
+const NO: &[u8] = b"joinlog 1\nsource 47\nobserve out/1; site s [ x(u) => out(u) : x(s) ]\nbudget \
+    10\nevents 1\nreact 0.2 0.4\ntrace 17\nout(s)\nquiescent\n";
+
+// That of the line with which a command refuses this log, a prefix is written.
+fn expect_prefix<R: AllocGlobal + Abort + Threads + Wait + Sync>(
+    rt: &R,
+    words: &[&str],
+) -> Result<(), Fail>
+    requires { IsSync R.row }
+{
+    let mut ends = ends_of(rt.alloc(), NO)?;
+    ends.out = sink_with(rt.alloc(), 2, 64, &[])?;
+    let run = call_into(rt, words, &mut ends)?;
+    expect_ended(rt, &run, 4, "no", "write fault\n");
+    Ok(())
+}
+
+#[test]
+fn a_no_that_cannot_be_written(rt: HostRuntime) -> Result<(), Fail> {
+    expect_prefix(&rt, &["check"])?;
+    expect_prefix(&rt, &["explain"])
 }

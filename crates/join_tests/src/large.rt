@@ -44,15 +44,21 @@ fn expect_so<R: AllocGlobal + Abort + Threads + Wait + Sync>(
     expect_with(rt, &["lossy"], text, status, out, err)
 }
 
+// Three digits.
+fn push_digits(text: &mut Vec<u8>, number: u32) -> Result<(), AllocError> {
+    text.push(b'0' + (number / 100 % 10) as u8)?;
+    text.push(b'0' + (number / 10 % 10) as u8)?;
+    text.push(b'0' + (number % 10) as u8)?;
+    Ok(())
+}
+
 // A text of version 2 with so many sites, fewer than 1,000.
 fn sites(alloc: Global, count: u32) -> Result<Vec<u8>, AllocError> {
     let mut text = Vec::new(alloc);
     text.extend_from_slice(b"version 2; ")?;
     for number in 0..count {
         text.extend_from_slice(b"site s")?;
-        text.push(b'0' + (number / 100 % 10) as u8)?;
-        text.push(b'0' + (number / 10 % 10) as u8)?;
-        text.push(b'0' + (number % 10) as u8)?;
+        push_digits(&mut text, number)?;
         text.extend_from_slice(b" [none:0] ")?;
     }
     Ok(text)
@@ -126,4 +132,27 @@ fn all_levels_of_rules_over_links(rt: HostRuntime) -> Result<(), Fail> {
 fn one_level_of_rules_too_many(rt: HostRuntime) -> Result<(), Fail> {
     let text = rules(rt.alloc(), 399)?;
     expect_so(&rt, text.as_slice(), 1, b"", b"grammar 2 at 4830\n")
+}
+
+// A message of 255 arguments, and so many without any, are sent to another site. There a rule
+// takes the first, and the others wait.
+fn crowd(alloc: Global, count: u32) -> Result<Vec<u8>, AllocError> {
+    let mut text = Vec::new(alloc);
+    text.extend_from_slice(b"observe out/0; site s [ none : x(s")?;
+    push_times(&mut text, 254, b", s")?;
+    text.extend_from_slice(b")")?;
+    push_times(&mut text, count, b" | y()")?;
+    text.extend_from_slice(b" ] site t [ y() | never() => 0 and x(u")?;
+    for number in 1..255 {
+        text.extend_from_slice(b", u")?;
+        push_digits(&mut text, number)?;
+    }
+    text.extend_from_slice(b") => out() : 0 ]")?;
+    Ok(text)
+}
+
+#[test]
+fn a_crowd_from_another_site(rt: HostRuntime) -> Result<(), Fail> {
+    let text = crowd(rt.alloc(), 70_000)?;
+    expect_so(&rt, text.as_slice(), 0, b"out()\nquiescent\n", b"")
 }

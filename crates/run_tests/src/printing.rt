@@ -156,6 +156,18 @@ quiescent
         rounds: "out(b)\nout(m'1)\nquiescent\n",
         lossy: "out(m'1)\nout(b)\nquiescent\n",
     },
+    // In rounds and over links what a site forwards goes before what it sends.
+    Row {
+        alone: "out(a)\nout(c)\nquiescent\n",
+        rounds: "out(c)\nout(a)\nquiescent\n",
+        lossy: "out(c)\nout(a)\nquiescent\n",
+    },
+    // In rounds each site opens one location, then each once more; over links one site all of its.
+    Row {
+        alone: "out(m'1)\nout(n'2)\nout(m'3)\nquiescent\n",
+        rounds: "out(m'1)\nout(n'2)\nout(m'3)\nquiescent\n",
+        lossy: "out(m'1)\nout(m'2)\nout(n'3)\nquiescent\n",
+    },
 ];
 
 // The text with the long round, which prints 66 lines: on one thread the second site has its turn
@@ -224,6 +236,20 @@ const FREELY: &[(&str, Freely)] = &[
     (
         "observe out/1; site s [ x() => out(s) : x()",
         Freely::AnyOrder,
+    ),
+    (
+        "observe out/1; site a [ y() => x(a) and m[ k() | never() => 0 and x(u) => out(u) : go(b, \
+        k) ] : 0 ] site b [ none : 0 ] site c [ start() => x(c) | y() : start() ]",
+        Freely::AnyOrder,
+    ),
+    (
+        "observe out/1; site a [ x() => def m[ none : out(m) ] in 0 : x() | x() ] site b [ y() => \
+        def n[ none : out(n) ] in 0 : y() ]",
+        Freely::OneOf(&[
+            "out(m'1)\nout(m'2)\nout(n'3)\nquiescent\n",
+            "out(m'1)\nout(n'2)\nout(m'3)\nquiescent\n",
+            "out(n'1)\nout(m'2)\nout(m'3)\nquiescent\n",
+        ]),
     ),
     // The location may be there before the site is dead, and react there.
     (

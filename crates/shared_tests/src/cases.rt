@@ -41,6 +41,7 @@ impl Case {
             done: self.events,
             worker: 1,
             turn: self.last,
+            in_order: true,
         }
     }
 }

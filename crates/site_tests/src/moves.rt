@@ -120,6 +120,7 @@ const TO_THE_PRESENT_HOST: &[Step] = &[
     Step::See(0, Look::Has(M, 1, &[(0, 9)])),
     Step::See(0, Look::Has((0, 3), 1, &[(0, 8)])),
     Step::See(0, Look::MayGo(1, (0, 8), false)),
+    Step::React(0, (0, 5), &[(0, 9)], Leaves::Nothing),
 ];
 
 fn to_the_present_host() -> &'static [Step] {
@@ -141,6 +142,7 @@ const DIES: &[Step] = &[
     Step::Tree(Place::Killed((0, 2))),
     Step::Make(0, Deed::Detects((0, 7)), Leaves::Nothing),
     Step::See(0, Look::Has((0, 0), 1, &[(0, 8)])),
+    Step::React(0, (0, 4), &[(0, 8)], Leaves::Sizes([0, 1, 0])),
 ];
 
 fn dies() -> &'static [Step] {

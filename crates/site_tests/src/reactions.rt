@@ -237,7 +237,9 @@ fn nested() -> &'static [u8] {
 const MAKES_A_PLACE: &[Step] = &[
     Step::React(0, (0, 2), &[(0, 3)], Leaves::Sizes([0, 0, 1])),
     Step::See(0, Look::Has((0, 5), 1, &[(0, 9)])),
+    Step::See(0, Look::Knows),
     Step::React(0, (0, 7), &[(0, 10)], Leaves::Sent(1)),
+    Step::See(0, Look::Knows),
     Step::Arrives(1),
     Step::Has(0, Fact::Made(12)),
     Step::React(0, (0, 8), &[(0, 9)], Leaves::Observed((0, 5))),

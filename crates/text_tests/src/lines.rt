@@ -153,6 +153,8 @@ fn words_that_are_no_line(rt: HostRuntime) {
 const NO_OPTIONS: &[&[&str]] = &[
     &["alone", "--budget", "5", "--budget=5"],
     &["alone", "--log", "--log"],
+    &["alone", "--workers", "2", "--workers", "2"],
+    &["gen", "5", "--by", "run", "--by=run"],
     &["alone", "--log="],
     &["alone", "--budget", "4000001"],
     &["alone", "--budget", "00000001"],

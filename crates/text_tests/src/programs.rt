@@ -104,6 +104,10 @@ const TWICE: &[(&[u8], End)] = &[
         b"observe out/0; site s [ out() => 0 : 0 ]",
         End::Fault(Kind::Scope3, 24),
     ),
+    (
+        b"observe x/0; observe x/0; site s [ none : 0 ]",
+        End::Fault(Kind::Scope3, 21),
+    ),
 ];
 
 #[test]
@@ -125,6 +129,19 @@ const WRONG: &[(&[u8], End)] = &[
     (
         b"site s [ x(u) => 0 : fail(s, x) ]",
         End::Fault(Kind::Arity1, 29),
+    ),
+    (
+        b"site s [ x(u) => 0 : go(s, x) ]",
+        End::Fault(Kind::Arity1, 27),
+    ),
+    (
+        b"observe out/1; site s [ none : out() ]",
+        End::Fault(Kind::Arity1, 31),
+    ),
+    (b"site s [ none : go(s, s) ]", End::Fault(Kind::Arity3, 22)),
+    (
+        b"site s [ none : fail(s, s) ]",
+        End::Fault(Kind::Arity3, 24),
     ),
 ];
 

@@ -178,6 +178,13 @@ fn runs_end_where_they_must(rt: HostRuntime) {
     expect_tokens(&rt, rt.alloc(), b"0and inX_9 007 0255", RUNS);
 }
 
+const BETWEEN_BLANKS: &[Row] = &[(1, 2, Want::Number(0)), (5, 6, Want::Number(1))];
+
+#[test]
+fn every_blank(rt: HostRuntime) {
+    expect_tokens(&rt, rt.alloc(), b"\t0\r\n 1 ", BETWEEN_BLANKS);
+}
+
 const BEFORE_A_COMMENT: &[Row] = &[(0, 1, Want::Number(1))];
 
 const BEHIND_A_COMMENT: &[Row] = &[(5, 6, Want::Number(1))];

@@ -252,6 +252,62 @@ quiescent
     },
 ];
 
+// What one round makes in which order.
+const STEPS: &[Case] = &[
+    // What a site forwards goes before what it sends: the message of the third site comes to the
+    // location that has moved before that of the first.
+    Case {
+        words: &["rounds", "--budget", "10"],
+        text: &[(
+            1,
+            "observe out/1; site a [ y() => x(a) and m[ k() | never() => 0 and x(u) => out(u) \
+            : go(b, k) ] : 0 ] site b [ none : 0 ] site c [ start() => x(c) | y() : start() ]",
+        )],
+        out: "out(c)\nout(a)\nquiescent\n",
+        events: Some(5),
+        ..QUIET
+    },
+    // Of the reactions that open a location each site makes one a round.
+    Case {
+        words: &["rounds", "--budget", "10"],
+        text: &[(
+            1,
+            "observe out/1; site a [ x() => def m[ none : out(m) ] in 0 : x() | x() ] site b [ \
+            y() => def n[ none : out(n) ] in 0 : y() ]",
+        )],
+        out: "out(m'1)\nout(n'2)\nout(m'3)\nquiescent\n",
+        events: Some(3),
+        ..QUIET
+    },
+    // The second request of a location is met in the round in which the first one moved it.
+    Case {
+        words: &["rounds", "--budget", "10", "--log"],
+        text: &[(
+            1,
+            "site a [ m[ k() => 0 and l() => 0 : go(b, k) | go(c, l) ] : 0 ] site b [ none : 0 ] \
+            site c [ none : 0 ]",
+        )],
+        out: r"joinlog 1
+source 103
+site a [ m[ k() => 0 and l() => 0 : go(b, k) | go(c, l) ] : 0 ] site b [ none : 0 ] site c [ none : 0 ]
+budget 10
+events 4
+move 0.6
+move 0.7
+react 0.4 1.1
+react 0.5 2.1
+trace 10
+quiescent
+",
+        events: Some(4),
+        ..QUIET
+    },
+];
+
+pub(crate) fn steps() -> &'static [Case] {
+    STEPS
+}
+
 pub(crate) fn under_way() -> &'static [Case] {
     UNDER_WAY
 }
@@ -400,6 +456,53 @@ const FALLS: &[Case] = &[
             go(b, k) ] and d() => out() : fail(m, d) ]",
         )],
         out: "out()\nquiescent\n",
+        events: Some(4),
+        ..QUIET
+    },
+    // Its four events, by their numbers.
+    Case {
+        words: &["alone", "--budget", "10", "--log"],
+        text: &[(
+            1,
+            "version 2; observe out/0; site b [ none : halt() ] site a [ m[ k() => out() : \
+            go(b, k) ] and d() => out() : fail(m, d) ]",
+        )],
+        out: r"joinlog 1
+source 120
+version 2; observe out/0; site b [ none : halt() ] site a [ m[ k() => out() : go(b, k) ] and d() => out() : fail(m, d) ]
+budget 10
+events 4
+halt 0.1
+move 1.6
+detect 1.7
+react 1.4 1.8
+trace 16
+out()
+quiescent
+",
+        events: Some(4),
+        ..QUIET
+    },
+    Case {
+        words: &["rounds", "--budget", "10", "--log"],
+        text: &[(
+            1,
+            "version 2; observe out/0; site b [ none : halt() ] site a [ m[ k() => out() : \
+            go(b, k) ] and d() => out() : fail(m, d) ]",
+        )],
+        out: r"joinlog 1
+source 120
+version 2; observe out/0; site b [ none : halt() ] site a [ m[ k() => out() : go(b, k) ] and d() => out() : fail(m, d) ]
+budget 10
+events 4
+halt 0.1
+move 1.6
+detect 1.7
+react 1.4 1.8
+trace 16
+out()
+quiescent
+",
         events: Some(4),
         ..QUIET
     },

@@ -224,6 +224,38 @@ const SCOPES_AND_MOVES: &[Case] = &[
     },
 ];
 
+// Without a comment, and with a budget that just suffices.
+const GROUPS_AND_RINGS: &[Case] = &[
+    Case {
+        text: &[(1, "site s [ none : (0 | 0) ]")],
+        ..QUIET
+    },
+    // The agent of a ring shows the sites that it comes to, the one where it began last.
+    Case {
+        words: &["alone", "--budget", "30"],
+        text: &[
+            (
+                1,
+                "observe out/1;\nsite s0 [ w0() => 0 and m[ k0() => out(s0) and k1() => out(s1) | \
+                go(s2, k2) and k2() => out(s2) | go(s0, k0) : go(s1, k1) ] : ",
+            ),
+            (7, "w0() | "),
+            (1, "w0() ]\nsite s1 [ w1() => 0 : "),
+            (7, "w1() | "),
+            (1, "w1() ]\nsite s2 [ w2() => 0 : "),
+            (7, "w2() | "),
+            (1, "w2() ]\n"),
+        ],
+        out: "out(s1)\nout(s2)\nout(s0)\nquiescent\n",
+        events: Some(30),
+        ..QUIET
+    },
+];
+
+pub(crate) fn groups_and_rings() -> &'static [Case] {
+    GROUPS_AND_RINGS
+}
+
 pub(crate) fn scopes_and_moves() -> &'static [Case] {
     SCOPES_AND_MOVES
 }
