@@ -53,6 +53,7 @@ fn made(ended: &Ended) -> (&'static str, u64, u64) {
             match &kept.how {
                 How::Alone => ("alone", 0, all),
                 How::Rounds => ("rounds", 0, all),
+                How::Lossy { .. } => ("lossy", 0, all),
                 How::Shared { events, .. } => ("shared", *events, all),
                 How::Lone(_) => ("lone", 0, all),
             }

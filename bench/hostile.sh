@@ -119,6 +119,11 @@ runs '1,000 messages of a channel with 20,000 rules' 0 10000 < <(
 runs 'an endless reaction by the last of 10,000 rules' 5 10000 < <(
     printf 'site s [ %s and x() => x() : x() ]\n' "$(numbered 9999 'y#() => 0' ' and ')"
 )
+# rules of many parts, beside messages that none of them takes
+runs '1,000 rules of 16 parts beside 40,000 messages' 0 10000 < <(
+    printf 'site s [ %s and v() | w() => 0 : %s0 ]\n' \
+        "$(numbered 1000 "$(numbered 16 'x#()' '|') => 0" ' and ')" "$(times 40000 'v()|')"
+)
 runs '1,000 agents that are alive at once' 0 100000 < <(
     printf 'site a [ gone() => 0 and x() => def m[ there() => halt() : go(b, there) ] in fail(m, gone) : %s0 ]\n' \
         "$(times 1000 'x()|')"

@@ -59,6 +59,7 @@ fn program(alloc: Global) -> Result<Program, Memory> {
     let mut spell = Items::new(alloc);
     spell.push(Items::from_slice(alloc, b"s")?)?;
     Ok(Program {
+        version: 1,
         seen,
         sites,
         tops: 1,

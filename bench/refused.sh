@@ -5,14 +5,16 @@
 # were; a refusal outside the move, where the sites are made or looked at, shows nothing of it. It prints how many runs
 # ended which way, and each that ended otherwise, which is a fault: then the status is 1.
 set -eu
+. "$(dirname "$0")/scratch.sh"
 . "$(dirname "$0")/refusing.sh"
 
-# builds the tests where they are missing or old
-cd "$root/crates/site_tests"
-rt test >"$work/log" 2>&1 || {
-    cat "$work/log"
+# proves and builds the tests, or takes what rt has kept of them
+copied site_tests
+rt ci >log 2>&1 || {
+    cat log
     exit 1
 }
+cd crates/site_tests
 
 others=0
 # the runs of the test, each with one allocation refused, or with that and all later ones

@@ -1,9 +1,11 @@
-# Read by the scripts beside it: makes a folder of its own, which is removed at the end, with a library that refuses a
-# program's allocations, on whichever of its threads.
+# Read by the scripts beside it: makes a folder of its own where there is none, which is removed at the end, with a library
+# that refuses a program's allocations, on whichever of its threads.
 
 root=$(cd "$(dirname "${BASH_SOURCE[0]}")/.." && pwd)
-work=$(mktemp -d)
-trap 'rm -rf "$work"' EXIT
+if [ -z "${work:-}" ]; then
+    work=$(mktemp -d)
+    trap 'rm -rf "$work"' EXIT
+fi
 
 # Stands before the allocator of the system, and notes how often it was asked and how often it refused.
 cat >"$work/refusing.c" <<'C'

@@ -4,13 +4,12 @@
 # wait, with locations and with rules, and how long runs take that make names.
 # A measure and no test.
 set -eu
-root=$(cd "$(dirname "$0")/.." && pwd)
-program=$root/crates/join_main/out/join_main
+. "$(dirname "$0")/program.sh"
 
 # seconds BUDGET: runs the text on standard input, and prints the seconds of processor time that it takes
 seconds() {
     local status=0 taken TIMEFORMAT='%U %S'
-    taken=$( { time "$program" alone --budget "$1" >/dev/null; } 2>&1) || status=$?
+    taken=$( { time "$JOIN_PROGRAM" alone --budget "$1" >/dev/null; } 2>&1) || status=$?
     if [ "$status" != 5 ]; then
         echo "a run ended with status $status" >&2
         exit 1
@@ -27,7 +26,7 @@ events() {
 passed() {
     local status=0 budget=$1 taken TIMEFORMAT='%R'
     shift
-    taken=$( { time "$program" "$@" --budget "$budget" >/dev/null; } 2>&1) || status=$?
+    taken=$( { time "$JOIN_PROGRAM" "$@" --budget "$budget" >/dev/null; } 2>&1) || status=$?
     if [ "$status" != 5 ]; then
         echo "a run ended with status $status" >&2
         exit 1
@@ -81,9 +80,6 @@ rules() {
     printf 'c(x) => c(x) : c(s) ]\n'
 }
 
-# builds the program where it is missing or old
-"$root/join" alone --budget 0 <"$root/examples/first.join" >/dev/null || true
-
 beside 'an endless reaction' 1000000 <<<'site s [ c(x) => c(x) : c(s) ]'
 beside 'a ping-pong of two sites' 1000000 <<'TEXT'
 site a [ ping(x) => pong(x) : ping(a) ]
@@ -116,7 +112,7 @@ done
 # event is committed
 if command -v valgrind >/dev/null; then
     counted=$(mktemp)
-    valgrind --tool=callgrind --callgrind-out-file="$counted" "$program" run --workers 1 --budget 20000 \
+    valgrind --tool=callgrind --callgrind-out-file="$counted" "$JOIN_PROGRAM" run --workers 1 --budget 20000 \
         <<<'site s [ c(x) => c(x) : c(s) ]' >/dev/null 2>&1 || true
     callgrind_annotate --inclusive=yes --threshold=100 "$counted" | tr -d ',' | awk '
         /PROGRAM TOTALS/ { all = $1 }
