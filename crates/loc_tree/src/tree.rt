@@ -15,7 +15,8 @@ ghost use Rattle.chem_model.specs.Apply.{can_go, can_fall as falls_in, with_host
 ghost use Rattle.loc_tree.specs.Tree.{spot, number_in, has_mark, is_root, is_alive, can_move};
 ghost use Rattle.loc_tree.specs.Tree.{is_pair_of, change_spot, marked, renumbered, unmarked};
 ghost use Rattle.loc_tree.specs.Tree.{IsFresh, unmarked_roots, with_room, with_birth};
-ghost use Rattle.loc_tree.specs.Tree.{with_number, with_mark, can_fall, can_leave};
+ghost use Rattle.loc_tree.specs.Tree.{with_number, with_mark, can_fall, can_leave, same_pair};
+ghost use Rattle.loc_tree.specs.Tree.{is_spot_of, holds_all, hosts_all};
 ghost use Rattle.loc_tree.specs.Places.{IsTree, IsTreeOf};
 ghost use Rattle.loc_tree.specs.Laws.{born_under};
 ghost use Rattle.loc_tree.specs.inside.Stored.{is_below};
@@ -114,19 +115,46 @@ fn note(newest: &mut [u64], loc: Loc)
     }
 }
 
-// The spot of a location, if the map has it. The roots came first, in the order of sites, so a root
-// is looked for at its place, and only what isn't found there by its key.
+// The spot of a location by its pair, if the map has it, and where to look for the next one. The
+// roots came first, in the order of sites, so a root is looked for at its place, and any other
+// location at the guess; only what isn't found there is looked for by its key. The next location is
+// guessed to be the one that was born after this one.
+fn look(spots: &IndexMap<(u32, u64), Spot>, pair: (u32, u64), guess: usize) -> (Option<Spot>, usize)
+    ensures { result.0 ≡ lookup (same_pair pair) spots.now.entries }
+{
+    let rooted = pair.1 == 0;
+    let place = if rooted { pair.0 as usize } else { guess };
+    if let Some((key, spot)) = spots.get_index(place) {
+        if key.0 == pair.0 && key.1 == pair.1 {
+            let next = if rooted {
+                guess
+            } else {
+                place.saturating_add(1)
+            };
+            return (Some(*spot), next);
+        }
+    }
+    match spots.get_full(&pair) {
+        Some((place, _, spot)) => (Some(*spot), place.saturating_add(1)),
+        None => (None, guess),
+    }
+}
+
+// The spot of a location, if the map has it. Nothing is known of its place.
 fn find(spots: &IndexMap<(u32, u64), Spot>, loc: &Loc) -> Option<Spot>
     ensures { result ≡ lookup (is_pair_of loc.now) spots.now.entries }
 {
-    if loc.k == 0 {
-        if let Some((key, spot)) = spots.get_index(loc.site as usize) {
-            if key.0 == loc.site && key.1 == 0 {
-                return Some(*spot);
-            }
-        }
+    look(spots, (loc.site, loc.k), 0).0
+}
+
+// Whether there is a spot, and it has this number.
+fn is_spot_of(number: u32, spot: Option<Spot>) -> bool
+    ensures { result ≡ is_spot_of number spot }
+{
+    match spot {
+        Some(spot) => spot.number == number,
+        None => false,
     }
-    spots.get(&(loc.site, loc.k)).copied()
 }
 
 impl LocTree {
@@ -218,6 +246,39 @@ impl LocTree {
             → result ≡ is_there (standing placed loc.now) }
     {
         find(&self.spots, loc).is_some()
+    }
+
+    /// Whether each of these is the pair of a location in the tree. Locations that were born one
+    /// after another are found without a search. It takes no memory.
+    pub fn holds_all(&self, pairs: &[(u32, u64)]) -> bool
+        ensures { result ≡ holds_all self.now pairs.now }
+    {
+        let mut guess = self.roots as usize;
+        for pair in pairs {
+            let (spot, next) = look(&self.spots, *pair, guess);
+            if spot.is_none() {
+                return false;
+            }
+            guess = next;
+        }
+        true
+    }
+
+    /// Whether each of these is the pair of a location in the tree, hosted by the site with this
+    /// number. Locations that were born one after another are found without a search. It takes no
+    /// memory.
+    pub fn hosts_all(&self, number: u32, pairs: &[(u32, u64)]) -> bool
+        ensures { result ≡ hosts_all self.now number pairs.now }
+    {
+        let mut guess = self.roots as usize;
+        for pair in pairs {
+            let (spot, next) = look(&self.spots, *pair, guess);
+            if !is_spot_of(number, spot) {
+                return false;
+            }
+            guess = next;
+        }
+        true
     }
 
     /// Whether neither the location nor its root is marked.
