@@ -1,14 +1,20 @@
 -- Locations as pairs of a set.
-use Rattle.std.proofs.Common.{◌≡◌, ℕ, suc, List, [], ◌∷◌, ◌++◌, length, Bool, true, false, cond}
-use Rattle.std.proofs.Common.{Result, Ok, Err, refl, ap, ◌∙◌, if◌then◌else◌, arith}
-use Rattle.std.specs.Prelude.{IsOk, IfOk, ◌||◌, not, filter, nat_eq}
+use Rattle.std.proofs.Common.{◌≡◌, ℕ, zero, suc, List, [], ◌∷◌, ◌++◌, length, Bool, true, false}
+use Rattle.std.proofs.Common.{Option, None, Some, Result, Ok, Err, cond, refl, ap, ◌∙◌, arith}
+use Rattle.std.proofs.Common.{if◌then◌else◌}
+use Rattle.std.specs.Prelude.{IsOk, IfOk, ◌&&◌, ◌||◌, not, filter, nat_eq, slice_get}
+use Rattle.std.proofs.lemmas.Bool.{or_left, or_right}
 use Rattle.std.proofs.lemmas.Bool.Decides.{nat_tests}
-use Rattle.std.specs.List.{list_any}
+use Rattle.std.specs.List.{list_all, list_any}
+use Rattle.loc_tree.specs.declared.tree.Spot.{Spot}
+use Rattle.loc_tree.specs.Tree.{Tree, spot, number_in, loc_of, is_spot_of, holds_all, hosts_all}
 use Rattle.loc_tree.proofs.Spots.{same_loc_sym}
 use Rattle.chem_model.specs.declared.name.Loc.{Loc}
 use Rattle.chem_model.specs.Solution.{same_loc}
 use Rattle.net_laws.specs.Net.{among}
 use Rattle.net_laws.specs.Parcels.{locs_but}
+use Rattle.site_shelves.specs.Named.{in_tree}
+use Rattle.site_shelves.specs.InTree.{is_number, has_number}
 use Rattle.site_limits.specs.Hosted.{locs_of}
 use Rattle.site_limits.proofs.SamePair.{same_pair_as}
 
@@ -22,6 +28,18 @@ pairs-among [] l = refl
 pairs-among (p ∷ ps) l =
     ap (λ (b : Bool). b || list_any (same_pair_as (l.site, l.k)) ps) (same-there p l)
     ∙ ap (λ (b : Bool). same_loc (record { site = p.0; k = p.1 }) l || b) (pairs-among ps l)
+
+-- what stands at a place is among them
+pub place-among : (ps : List (ℕ × ℕ)) (l : Loc) (i : ℕ) (p : ℕ × ℕ) → slice_get ps i ≡ Some p
+    → same_pair_as (l.site, l.k) p ≡ true → list_any (same_pair_as (l.site, l.k)) ps ≡ true
+place-among [] l i p at same = absurd (cc)
+place-among (q ∷ ps) l zero p at same =
+    let is : q ≡ p = cc in
+    or_left (same_pair_as (l.site, l.k) q) (list_any (same_pair_as (l.site, l.k)) ps)
+    (ap (same_pair_as (l.site, l.k)) is ∙ same)
+place-among (q ∷ ps) l (suc i) p at same =
+    or_right (same_pair_as (l.site, l.k) q) (list_any (same_pair_as (l.site, l.k)) ps)
+    (place-among ps l i p at same)
 
 pub locs-more : (ps : List (ℕ × ℕ)) (p : ℕ × ℕ)
     → locs_of (ps ++ p ∷ []) ≡ locs_of ps ++ record { site = p.0; k = p.1 } ∷ []
@@ -67,3 +85,23 @@ locs-kept l (p ∷ ps) =
         (record { site = p.0; k = p.1 } ∷ locs_but l (locs_of ps))
     by_test true rest = rest
     by_test false rest = ap (λ xs. record { site = p.0; k = p.1 } ∷ xs) rest
+
+-- ---- in a tree
+
+-- the locations of these pairs are in the tree
+pub held-there : (t : Tree) (ps : List (ℕ × ℕ))
+    → holds_all t ps ≡ list_all (in_tree t) (locs_of ps)
+held-there t [] = refl
+held-there t (p ∷ ps) = ap (λ (b : Bool). in_tree t (loc_of p) && b) (held-there t ps)
+
+number-there : (i : ℕ) (o : Option Spot) → is_spot_of i o ≡ is_number (number_in o) i
+number-there i None = refl
+number-there i (Some s) = refl
+
+-- and the same with this number
+pub hosted-there : (t : Tree) (i : ℕ) (ps : List (ℕ × ℕ))
+    → hosts_all t i ps ≡ list_all (has_number t i) (locs_of ps)
+hosted-there t i [] = refl
+hosted-there t i (p ∷ ps) =
+    ap (λ (b : Bool). b && hosts_all t i ps) (number-there i (spot t (loc_of p)))
+    ∙ ap (λ (b : Bool). has_number t i (loc_of p) && b) (hosted-there t i ps)

@@ -1,9 +1,10 @@
 // What a site knows of all that it holds and names: limits, which are noted before anything comes
 // and stay when it goes. So they may be wider than need be, and are never too narrow.
 ghost use Rattle.std.specs.Prelude.{◌≡◌, ◌≢◌, ◌<◌, ◌≤◌, ◌&&◌, ℕ, true, max, length, drop, []};
-ghost use Rattle.std.specs.Prelude.{slice_index};
+ghost use Rattle.std.specs.Prelude.{slice_index, false};
 ghost use Rattle.std.specs.List.{list_all};
 ghost use Rattle.chem_model.specs.declared.name.Loc.{Loc};
+ghost use Rattle.net_laws.specs.Net.{among};
 ghost use Rattle.wire_packet.specs.declared.packet.Waiting.{Waiting};
 ghost use Rattle.site_shelves.specs.Named.{name_in, names_in};
 ghost use Rattle.site_shelves.specs.Draws.{are_drawn, told_drawn};
@@ -66,47 +67,61 @@ fn note_root(known: &mut Known, loc: Loc)
     }
 }
 
-fn note_place(known: &mut Known, loc: Loc)
+fn add_place(known: &mut Known, loc: Loc)
+    requires { among known.old.named.locs loc ≡ false }
     ensures { Noted known.old known.new (λ b. b.known loc ≡ true) }
 {
-    if known.named.has(&loc) {
-        return;
-    }
     match known.named.add(loc) {
         Ok(()) => {}
         Err(Memory) => known.lost = true,
     }
 }
 
-fn note_loc(known: &mut Known, loc: Loc)
+// The place of a location that is no root, near which the next one is looked for first: what is
+// named together was noted together, and stands one behind the other.
+fn note_place(known: &mut Known, loc: Loc, near: usize) -> usize
+    ensures { Noted known.old known.new (λ b. b.known loc ≡ true) }
+{
+    match known.named.find(&loc, near) {
+        Some(place) => place,
+        None => {
+            add_place(known, loc);
+            near
+        }
+    }
+}
+
+fn note_loc(known: &mut Known, loc: Loc, near: usize) -> usize
     ensures { Noted known.old known.new (λ b. b.known loc ≡ true) }
 {
     if loc.k == 0 {
         note_root(known, loc);
+        near
     } else {
-        note_place(known, loc);
+        note_place(known, loc, near)
     }
 }
 
-fn note_name(known: &mut Known, name: Name)
+fn note_name(known: &mut Known, name: Name, near: usize) -> usize
     ensures { Noted known.old known.new (λ b. name_in b.known name ≡ true) }
 {
     match name {
-        Name::Seen(_) | Name::Num(_) | Name::Op(_) => {}
-        Name::Place(loc) => note_loc(known, loc),
+        Name::Seen(_) | Name::Num(_) | Name::Op(_) => near,
+        Name::Place(loc) => note_loc(known, loc, near),
         Name::Chan {
             site: _,
             k: _,
             home,
-        } => note_loc(known, home),
+        } => note_loc(known, home, near),
     }
 }
 
 fn note_names(known: &mut Known, names: &[Name])
     ensures { Noted known.old known.new (λ b. names_in b.known names.now ≡ true) }
 {
+    let mut near = 0;
     for name in names {
-        note_name(known, *name);
+        near = note_name(known, *name, near);
     }
 }
 
@@ -154,7 +169,7 @@ pub fn note_msg(known: &mut Known, msg: &Msg)
     ensures { Noted known.old known.new (λ b. message_within b msg.now ≡ true) }
 {
     note_atom(known, msg.id);
-    note_name(known, msg.on);
+    note_name(known, msg.on, 0);
     note_names(known, msg.args.as_slice());
 }
 
@@ -172,8 +187,8 @@ fn note_asking(known: &mut Known, id: AtomId, target: Name, cont: Name)
         (λ b. is_before b id && (name_in b.known target && name_in b.known cont) ≡ true) }
 {
     note_atom(known, id);
-    note_name(known, target);
-    note_name(known, cont);
+    note_name(known, target, 0);
+    note_name(known, cont, 0);
 }
 
 pub fn note_request(known: &mut Known, request: &Request)

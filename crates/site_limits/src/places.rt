@@ -1,6 +1,6 @@
 // The locations that a site hosts.
 ghost use Rattle.std.specs.Prelude.{◌≡◌, ◌<◌, ◌≤◌, ◌+◌, ◌^◌, ◌∷◌, ◌++◌, [], false, length};
-ghost use Rattle.std.specs.Prelude.{OnOk, OnErr};
+ghost use Rattle.std.specs.Prelude.{OnOk, OnErr, IsTrue, true, is_some};
 ghost use Rattle.net_laws.specs.Net.{among};
 ghost use Rattle.net_laws.specs.Parcels.{locs_but};
 ghost use Rattle.site_limits.specs.Hosted.{locs_of};
@@ -50,6 +50,31 @@ impl Places {
         ensures { result ≡ among self.now.locs loc.now }
     {
         self.pairs.contains(&(loc.site, loc.k))
+    }
+
+    // Whether the location stands at this place.
+    fn is_at(&self, loc: &Loc, place: usize) -> bool
+        ensures { IsTrue result → among self.now.locs loc.now ≡ true }
+    {
+        match self.pairs.get_index(place) {
+            Some(pair) => loc.site == pair.0 && loc.k == pair.1,
+            None => false,
+        }
+    }
+
+    // The place of a location, if it is among them. It is looked for near a place first, there and
+    // behind it, and only what isn't found so is looked for by its hash.
+    pub(crate) fn find(&self, loc: &Loc, near: usize) -> Option<usize>
+        ensures { is_some result ≡ among self.now.locs loc.now }
+    {
+        let behind = near.saturating_add(1);
+        if self.is_at(loc, behind) {
+            return Some(behind);
+        }
+        if self.is_at(loc, near) {
+            return Some(near);
+        }
+        self.pairs.get_index_of(&(loc.site, loc.k))
     }
 
     /// There are few of them. It does nothing.

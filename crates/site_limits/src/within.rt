@@ -1,37 +1,19 @@
 // What a site's tests say by what it knows alone. False says nothing: then a walk over all that the
 // site holds tells. None of them takes memory.
 ghost use Rattle.std.specs.Prelude.{◌≡◌, ◌<◌, ◌≤◌, ℕ, true, false, IsTrue, slice_index};
-ghost use Rattle.std.specs.List.{list_all};
 ghost use Rattle.chem_model.specs.declared.name.Loc.{Loc};
 ghost use Rattle.chem_model.specs.Opening.{root_of};
 ghost use Rattle.net_laws.specs.Site.{Told};
 ghost use Rattle.site_shelves.specs.Named.{in_tree};
 ghost use Rattle.site_shelves.specs.InCode.{is_told_by};
-ghost use Rattle.site_limits.specs.Hosted.{locs_of};
 ghost use Rattle.site_limits.specs.Knows.{is_known};
 ghost use Rattle.site_limits.specs.Shapes.{is_shaped};
 
 use crate::known::Known;
 use crate::shapes::are_in_levels;
-use chem_model::{AtomId, Loc};
+use chem_model::AtomId;
 use env_store::Code;
 use loc_tree::{LocTree, tree_is_kept};
-
-// Whether each of these locations is in the tree.
-fn places_are_there(tree: &LocTree, pairs: &[(u32, u64)]) -> bool
-    ensures { result ≡ list_all (in_tree tree.now) (locs_of pairs.now) }
-{
-    for pair in pairs {
-        let loc = Loc {
-            site: pair.0,
-            k: pair.1,
-        };
-        if !tree.holds(&loc) {
-            return false;
-        }
-    }
-    true
-}
 
 // Whether so many roots are in the tree, one a site.
 fn roots_are_there(tree: &LocTree, count: u32) -> bool
@@ -53,7 +35,7 @@ pub fn names_are_known(known: &Known, tree: &LocTree) -> bool
     if !roots_are_there(tree, known.roots) {
         return false;
     }
-    places_are_there(tree, known.named.as_slice())
+    tree.holds_all(known.named.as_slice())
 }
 
 /// Whether all that the site with this number made has numbers below the count.

@@ -398,6 +398,12 @@ impl Site {
             || self.requests.find(*atom).is_some()
     }
 
+    /// How many guards the index has as covered, and whether the site has limits within which all
+    /// stands that it holds. No contract tells these: all answers are the same without.
+    pub fn upkeep(&self) -> (usize, bool) {
+        (self.shelves.noted(), !self.known.lost)
+    }
+
     /// Whether a waiting message or a request has this id.
     pub fn has_atom(&self, atom: &AtomId) -> bool
         ensures { result ≡ has_atom atom.now self.now }
@@ -412,16 +418,7 @@ impl Site {
     fn locs_are_there(&self, tree: &LocTree) -> bool
         ensures { result ≡ list_all (has_number tree.now self.now.number) self.now.locs }
     {
-        for pair in self.locs.as_slice() {
-            let loc = Loc {
-                site: pair.0,
-                k: pair.1,
-            };
-            if !(tree.holds(&loc) && tree.root(&loc) == self.number) {
-                return false;
-            }
-        }
-        true
+        tree.hosts_all(self.number, self.locs.as_slice())
     }
 
     // Whether it is known that all that is named here is in the tree.

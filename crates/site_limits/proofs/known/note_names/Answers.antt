@@ -12,9 +12,9 @@ loop-name-init c =
 pub loop-name-preserved : goal.loop-name-preserved
 loop-name-preserved c =
     left-next (λ (d : Limits) (n : Name). name_in d.known n) c.args.names.now 0
-    c.loop-name.name-index _ c.args.known.now c.loop-name.known c.note_name.new.known
+    c.loop-name.name-index _ c.args.known.now c.loop-name.known c.note_name-near.new.known
     (name-stays _) (member-at c.args.names.now c.loop-name.name-index _ c.loop-name-test.true)
-    c.loop-name.invariant c.note_name.ensures
+    c.loop-name.invariant c.note_name-near.ensures
 
 pub returns : goal.returns
 returns c =

@@ -1,6 +1,7 @@
 use Rattle.std.proofs.Common.{refl, sym, ap, ◌∙◌}
 use Rattle.std.specs.List.{list_all}
 use Rattle.site_shelves.specs.Named.{in_tree}
+use Rattle.site_limits.proofs.Hosting.{held-there}
 use Rattle.site_limits.proofs.Tested.{all-known}
 use Rattle.site_limits.proofs.within.names_are_known.Goals as goal
 
@@ -8,4 +9,4 @@ pub returns-clause-all : goal.returns-clause-all
 returns-clause-all c = λ e l h.
     all-known c.args.known.now (in_tree c.args.tree.now) (c.if-not-roots_are_there.ensures refl)
     (sym (ap (list_all (in_tree c.args.tree.now)) c.as_slice.ensures)
-    ∙ sym c.places_are_there.ensures ∙ e) l h
+    ∙ sym (held-there c.args.tree.now c.as_slice.result.now) ∙ sym c.holds_all.ensures ∙ e) l h
