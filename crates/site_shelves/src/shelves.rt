@@ -69,6 +69,11 @@ impl Shelves {
         }
     }
 
+    /// How many guards the index has as covered, which no contract tells: at most as many as are.
+    pub fn noted(&self) -> usize {
+        self.covering.keys.len()
+    }
+
     /// The groups.
     pub fn rows(&self) -> &Groups<Told, Msg>
         ensures groups { groups_of result.now.groups ≡ self.now.groups }

@@ -21,6 +21,7 @@ pub record IsNewGroup (r : NewGroup) : Type 0 where
   pub home : r.idle.told.inst.loc ≡ r.home
   pub wide : r.idle.width ≡ r.width
   pub counts : length r.idle.told.counts ≡ r.width
+  pub level : r.idle.told.inst.level ≡ r.level
 
 -- the groups without these fronts of one of them
 abbrev pub gone_in : Option Group → ℕ → List ℕ → List Group → List Group
