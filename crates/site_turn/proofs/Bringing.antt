@@ -8,7 +8,7 @@ use Rattle.wire_packet.specs.declared.parcel.Packet.TheVariants as packet
 use Rattle.wire_packet.specs.Codec.{IsSpelledBy}
 use Rattle.loc_tree.specs.Tree.{Tree}
 use Rattle.net_laws.specs.Site.{Site}
-use Rattle.net_laws.specs.Net.{Addressed, among, address}
+use Rattle.net_laws.specs.Net.{among, address}
 use Rattle.net_laws.specs.Holding.{put}
 use Rattle.router.specs.declared.routing.Delivery.TheVariants.{Delivered, Forward}
 use Rattle.router.specs.Delivering.{can_deliver, home_at, IsDelivery}

@@ -25,7 +25,6 @@ use Rattle.migration.specs.Within.{leads_into, IsMoveWithin}
 use Rattle.migration.specs.Across.{can_join, IsMoveBetween}
 use Rattle.site_turn.specs.declared.next.Chosen.{Chosen}
 use Rattle.site_turn.specs.declared.next.Chosen.TheVariants as chosen
-use Rattle.site_turn.specs.declared.turn.Made.{Made}
 use Rattle.site_turn.specs.declared.turn.Turn.{Turn}
 use Rattle.site_turn.specs.declared.turn.Turn.TheVariants.{Did, Passed, Nothing, NotEnabled, Full}
 use Rattle.site_turn.specs.Next.{CanAct}

@@ -4,4 +4,6 @@ pub mod Reacting
 pub mod Bringing
 pub mod Arriving
 pub mod After
+pub mod Desk
+pub mod Steps
 pub mod inside

@@ -127,7 +127,7 @@ pub fn arrive(
     ensures spelled { IfOk result (Each IsMessageFlight) }
     ensures err { OnErr result (HasBegun tree.now site.old mail.now site.new) }
 {
-    if !site.in_tree(tree) {
+    if mail.is_empty() || !site.in_tree(tree) {
         return Ok(Items::new(alloc));
     }
     work_off(alloc, site, tree, mail.as_slice())

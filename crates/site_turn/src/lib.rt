@@ -4,14 +4,19 @@
 
 mod arriving;
 mod asks;
+mod desk;
 mod doing;
 mod next;
 mod picks;
+mod proposing;
+mod stepping;
 mod turn;
 
 pub use arriving::{arrive, bring, read_text};
-pub use asks::{Proposed, after_crossing, fits_across, fits_here, leads_to};
-pub use doing::{after_chosen, ready_event};
+pub use asks::leads_to;
+pub use desk::{Desk, Post, Tools};
 pub use next::{Chosen, choose, least_met};
-pub use picks::{add_births, after_pick, event_of_pick, opens_none, react_by};
+pub use picks::{add_births, react_by};
+pub use proposing::{propose_chosen, propose_move, propose_pick};
+pub use stepping::{Leading, Step, WideStep, act_here, act_wide, end_turn, passed_or};
 pub use turn::{Made, Turn, no_effects};
