@@ -22,10 +22,7 @@ use Rattle.loc_tree.specs.Tree.{Tree, spot, is_pair_of, unmarked, unmarked_roots
 use Rattle.loc_tree.specs.Tree.{with_room, bare}
 use Rattle.net_laws.specs.Site.{Site}
 use Rattle.net_laws.specs.Net.{Addressed, Net, with_births}
-use Rattle.net_laws.specs.Holding.{host_all, lay_all}
-use Rattle.net_laws.specs.Posting.{Posted, a_message, a_request, posted_of, Outcome, post, post_all}
-use Rattle.net_laws.specs.Parcels.{all_told}
-use Rattle.net_laws.specs.ByCode.{told_by, run_here}
+use Rattle.net_laws.specs.Posting.{Outcome}
 use Rattle.net_laws.specs.Opening.{empty_site}
 use Rattle.net_laws.specs.Opened.{not_in, opened_by, with_opened, all_opened, opened_net, with_tops}
 use Rattle.net_laws.specs.Opened.{unopened, AreNew, BearNew}

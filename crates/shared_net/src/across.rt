@@ -12,11 +12,11 @@ ghost use Rattle.shared_net.specs.Making.{MakesAcross};
 use crate::locked::Locked;
 use crate::pass::Pass;
 use crate::run::Run;
-use chem_model::{AtomId, Event, Memory, Program};
+use chem_model::{AtomId, Memory, Program};
 use env_store::Code;
 use loc_tree::LocTree;
 use site_solution::Site;
-use site_turn::{Made, Proposed, after_crossing, fits_across};
+use site_turn::{Made, propose_move};
 use std::alloc::Global;
 
 /// Makes the move of the request that the site chose, where it leads to a location of the second
@@ -52,10 +52,5 @@ pub fn make_across<L: Run>(
     ensures err_tree { OnErr result (tree.new ≡ tree.old) }
 {
     let _ = program;
-    let fits = fits_across(site, into, tree, code, atom);
-    let event = Event::Move { atom: *atom };
-    let turn = locked.offer(alloc, pass, &event, fits)?;
-    let asked = Proposed { atom: *atom, turn };
-    let effects = after_crossing(alloc, site, into, tree, code, asked)?;
-    Ok(Made { turn, effects })
+    propose_move(alloc, site, into, tree, code, atom, locked, pass)
 }

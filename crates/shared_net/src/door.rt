@@ -1,13 +1,14 @@
-// What the workers of a run ask of the book behind its lock.
+// The way of a turn to the book: the gate, then the book's lock.
 ghost use Rattle.std.specs.Prelude.{◌≡◌, ℕ, IfOk, OnErr, IsTrue};
 ghost use Rattle.site_turn.specs.declared.turn.Turn.TheVariants as turns;
 ghost use Rattle.shared_net.specs.Offers.{Turned};
 
+use crate::gate::{Gate, Phase};
 use crate::locked::Locked;
 use crate::pass::Pass;
 use crate::run::Run;
 use chem_model::{Event, Memory};
-use site_turn::Turn;
+use site_turn::{Desk, Turn};
 use std::alloc::Global;
 use std::hint::spin_loop;
 use std::sync::{Mutex, MutexGuard, Wait};
@@ -16,7 +17,7 @@ use std::thread::yield_now;
 // What stands behind the book's lock, as far as a turn knows it: the call that commits an event, by
 // what it does to the pass. Only the locked book is one. A turn is written over any, so that its
 // proof names no type with the run's parameter beside the pass.
-pub(crate) trait Desk<L: Run> {
+pub(crate) trait Decides<L: Run> {
     // Proposes an event that the site, whose lock is held, has ready, and that can be made exactly
     // where it fits.
     fn decide(
@@ -60,7 +61,7 @@ pub(crate) fn enter<'a, K, R: Wait>(rt: &R, door: &'a Mutex<K>) -> MutexGuard<'a
     door.lock(rt)
 }
 
-impl<L: Run> Desk<L> for Locked<L> {
+impl<L: Run> Decides<L> for Locked<L> {
     fn decide(
         &mut self,
         alloc: Global,
@@ -70,4 +71,40 @@ impl<L: Run> Desk<L> for Locked<L> {
     ) -> Result<Turn, Memory> {
         self.offer(alloc, pass, event, fits)
     }
+}
+
+// The door to the book, for the one event of a turn: a runtime that may wait, the book's lock, the
+// gate, the number of the turn, and whether the gate was passed before.
+#[derive(Drop)]
+pub(crate) struct Door<'a, K, G, R> {
+    pub(crate) rt: &'a R,
+    pub(crate) lock: &'a Mutex<K>,
+    pub(crate) gate: &'a G,
+    pub(crate) count: u64,
+    pub(crate) passed: bool,
+}
+
+// Behind the door is a desk. The book is locked for the proposal alone.
+impl<'a, L: Run, K: Decides<L>, G: Gate, R: Wait> Desk<Pass<L>> for Door<'a, K, G, R> {
+    ghost use Rattle.shared_net.specs.Offers.{Turned};
+
+    ghost decides = { λ _ held e fits turn _ after. Turned held turn after };
+
+    ghost keeps = { λ _ _. Unit {0} };
+
+    fn propose(
+        &mut self,
+        alloc: Global,
+        carried: &mut Pass<L>,
+        event: &Event,
+        fits: bool,
+    ) -> Result<Turn, Memory> {
+        if !self.passed {
+            self.gate.pass(carried.number(), self.count, Phase::Held);
+        }
+        let mut book = enter(self.rt, self.lock);
+        book.decide(alloc, carried, event, fits)
+    }
+
+    ghost stays = { λ _. tt };
 }

@@ -17,7 +17,7 @@ use env_store::Code;
 use loc_tree::LocTree;
 use reducer::{Pick, code_is_kept};
 use site_solution::{Site, site_is_kept};
-use site_turn::{Made, after_pick, event_of_pick};
+use site_turn::{Made, propose_pick};
 use std::alloc::Global;
 
 /// Makes the reaction of the pick that the site chose, which opens no location, where the book has
@@ -51,8 +51,5 @@ pub fn make_here<L: Run>(
 {
     site_is_kept(site);
     code_is_kept(code);
-    let event = event_of_pick(alloc, site, tree, code, pick)?;
-    let turn = locked.propose(alloc, pass, &event)?;
-    let effects = after_pick(alloc, site, tree, code, pick, turn)?;
-    Ok(Made { turn, effects })
+    propose_pick(alloc, site, tree, code, pick, locked, pass)
 }

@@ -12,7 +12,7 @@ use crate::pass::{Pass, Passes};
 use crate::receipt::Receipt;
 use crate::run::Run;
 use chem_model::{Event, Memory};
-use site_turn::Turn;
+use site_turn::{Desk, Turn};
 use std::alloc::Global;
 use std::sync::ledger;
 use std::sync::ledger::{Blank, Share};
@@ -193,4 +193,27 @@ impl<L: Run> Locked<L> {
         count.audit(&mut all);
         book
     }
+}
+
+// The locked book is a desk, at which each worker's pass gets its receipts.
+impl<L: Run> Desk<Pass<L>> for Locked<L> {
+    ghost use Rattle.std.specs.Prelude.{◌≡◌, IsTrue, refl};
+    ghost use Rattle.shared_net.specs.Offers.{Offers};
+
+    ghost decides = { λ old held e fits turn new after.
+        Offers (IsTrue fits) old.book held e turn new.book after };
+
+    ghost keeps = { λ old new. new.book ≡ old.book };
+
+    fn propose(
+        &mut self,
+        alloc: Global,
+        carried: &mut Pass<L>,
+        event: &Event,
+        fits: bool,
+    ) -> Result<Turn, Memory> {
+        self.offer(alloc, carried, event, fits)
+    }
+
+    ghost stays = { λ desk. refl };
 }

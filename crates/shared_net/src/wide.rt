@@ -16,7 +16,7 @@ use chem_model::{Memory, Program};
 use env_store::Code;
 use loc_tree::LocTree;
 use site_solution::Site;
-use site_turn::{Chosen, Made, after_chosen, fits_here, ready_event};
+use site_turn::{Chosen, Made, propose_chosen};
 use std::alloc::Global;
 
 /// Makes the event of what the site chose, where it is no move to a location that another site
@@ -48,9 +48,5 @@ pub fn make_wide<L: Run>(
     ensures err_tree { OnErr result (IsSameTree tree.old tree.new) }
 {
     let _ = program;
-    let event = ready_event(alloc, site, tree, code, chosen)?;
-    let fits = fits_here(site, &event);
-    let turn = locked.offer(alloc, pass, &event, fits)?;
-    let effects = after_chosen(alloc, site, tree, code, chosen, turn)?;
-    Ok(Made { turn, effects })
+    propose_chosen(alloc, site, tree, code, chosen, locked, pass)
 }

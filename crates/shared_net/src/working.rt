@@ -3,7 +3,7 @@ ghost use Rattle.std.specs.Prelude.{◌≡◌};
 ghost use Rattle.shared_net.specs.Turning.{owner, HaveSameOwners};
 
 use crate::crossing::{locked_crosses, parts_are_shared};
-use crate::door::Desk;
+use crate::door::Decides;
 use crate::gate::Gate;
 use crate::locked::Locked;
 use crate::net::{Parts, SharedNet};
@@ -21,11 +21,11 @@ const THREADS: usize = 16;
 
 impl Parts {
     // Turns of one worker at one site after another, from its own on: worker 1 begins at site 0.
-    fn work<L: Run, K: Desk<L>, G: Gate, R: Wait>(
+    fn work<L: Run, K: Decides<L>, G: Gate, R: Wait>(
         &self,
         rt: &R,
         alloc: Global,
-        door: &Mutex<K>,
+        book: &Mutex<K>,
         pass: &mut Pass<L>,
         gate: &G,
     )
@@ -37,10 +37,8 @@ impl Parts {
             let hands = Hands {
                 rt,
                 alloc,
-                door,
+                book,
                 gate,
-                program: &self.program,
-                code: &self.code,
                 at: site as usize,
                 count: pass.begin(),
             };
@@ -57,11 +55,11 @@ impl Parts {
 }
 
 // Lends one pass to each worker.
-fn lend<L: Run + Send + Sync, K: Desk<L> + Send, G: Gate, R: Threads + Wait + Sync>(
+fn lend<L: Run + Send + Sync, K: Decides<L> + Send, G: Gate, R: Threads + Wait + Sync>(
     rt: &R,
     alloc: Global,
     parts: &Parts,
-    door: &Mutex<K>,
+    book: &Mutex<K>,
     passes: &mut [Pass<L>],
     gate: &G,
 )
@@ -74,7 +72,7 @@ fn lend<L: Run + Send + Sync, K: Desk<L> + Send, G: Gate, R: Threads + Wait + Sy
         THREADS,
         &|_i: usize, pass: &mut Pass<L>|
             ensures { owner pass.exit.now ≡ owner pass.entry.now }
-        { parts.work(rt, alloc, door, pass, gate) },
+        { parts.work(rt, alloc, book, pass, gate) },
     );
 }
 
@@ -83,14 +81,14 @@ fn lend_locked<L: Run + Send + Sync, G: Gate, R: Threads + Wait + Sync>(
     rt: &R,
     alloc: Global,
     parts: &Parts,
-    door: &Mutex<Locked<L>>,
+    book: &Mutex<Locked<L>>,
     passes: &mut [Pass<L>],
     gate: &G,
 )
     ensures { HaveSameOwners passes.old passes.new }
 {
     locked_crosses::<L>();
-    lend(rt, alloc, parts, door, passes, gate);
+    lend(rt, alloc, parts, book, passes, gate);
 }
 
 impl<L: Run + Send + Sync> SharedNet<L> {

@@ -3,8 +3,8 @@ use Rattle.std.specs.Prelude.{◌≡◌}
 use Rattle.chem_model.specs.declared.event.Event.{Event}
 use Rattle.site_turn.specs.declared.turn.Turn.{Turn}
 use Rattle.site_turn.specs.declared.turn.Turn.TheVariants.{Did, Passed, Nothing, NotEnabled, Full}
-use Rattle.shared_net.specs.declared.turning.Step.{Step}
-use Rattle.shared_net.specs.declared.turning.Step.TheVariants.{Ended, Wide}
+use Rattle.site_turn.specs.declared.stepping.Step.{Step}
+use Rattle.site_turn.specs.declared.stepping.Step.TheVariants.{Ended, Wide}
 use Rattle.shared_net.specs.Passes.{PassKept}
 use Rattle.shared_net.specs.Proposes.{with_receipt}
 
