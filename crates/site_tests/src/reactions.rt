@@ -304,3 +304,43 @@ fn ready_twice() -> &'static [Step] {
 fn a_rule_of_two_channels_is_ready_twice(rt: HostRuntime) -> Result<(), Fail> {
     run(&rt, rt.alloc(), pattern(), ready_twice())
 }
+
+fn to_and_fro() -> &'static [u8] {
+    b"site s [ a() => b() and b() => a() and a() | b() => 0 : a() ]"
+}
+
+// Of the three guards one is covered at each moment, by turns the first and the second.
+const A_THOUSAND: &[Step] = &[
+    Step::ReactOften(0, 1000, 1),
+    Step::See(0, Look::Knows),
+    Step::Has(0, Fact::Upkeep(1)),
+];
+
+fn a_thousand() -> &'static [Step] {
+    A_THOUSAND
+}
+
+#[test]
+fn what_a_site_notes_is_kept_over_a_thousand_reactions(rt: HostRuntime) -> Result<(), Fail> {
+    run(&rt, rt.alloc(), to_and_fro(), a_thousand())
+}
+
+fn servers() -> &'static [u8] {
+    b"site s [ a(n) => def x() | y() => 0 in a(x) | x() : a(a) ]"
+}
+
+// Each reaction lays a group of one guard, which waits for a second message.
+const MANY_GROUPS: &[Step] = &[
+    Step::ReactOften(0, 200, 1),
+    Step::See(0, Look::Knows),
+    Step::Has(0, Fact::Upkeep(1)),
+];
+
+fn many_groups() -> &'static [Step] {
+    MANY_GROUPS
+}
+
+#[test]
+fn groups_that_wait_are_not_noted_as_covered(rt: HostRuntime) -> Result<(), Fail> {
+    run(&rt, rt.alloc(), servers(), many_groups())
+}

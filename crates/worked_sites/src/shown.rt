@@ -89,6 +89,8 @@ pub enum Fact {
     Front(Option<u64>),
     /// Whether the first group, of one channel, has a message there.
     Covered(bool),
+    /// So many guards are noted as covered, and the site has limits.
+    Upkeep(usize),
 }
 
 // The request at this place has this number, or there is none.
@@ -136,6 +138,7 @@ pub(crate) fn has(site: &Site, fact: Fact) -> bool {
         Fact::AsksToHalt(id, place) => asks_to_halt(site, atom(id), loc(place)),
         Fact::Front(want) => has_front(site, want),
         Fact::Covered(want) => is_covered(site, want),
+        Fact::Upkeep(noted) => site.upkeep() == (noted, true),
     }
 }
 

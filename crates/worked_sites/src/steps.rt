@@ -83,6 +83,9 @@ pub enum Step {
     /// What is ready at a site is the reaction of this rule with these atoms, and it is made.
     React(usize, Pair, &'static [Pair], Leaves),
     Make(usize, Deed, Leaves),
+    /// A site makes so many reactions, by which nothing leaves. Before each the index tells what is
+    /// ready, so many guards are noted as covered, and the site has limits.
+    ReactOften(usize, u32, usize),
     /// A location moves to the next site, by which nothing else leaves.
     Across(usize, Pair),
     Change(usize, Change),
@@ -220,6 +223,25 @@ fn site_reacts(
         return Ok(false);
     }
     site_makes(alloc, net, at, Deed::Reacts, want)
+}
+
+// The site makes so many reactions. Whether before each it keeps what it notes.
+fn site_reacts_often(
+    alloc: Global,
+    net: &mut Net,
+    at: usize,
+    times: u32,
+    noted: usize,
+) -> Result<bool, Fault> {
+    for _time in 0..times {
+        if !site_shows(alloc, net, at, Look::Knows)? || !site_has(net, at, Fact::Upkeep(noted)) {
+            return Ok(false);
+        }
+        if !site_makes(alloc, net, at, Deed::Reacts, Leaves::Nothing)? {
+            return Ok(false);
+        }
+    }
+    Ok(true)
 }
 
 /// What the move of a location from one site to the next leaves.
@@ -364,6 +386,7 @@ fn goes(alloc: Global, net: &mut Net, step: Step) -> Result<bool, Fault> {
             site_reacts(alloc, net, at, Look::Waits(rule, took), want)
         }
         Step::Make(at, deed, want) => site_makes(alloc, net, at, deed, want),
+        Step::ReactOften(at, times, noted) => site_reacts_often(alloc, net, at, times, noted),
         Step::Across(at, id) => moves_on(alloc, net, at, id),
         Step::Change(at, wanted) => site_changes(alloc, net, at, wanted),
         Step::Mail(id, on, arg) => Ok(post(alloc, &mut net.mail, id, on, arg)?),
