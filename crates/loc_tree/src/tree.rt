@@ -245,7 +245,7 @@ impl LocTree {
         ensures placed { (placed : List Placed) → IsTreeOf self.now placed
             → result ≡ is_there (standing placed loc.now) }
     {
-        find(&self.spots, loc).is_some()
+        self.is_root(loc) || find(&self.spots, loc).is_some()
     }
 
     /// Whether each of these is the pair of a location in the tree. Locations that were born one
