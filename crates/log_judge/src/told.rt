@@ -1,11 +1,13 @@
 // What is told of a log.
 ghost use Rattle.std.specs.Prelude.{◌≡◌, ◌<◌, ◌-◌, ◌^◌, length, IfOk, IfErr};
+ghost use Rattle.run_check.specs.declared.answer.Verdict.{Verdict as verdict};
+ghost use Rattle.run_check.specs.Verdict.{Judges};
 ghost use Rattle.text_program.specs.inside.Text.{NamesRefusal};
 ghost use Rattle.trace_text.specs.ReadLog.{parts};
 ghost use Rattle.log_judge.specs.Judged.{no_text, IsYes, IsTold, IsJudgedAs};
 
 use crate::ask::Ask;
-use chem_model::{Items, Memory, Text};
+use chem_model::{Items, Memory, Program, Text};
 use join_base::Front;
 use run_check::{Verdict, explain, explain_bytes, into_verdict};
 use std::alloc::Global;
@@ -31,8 +33,17 @@ pub fn told_of(alloc: Global, ask: Ask, log: Log) -> Result<Told, Front>
     ensures refusal { IfErr result (NamesRefusal log.source) }
 {
     let program = program_of(alloc, log.source.as_slice())?;
-    let verdict = into_verdict(alloc, &program, log)?;
-    Ok(tell(alloc, ask, &verdict)?)
+    Ok(tell_log(alloc, ask, &program, log)?)
+}
+
+// The same of a log whose source has this program.
+fn tell_log(alloc: Global, ask: Ask, program: &Program, log: Log) -> Result<Told, Memory>
+    requires { length log.events < 2 ^ 32 - 1 }
+    ensures { IfOk result (λ told. (v : verdict) × Judges program.now (parts log) v
+        × IsTold ask v told.text told.status) }
+{
+    let verdict = into_verdict(alloc, program, log)?;
+    tell(alloc, ask, &verdict)
 }
 
 // The text that tells a verdict, and the status that goes with it.
