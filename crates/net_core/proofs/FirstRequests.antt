@@ -30,14 +30,14 @@ use Rattle.net_core.specs.declared.choice.Choice.{Choice}
 use Rattle.net_core.specs.declared.choice.Choice.TheVariants as choice
 use Rattle.net_core.specs.Acting.{Asks, MayGo}
 use Rattle.net_core.specs.Enabled.{MayHalt, MayDetect}
-use Rattle.net_core.specs.Choosing.{Allows, request_of}
+use Rattle.net_core.specs.Choosing.{Allows, request_of, NoneMeetsAny}
 use Rattle.net_core.specs.Asking.{choice_by}
 use Rattle.site_turn.specs.Next.{may_meet, NoneMeets, IsLeastMet}
 use Rattle.site_turn.proofs.Choices.{can_go_now, can_detect_now, can_halt_now}
 use Rattle.net_core.specs.inside.Searched.{HasSites, meets, IsMet, choice_for}
 use Rattle.net_core.specs.inside.Searched.{NoneMeets as NoneMeetsAt}
 use Rattle.net_core.specs.inside.Searched.{IsMeetable, IsLeastAt, lesser_of, IsLeastOf, IsLeast}
-use Rattle.net_core.specs.inside.Searched.{NoneMeetsAny, IsFirstMeeting}
+use Rattle.net_core.specs.inside.Searched.{IsFirstMeeting}
 use Rattle.net_core.proofs.SiteReactions.{below_or, one_member, alive_bare, dead_bare, move_bare}
 
 -- ---- the order of ids

@@ -49,3 +49,4 @@ pub mod RoundDone
 pub mod Requests
 pub mod SoFar
 pub mod NoneFound
+pub mod StillRests

@@ -13,11 +13,12 @@ use Rattle.net_core.specs.declared.choice.Choice.{Choice}
 use Rattle.net_core.specs.declared.choice.Choice.TheVariants as choice
 use Rattle.net_core.specs.Enabled.{IsEnabled, react, deliver, move, halt, detect}
 use Rattle.net_core.specs.Choosing.{MayReact, MayDeliver, Allows, NoneReacts, IsNext, request_of}
+use Rattle.net_core.specs.Choosing.{NoneMeetsAny}
 use Rattle.net_core.specs.Choosing as next
 use Rattle.net_core.specs.Resting.{IsNoneWhereQuiet}
 use Rattle.net_core.proofs.Enabling.{none_enabled_is_quiet}
 use Rattle.net_core.proofs.SiteReactions.{fires_reacts}
-use Rattle.net_core.specs.inside.Searched.{HasSites, NoneMeetsAny, IsFirstMeeting}
+use Rattle.net_core.specs.inside.Searched.{HasSites, IsFirstMeeting}
 
 -- ---- packets
 

@@ -46,6 +46,11 @@ request_of (choice.Detect a) = Some a
 abbrev pub NoneReacts : CodeParts → Net → Type 0
 NoneReacts c net = (i : ℕ) (p : Pick) → MayReact c net i p → ⊥
 
+-- no request is met by a choice that is enabled
+abbrev pub NoneMeetsAny : CodeParts → Net → Type 0
+NoneMeetsAny c net =
+    (x : Choice) (a : AtomId) → request_of x ≡ Some a → Allows c net x → ⊥
+
 -- the reaction that is ready at the site i, where none of a site before it is enabled
 pub record IsFirstReaction (c : CodeParts) (net : Net) (i : ℕ) (p : Pick) : Type 0 where
   pub site : Site

@@ -12,3 +12,4 @@ pub mod Alone
 pub mod Delivering
 pub mod Slots
 pub mod Searched
+pub mod Rests

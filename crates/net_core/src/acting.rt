@@ -243,6 +243,8 @@ impl Net {
         ensures ok { IfOk result (λ o. HasActed self.old choice.now o self.new) }
         ensures err { OnErr result (self.new ≡ self.old) }
     {
+        self.asked.clear();
+        self.acted = true;
         match make_noted(
             alloc,
             &mut self.parts,

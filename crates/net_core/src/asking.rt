@@ -1,6 +1,8 @@
 // The requests of all sites, in the order of their ids, and the choices that meet them.
 ghost use Rattle.std.specs.Prelude.{◌≡◌, ◌<◌, ◌++◌, [], length, slice_get, Some, IfOk, OnOk};
+ghost use Rattle.std.specs.Prelude.{IsTrue};
 ghost use Rattle.net_core.specs.Asking.{in_order, requests_of, choices_for};
+ghost use Rattle.net_core.specs.inside.Rests.{asked_by, AskNoMore, AreStill};
 
 use crate::choice::Choices;
 use crate::searching::choice_for;
@@ -73,4 +75,36 @@ pub(crate) fn all_asks(alloc: Global, sites: &[Site]) -> Result<Choices, Memory>
         choices.push(choice_for(request))?;
     }
     Ok(choices)
+}
+
+// How many requests each of these sites has.
+pub(crate) fn asked_by(alloc: Global, sites: &[Site]) -> Result<Vec<u32>, Memory>
+    ensures { IfOk result (λ asked. asked.items ≡ asked_by sites.now) }
+{
+    let mut asked = Vec::new(alloc);
+    for site in sites {
+        asked.push(count_requests(site))?;
+    }
+    Ok(asked)
+}
+
+// Whether none of these sites has more requests than its number says.
+fn ask_no_more(sites: &[Site], asked: &[u32]) -> bool
+    ensures { IsTrue result → AskNoMore sites.now asked.now }
+{
+    for (at, count) in asked.iter().enumerate() {
+        if at < sites.len() && sites[at].request_at(*count).is_some() {
+            return false;
+        }
+    }
+    true
+}
+
+// Forgets how many requests the sites had where one has more.
+pub(crate) fn keep_asked(asked: &mut Vec<u32>, sites: &[Site])
+    ensures { AreStill sites.now asked.old.items asked.new.items }
+{
+    if !ask_no_more(sites, asked.as_slice()) {
+        asked.clear();
+    }
 }

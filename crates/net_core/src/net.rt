@@ -1,18 +1,18 @@
 // A network of sites on one thread.
-ghost use Rattle.std.specs.Prelude.{◌≡◌, ◌↔◌, ◌<◌, length, IfOk, IfNone, IfSome, IsTrue};
+ghost use Rattle.std.specs.Prelude.{◌≡◌, ◌↔◌, ◌<◌, false, length, IfOk, IfNone, IfSome, IsTrue};
 ghost use Rattle.env_store.specs.CodeFacts.{IsCode};
 ghost use Rattle.net_core.specs.declared.choice.Choice.{Choice};
 ghost use Rattle.net_core.specs.Asking.{asks};
-ghost use Rattle.net_core.specs.Choosing.{Allows, IsNext};
+ghost use Rattle.net_core.specs.Choosing.{Allows, IsNext, NoneMeetsAny};
 ghost use Rattle.net_core.specs.Resting.{IsNoneWhereQuiet};
 ghost use Rattle.net_core.specs.Scheduling.{ReadyOpensNone};
 ghost use Rattle.net_core.specs.Whole.{RunsSome};
 ghost use Rattle.net_core.specs.Working.{IsOpeningAt};
 
-use crate::asking::all_asks;
+use crate::asking::{all_asks, asked_by};
 use crate::choice::{Choice, Choices};
 use crate::parts::Parts;
-use crate::searching::{is_enabled, next_choice, opening_of};
+use crate::searching::{first_request, is_enabled, next_choice, opening_of};
 use crate::senders::Run;
 use crate::tracing::copy_all;
 use chem_model::{Memory, Outs};
@@ -20,6 +20,7 @@ use env_store::Code;
 use std::alloc::Global;
 use std::collections::VecDeque;
 use std::marker::Model;
+use std::mem;
 
 /// A network of sites that run the code of a program: what contracts see of it is the code, the
 /// network, with the version of the program and with the packets under way as the messages that
@@ -36,11 +37,17 @@ pub struct Net {
     pub(crate) parts: Parts,
     pub(crate) senders: VecDeque<Run>,
     pub(crate) events: u32,
+    // how many requests each site had when it was seen that none may be met; nothing where that
+    // isn't known
+    pub(crate) asked: Vec<u32>,
+    // whether a choice was made since it was looked whether one may be
+    pub(crate) acted: bool,
 }
 
 impl Model for Net {
-    ghost use Rattle.net_core.specs.Whole.{NetParts, IsNetWhole};
+    ghost use Rattle.net_core.specs.Whole.{NetParts};
     ghost use Rattle.net_core.specs.Parts.{net_of};
+    ghost use Rattle.net_core.specs.inside.Rests.{IsKept};
     ghost use Rattle.net_core.specs.inside.Runs.{spread};
 
     ghost Value = { NetParts };
@@ -52,7 +59,7 @@ impl Model for Net {
       events = n.events;
     } };
 
-    ghost invariant = { λ n. IsNetWhole n.code n.parts n.senders.items n.events };
+    ghost invariant = { λ n. IsKept n.code n.parts n.senders.items n.events n.asked.items };
 }
 
 impl Net {
@@ -146,6 +153,33 @@ impl Net {
             &self.code,
             site,
         )
+    }
+
+    // Whether a search finds that a request may be met.
+    fn may_meet(&self) -> bool
+        ensures { result ≡ false → NoneMeetsAny self.now.code self.now.net }
+    {
+        let sites = self.parts.sites.as_slice();
+        first_request(sites, &self.parts.tree, self.parts.version).is_some()
+    }
+
+    /// Whether it is known that no request may be met; false says nothing. It is looked for where
+    /// no choice was made since it was asked last, and is known from then on while no request comes
+    /// and the sites only react in rounds. Where there is no memory, it is looked for again.
+    pub fn rests(&mut self, alloc: Global) -> bool
+        ensures none { IsTrue result → NoneMeetsAny self.old.code self.old.net }
+        ensures same { self.new ≡ self.old }
+    {
+        if !self.asked.is_empty() {
+            return true;
+        }
+        if mem::replace(&mut self.acted, false) || self.may_meet() {
+            return false;
+        }
+        if let Ok(asked) = asked_by(alloc, self.parts.sites.as_slice()) {
+            self.asked = asked;
+        }
+        true
     }
 
     /// One choice for each request, in the order of their ids: a move for one to go, a halt for

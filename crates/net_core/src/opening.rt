@@ -161,6 +161,8 @@ impl Net {
                 parts,
                 senders,
                 events: 0,
+                asked: Vec::new(alloc),
+                acted: false,
             }),
             Err(memory) => {
                 drop(parts);

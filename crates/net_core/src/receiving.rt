@@ -78,6 +78,7 @@ impl Net {
         ensures ok { OnOk result (HasReceived self.old site bytes.now self.new) }
         ensures err { OnErr result (self.new ≡ self.old) }
     {
+        self.asked.clear();
         receive_noted(alloc, &mut self.parts, &mut self.senders, site, bytes)
     }
 }

@@ -4,6 +4,7 @@ ghost use Rattle.net_core.specs.inside.Slots.{HasRound, HasSent};
 ghost use Rattle.net_core.specs.Whole.{IsWhole};
 ghost use Rattle.net_core.specs.Working.{HasWorked};
 
+use crate::asking::keep_asked;
 use crate::net::Net;
 use crate::parts::Parts;
 use crate::senders::Run;
@@ -90,22 +91,28 @@ impl Net {
             mut parts,
             mut senders,
             events,
+            mut asked,
+            acted,
         } = self;
         let limits = Limits { workers, quota };
         match round_of(rt, alloc, &mut parts, &mut senders, &code, limits) {
             Ok(journal) => {
                 let events = events + journal.len() as u32;
+                keep_asked(&mut asked, parts.sites.as_slice());
                 let net = Net {
                     code,
                     parts,
                     senders,
                     events,
+                    asked,
+                    acted,
                 };
                 Ok((net, journal))
             }
             Err(memory) => {
                 drop(parts);
                 drop(senders);
+                drop(asked);
                 drop(code);
                 Err(memory)
             }

@@ -11,9 +11,10 @@ ghost use Rattle.site_solution.specs.InTree.{is_in_tree};
 ghost use Rattle.site_solution.specs.InCode.{is_in_code};
 ghost use Rattle.net_core.specs.declared.choice.Choice.{Choice};
 ghost use Rattle.net_core.specs.Choosing.{MayReact, Allows, NoneReacts, IsFirstReaction, IsNext};
+ghost use Rattle.net_core.specs.Choosing.{NoneMeetsAny};
 ghost use Rattle.net_core.specs.inside.Searched.{HasSites, meets, IsMet, NoneMeets, choice_for};
 ghost use Rattle.net_core.specs.inside.Searched.{IsMeetable, IsLeastAt, lesser_of, IsLeast};
-ghost use Rattle.net_core.specs.inside.Searched.{NoneMeetsAny, IsFirstMeeting};
+ghost use Rattle.net_core.specs.inside.Searched.{IsFirstMeeting};
 ghost use Rattle.net_core.specs.Scheduling.{ReadyOpensNone};
 ghost use Rattle.net_core.specs.Working.{IsOpeningAt};
 
@@ -202,7 +203,7 @@ pub(crate) fn is_enabled(
 }
 
 // The choice that meets the request with the least id.
-fn first_request(sites: &[Site], tree: &LocTree, version: u32) -> Option<Choice>
+pub(crate) fn first_request(sites: &[Site], tree: &LocTree, version: u32) -> Option<Choice>
     requires { Each (λ (s : Site). IsTrue (is_in_tree tree.now s)) sites.now }
     ensures none { IfNone result ((c : CodeParts) (net : Net) → HasSites sites.now tree.now net
         → net.version ≡ version → NoneMeetsAny c net) }

@@ -38,7 +38,7 @@ use Rattle.net_core.specs.declared.choice.Choice.TheVariants as choice
 use Rattle.net_core.specs.Acts.{Acts}
 use Rattle.net_core.specs.Acts as acts
 use Rattle.net_core.specs.Asking.{choice_by, choices_for, asks}
-use Rattle.net_core.specs.Choosing.{Allows, IsNext}
+use Rattle.net_core.specs.Choosing.{Allows, IsNext, NoneMeetsAny}
 use Rattle.net_core.specs.Falling.{is_misdirected, misdirected, deliveries_left}
 use Rattle.net_core.specs.Laws.{IsLed}
 use Rattle.net_core.specs.Making.{Falls, HasActed}
@@ -503,6 +503,26 @@ no_turn Makes Passes net book x o by = record {
   one = o;
 }
 
+-- all of a list are passed by
+pub all_passed : {X : Type 0} (Makes : CodeParts → Net → X → Event → Net → Type 0)
+    (Passes : CodeParts → Net → X → Type 0) (budget : ℕ) (xs : List X) (net : NetParts)
+    (book : BookKept) → AreOne book net → Each (Passes net.code net.net) xs
+    → HaveRun (Turns Makes Passes budget net.code xs net book) net book net book
+all_passed {X = X} Makes Passes budget xs net book o by = record {
+  added = [];
+  runs = go (budget - length book.journal) xs by;
+  code = refl;
+  book_is = sym (and_then_none book);
+  one = o;
+}
+  where
+    go : (left : ℕ) (ys : List X) → Each (Passes net.code net.net) ys
+        → InTurn (Makes net.code) (Passes net.code) left ys net.net [] net.net
+    go zero ys each = spent ys net.net
+    go (suc left) [] each = no_more (suc left) net.net
+    go (suc left) (y ∷ ys) each =
+        passes (suc left) y ys net.net net.net [] (omega arith) each.0 (go (suc left) ys each.1)
+
 -- ---- the reactions that open locations, and the requests
 
 module _ (net new : NetParts) (book after : BookKept) (x : Choice)
@@ -550,6 +570,17 @@ are_requests (q ∷ qs) = (go q.ask q.id, are_requests qs)
     go (request.Go b k) a = tt
     go (request.Fail b k) a = tt
     go request.Halt a = tt
+
+-- none of them is met, where no request may be
+pub none_meets : (c : CodeParts) (net : Net) → NoneMeetsAny c net → (qs : List RequestParts)
+    → Each (Forbids c net) (choices_for qs)
+none_meets c net none [] = tt
+none_meets c net none (q ∷ qs) = (go q.ask q.id, none_meets c net none qs)
+  where
+    go : (k : Ask) (a : AtomId) → Forbids c net (choice_by k a)
+    go (request.Go b k) a = none (choice.Move a) a refl
+    go (request.Fail b k) a = none (choice.Detect a) a refl
+    go request.Halt a = none (choice.Halt a) a refl
 
 -- ---- events that are committed one after another
 

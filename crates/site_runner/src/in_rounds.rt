@@ -128,7 +128,7 @@ fn meet_one(alloc: Global, net: &mut Net, book: &mut Book, choice: &Choice) -> R
 
 // The requests that stand now, in the order of their ids, while the budget leaves an event: each is
 // met where it can be at its turn.
-fn meet_all(alloc: Global, net: &mut Net, book: &mut Book, budget: u32) -> Result<(), Memory>
+fn meet_each(alloc: Global, net: &mut Net, book: &mut Book, budget: u32) -> Result<(), Memory>
     requires budget { budget ≤ 4000000 }
     requires within { length book.old.journal ≤ budget }
     requires one { AreOne book.old net.old }
@@ -146,6 +146,23 @@ fn meet_all(alloc: Global, net: &mut Net, book: &mut Book, budget: u32) -> Resul
         meet_one(alloc, net, book, choice)?;
     }
     Ok(())
+}
+
+// The same; where it is known that none can be met, none is looked at.
+fn meet_all(alloc: Global, net: &mut Net, book: &mut Book, budget: u32) -> Result<(), Memory>
+    requires budget { budget ≤ 4000000 }
+    requires within { length book.old.journal ≤ budget }
+    requires one { AreOne book.old net.old }
+    ensures meets { OnOk result (HaveRun
+        (InTurn (Meets net.old.code) (Forbids net.old.code)
+        (budget - length book.old.journal) (asks net.old.net) net.old.net)
+        net.old book.old net.new book.new) }
+    ensures within { OnOk result (length book.new.journal ≤ budget) }
+{
+    if net.rests(alloc) {
+        return Ok(());
+    }
+    meet_each(alloc, net, book, budget)
 }
 
 // Commits events that are possible one after another.

@@ -14,7 +14,7 @@ use Rattle.migration.specs.Moves.{can_go}
 use Rattle.net_core.specs.declared.choice.Choice.{Choice}
 use Rattle.net_core.specs.declared.choice.Choice.TheVariants as choice
 use Rattle.net_core.specs.Asking.{choice_by}
-use Rattle.net_core.specs.Choosing.{Allows, request_of, IsFirstRequest}
+use Rattle.net_core.specs.Choosing.{IsFirstRequest}
 
 -- these are the sites and, but for its room, the tree of the network
 pub record HasSites (sites : List Site) (t : Tree) (net : Net) : Type 0 where
@@ -79,11 +79,6 @@ IsLeast version sites t n None =
 IsLeast version sites t n (Some q) = IsLeastOf version sites t n q
 
 -- ---- of a network
-
--- no request is met by a choice that is enabled
-abbrev pub NoneMeetsAny : CodeParts → Net → Type 0
-NoneMeetsAny c net =
-    (x : Choice) (a : AtomId) → request_of x ≡ Some a → Allows c net x → ⊥
 
 -- the choice that meets the request with the least id
 abbrev pub IsFirstMeeting : CodeParts → Net → Choice → Type 0

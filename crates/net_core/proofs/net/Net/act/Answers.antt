@@ -1,4 +1,4 @@
-use Rattle.std.proofs.Common.{◌≡◌, ◌+◌, ◌<◌, ◌^◌, Option, Some, None, refl, ap, subst, arith}
+use Rattle.std.proofs.Common.{◌≡◌, ◌+◌, ◌<◌, ◌^◌, Option, Some, None, refl, ap, subst, arith, inl}
 use Rattle.chem_model.specs.declared.event.Event.{Event}
 use Rattle.net_core.specs.Making.{counted, HasActed}
 use Rattle.net_core.specs.Parts.{net_of}
@@ -12,28 +12,38 @@ pub make_noted-requires-clause-whole : goal.make_noted-requires-clause-whole
 make_noted-requires-clause-whole c =
     let few : c.self.inside.events < 2 ^ 32 =
     omega (arith, c.requires.few, ap (λ (v : NetParts). v.events) c.self.view_is) in
-    (c.self.inside.events, few, c.self.invariant)
+    (c.self.inside.events, few, c.self.invariant.net)
 
 pub invariant_of-self : goal.invariant_of-self
-invariant_of-self c = c.in_err-event.ensures.err c.self.inside.events c.self.invariant
+invariant_of-self c = record {
+  net = c.in_err-event.ensures.err c.self.inside.events c.self.invariant.net;
+  rests = inl c.clear.ensures.items;
+}
 
 pub invariant_of-self-in-Some : goal.invariant_of-self-in-Some
 invariant_of-self-in-Some c =
     let few : c.self.inside.events < 2 ^ 32 =
     omega (arith, c.requires.few, ap (λ (v : NetParts). v.events) c.self.view_is) in
-    subst (λ (o : Option Event). IsNetWhole c.self.inside.code c.make_noted.new.parts
-    c.make_noted.new.senders.items (c.self.inside.events + counted o))
-    c.in-Some.is (c.in_ok-event.ensures.whole c.self.inside.events few c.self.invariant)
+    record {
+      net = subst (λ (o : Option Event). IsNetWhole c.self.inside.code c.make_noted.new.parts
+          c.make_noted.new.senders.items (c.self.inside.events + counted o)) c.in-Some.is
+          (c.in_ok-event.ensures.whole c.self.inside.events few c.self.invariant.net);
+      rests = inl c.clear.ensures.items;
+    }
 
 pub invariant_of-self-in-None : goal.invariant_of-self-in-None
 invariant_of-self-in-None c =
     let few : c.self.inside.events < 2 ^ 32 =
     omega (arith, c.requires.few, ap (λ (v : NetParts). v.events) c.self.view_is) in
     let same : c.self.inside.events + 0 ≡ c.self.inside.events = omega arith in
-    subst (IsNetWhole c.self.inside.code c.make_noted.new.parts c.make_noted.new.senders.items) same
-    (subst (λ (o : Option Event). IsNetWhole c.self.inside.code c.make_noted.new.parts
-    c.make_noted.new.senders.items (c.self.inside.events + counted o))
-    c.in-None.is (c.in_ok-event.ensures.whole c.self.inside.events few c.self.invariant))
+    record {
+      net = subst
+          (IsNetWhole c.self.inside.code c.make_noted.new.parts c.make_noted.new.senders.items) same
+          (subst (λ (o : Option Event). IsNetWhole c.self.inside.code c.make_noted.new.parts
+          c.make_noted.new.senders.items (c.self.inside.events + counted o)) c.in-None.is
+          (c.in_ok-event.ensures.whole c.self.inside.events few c.self.invariant.net));
+      rests = inl c.clear.ensures.items;
+    }
 
 pub returns-in-Some-clause-ok : goal.returns-in-Some-clause-ok
 returns-in-Some-clause-ok c =
@@ -57,7 +67,7 @@ returns-in-Some-clause-ok c =
     c.in-Some.is c.in_ok-event.ensures.made in
     subst (λ (v : NetParts). HasActed v c.args.choice.now (Some c.in-Some.event) new) c.self.view_is
     (has_acted old new c.args.choice.now (Some c.in-Some.event) c.self.inside.events
-    c.self.invariant.whole.running made.acts refl refl made.sender made.sent_by made.noted)
+    c.self.invariant.net.whole.running made.acts refl refl made.sender made.sent_by made.noted)
 
 pub returns-in-None-clause-ok : goal.returns-in-None-clause-ok
 returns-in-None-clause-ok c =
@@ -81,5 +91,5 @@ returns-in-None-clause-ok c =
     c.in-None.is c.in_ok-event.ensures.made in
     let count : c.self.inside.events ≡ c.self.inside.events + 0 = omega arith in
     subst (λ (v : NetParts). HasActed v c.args.choice.now None new) c.self.view_is
-    (has_acted old new c.args.choice.now None c.self.inside.events c.self.invariant.whole.running
+    (has_acted old new c.args.choice.now None c.self.inside.events c.self.invariant.net.whole.running
     made.acts refl count made.sender made.sent_by made.noted)

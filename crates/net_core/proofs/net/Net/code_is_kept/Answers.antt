@@ -5,4 +5,4 @@ use Rattle.net_core.proofs.net.Net.code_is_kept.Goals as goal
 
 pub returns : goal.returns
 returns c =
-    subst (λ (v : NetParts). IsCode v.code) c.self.view_is c.self.invariant.whole.running.code
+    subst (λ (v : NetParts). IsCode v.code) c.self.view_is c.self.invariant.net.whole.running.code

@@ -6,6 +6,7 @@ use Rattle.net_core.specs.Parts.{net_of}
 use Rattle.net_core.specs.Whole.{NetParts}
 use Rattle.net_core.specs.inside.Pairing.{paired}
 use Rattle.net_core.specs.inside.Runs.{spread}
+use Rattle.net_core.proofs.StillRests.{rests_by}
 use Rattle.net_core.proofs.Taken.{AreDrained, drained_both, are_handed_out}
 use Rattle.net_core.proofs.net.Net.drain.Goals as goal
 
@@ -28,17 +29,22 @@ invariant_of-self c =
       flights = ap (λ fs. fs.items) c.replace-flights.ensures.after ∙ c.new.ensures.items;
       under_way = refl;
     } in
-    drained_both c.self.inside.code old new c.self.inside.senders.items
-    c.replace-senders.new.dest.items c.self.inside.events c.self.invariant drained
-    (ap (λ rs. rs.items) c.replace-senders.ensures.after ∙ c.new-2.ensures.items)
+    record {
+      net = drained_both c.self.inside.code old new c.self.inside.senders.items
+          c.replace-senders.new.dest.items c.self.inside.events c.self.invariant.net drained
+          (ap (λ rs. rs.items) c.replace-senders.ensures.after ∙ c.new-2.ensures.items);
+      rests = rests_by c.self.inside.code (net_of c.self.inside.code.seen old)
+          (net_of c.self.inside.code.seen new) c.self.inside.asked.items refl refl refl
+          c.self.invariant.rests;
+    }
 
 pub invariant_of-result : goal.invariant_of-result
 invariant_of-result c = omega (
   arith,
   ap (λ fs. length fs.items) c.replace-flights.ensures.value,
   ap (λ rs. length (spread rs.items)) c.replace-senders.ensures.value,
-  c.self.invariant.sent,
-  c.self.invariant.whole.flying.counted,
+  c.self.invariant.net.sent,
+  c.self.invariant.net.whole.flying.counted,
 )
 
 pub returns : goal.returns
@@ -82,4 +88,4 @@ returns c =
       events = c.self.inside.events;
     }) fs after) (sym handed)
     (are_handed_out code old new c.self.inside.senders.items c.replace-senders.new.dest.items
-    c.self.inside.events c.self.invariant drained none))
+    c.self.inside.events c.self.invariant.net drained none))

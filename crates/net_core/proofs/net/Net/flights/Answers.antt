@@ -5,6 +5,6 @@ use Rattle.net_core.proofs.net.Net.flights.Goals as goal
 
 pub returns : goal.returns
 returns c =
-    c.self.invariant.whole.flying.counted
+    c.self.invariant.net.whole.flying.counted
     ∙ sym (carried_length c.self.inside.parts.flights.items)
     ∙ ap (λ (v : NetParts). length v.net.packets) c.self.view_is

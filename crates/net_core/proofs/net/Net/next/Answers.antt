@@ -16,7 +16,7 @@ returns c =
     let code = c.self.inside.code in
     let net = net_of code.seen p in
     let count =
-    carried_length p.flights.items ∙ sym c.self.invariant.whole.flying.counted in
+    carried_length p.flights.items ∙ sym c.self.invariant.net.whole.flying.counted in
     let parts : HasSites c.as_slice.result.now p.tree net =
     record { sites_are = sym c.as_slice.ensures.value; tree_is = refl } in
     let none = none_of p.version c.as_slice.result.now p.tree code p.under_way net parts refl count
@@ -24,7 +24,7 @@ returns c =
     let some = some_of p.version c.as_slice.result.now p.tree code p.under_way net parts refl count
     c.next_choice.result c.next_choice.ensures.some in
     let quiet =
-    none_where_quiet code net c.self.invariant.whole.running.code c.next_choice.result none some in
+    none_where_quiet code net c.self.invariant.net.whole.running.code c.next_choice.result none some in
     record {
       none = subst
           (λ (v : NetParts). IfNone c.next_choice.result ((x : Choice) → Allows v.code v.net x → ⊥))

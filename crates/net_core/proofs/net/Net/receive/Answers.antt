@@ -1,4 +1,4 @@
-use Rattle.std.proofs.Common.{◌<◌, ◌∙◌, length, refl, sym, subst}
+use Rattle.std.proofs.Common.{◌<◌, ◌∙◌, length, refl, sym, subst, inl}
 use Rattle.std.proofs.lemmas.Result.{on_ok_weaker}
 use Rattle.net_core.specs.Parts.{net_of}
 use Rattle.net_core.specs.Received.{with_last, HasReceived}
@@ -18,19 +18,23 @@ receive_noted-requires-clause-whole c =
     let some =
     subst (λ (v : NetParts). RunsSome v.code (with_last v.net c.args.site c.args.bytes.now))
     (sym c.self.view_is) c.requires.stands in
-    (c.self.inside.code, c.self.inside.events, c.self.invariant, some)
+    (c.self.inside.code, c.self.inside.events, c.self.invariant.net, some)
 
 pub invariant_of-self : goal.invariant_of-self
 invariant_of-self c =
     let some =
     subst (λ (v : NetParts). RunsSome v.code (with_last v.net c.args.site c.args.bytes.now))
     (sym c.self.view_is) c.requires.stands in
-    either_whole c.self.inside.code c.self.inside.parts c.receive_noted.new.parts
-    c.self.inside.senders.items c.receive_noted.new.senders.items c.self.inside.events
-    c.receive_noted.result c.self.invariant
-    (on_ok_weaker c.receive_noted.result
-    (λ f. (f c.self.inside.code c.self.inside.events c.self.invariant some).whole)
-    c.receive_noted.ensures.ok) c.receive_noted.ensures.err c.receive_noted.ensures.err_senders
+    record {
+      net = either_whole c.self.inside.code c.self.inside.parts c.receive_noted.new.parts
+          c.self.inside.senders.items c.receive_noted.new.senders.items c.self.inside.events
+          c.receive_noted.result c.self.invariant.net
+          (on_ok_weaker c.receive_noted.result
+          (λ f. (f c.self.inside.code c.self.inside.events c.self.invariant.net some).whole)
+          c.receive_noted.ensures.ok) c.receive_noted.ensures.err
+          c.receive_noted.ensures.err_senders;
+      rests = inl c.clear.ensures.items;
+    }
 
 pub returns-clause-ok : goal.returns-clause-ok
 returns-clause-ok c =
@@ -51,10 +55,10 @@ returns-clause-ok c =
       events = c.self.inside.events;
     } in
     on_ok_weaker c.receive_noted.result
-    (λ f. let done = f code c.self.inside.events c.self.invariant some in
+    (λ f. let done = f code c.self.inside.events c.self.invariant.net some in
     subst (λ (v : NetParts). HasReceived v c.args.site c.args.bytes.now after)
     c.self.view_is (has_received before after c.args.site c.args.bytes.now c.self.inside.events
-    c.self.invariant.whole.running some done.delivers refl refl done.froms))
+    c.self.invariant.net.whole.running some done.delivers refl refl done.froms))
     c.receive_noted.ensures.ok
 
 pub returns-clause-err : goal.returns-clause-err

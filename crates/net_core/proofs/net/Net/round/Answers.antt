@@ -1,10 +1,14 @@
-use Rattle.std.proofs.Common.{◌≡◌, ℕ, ◌+◌, ◌*◌, ◌-◌, ◌<◌, ◌≤◌, ◌^◌, length, sym, ap, subst, refl}
+use Rattle.std.proofs.Common.{◌≡◌, ℕ, List, ◌+◌, ◌*◌, ◌-◌, ◌<◌, ◌≤◌, ◌^◌, length, sym, ap, subst, refl}
 use Rattle.std.proofs.Common.{arith}
+use Rattle.net_laws.specs.Site.{Site}
 use Rattle.net_core.specs.Parts.{net_of}
+use Rattle.net_core.specs.Scheduling.{numbers}
 use Rattle.net_core.specs.Whole.{NetParts, IsWhole}
 use Rattle.net_core.specs.Working.{HasWorked}
+use Rattle.net_core.specs.inside.Rests.{AreStill}
 use Rattle.net_core.specs.inside.Runs.{spread}
 use Rattle.net_core.proofs.RoundDone.{has_worked}
+use Rattle.net_core.proofs.StillRests.{still_rests, turns_grow}
 use Rattle.net_core.proofs.net.Net.round.Goals as goal
 
 pub overflow_add-events : goal.overflow_add-events
@@ -24,11 +28,21 @@ invariant_of-net g c =
     let few : inside.events + c.args.quota * length inside.parts.sites.items < 2 ^ 32 - 1 =
     subst (λ (v : NetParts). v.events + c.args.quota * length v.net.sites < 2 ^ 32 - 1)
     (sym c.self.view_is) c.requires.few in
+    let old = net_of inside.code.seen inside.parts in
+    let new = net_of inside.code.seen c.round_of.new.parts in
+    let done = c.in-Ok.ensures.round in
     record {
-      whole = subst (λ (k : ℕ). IsWhole inside.code c.round_of.new.parts (inside.events + k))
-          (sym c.len.ensures.count)
-          (c.in-Ok.ensures.round.whole inside.events few c.self.invariant.whole);
-      sent = c.in-Ok.ensures.sent.many;
+      net = record {
+        whole = subst (λ (k : ℕ). IsWhole inside.code c.round_of.new.parts (inside.events + k))
+            (sym c.len.ensures.count) (done.whole inside.events few c.self.invariant.net.whole);
+        sent = c.in-Ok.ensures.sent.many;
+      };
+      rests = still_rests inside.code old new inside.asked.items c.keep_asked.new.asked.items
+          (turns_grow inside.code c.args.quota (numbers old) (length old.packets) old new
+          c.in-Ok.journal done.turns)
+          done.tree
+          (subst (λ (ss : List Site). AreStill ss inside.asked.items c.keep_asked.new.asked.items)
+          c.as_slice.ensures.value c.keep_asked.ensures) c.self.invariant.rests;
     }
 
 pub returns-in-Ok : goal.returns-in-Ok
@@ -48,6 +62,6 @@ returns-in-Ok g c =
       events = inside.events + c.len.result;
     } in
     subst (λ (v : NetParts). HasWorked c.args.quota v c.in-Ok.journal new) c.self.view_is
-    (has_worked old new c.args.quota inside.events c.in-Ok.journal c.self.invariant.whole.running
+    (has_worked old new c.args.quota inside.events c.in-Ok.journal c.self.invariant.net.whole.running
     done.turns refl (ap (λ (k : ℕ). inside.events + k) c.len.ensures.count)
     done.within done.tree done.sites c.in-Ok.ensures.sent.turns)

@@ -7,7 +7,7 @@ use Rattle.net_core.proofs.net.Net.stands_for_some.Goals as goal
 
 pub returns-clause-runs : goal.returns-clause-runs
 returns-clause-runs c = subst (λ (v : NetParts). RunsSome v.code v.net)
-    c.self.view_is c.self.invariant.whole.running.some
+    c.self.view_is c.self.invariant.net.whole.running.some
 
 pub returns-clause-sent : goal.returns-clause-sent
 returns-clause-sent c =
@@ -15,8 +15,8 @@ returns-clause-sent c =
     let many : length (spread c.self.inside.senders.items)
     ≡ length (net_of c.self.inside.code.seen parts).packets = omega (
       arith,
-      c.self.invariant.sent,
-      c.self.invariant.whole.flying.counted,
+      c.self.invariant.net.sent,
+      c.self.invariant.net.whole.flying.counted,
       carried_length parts.flights.items,
     ) in
     subst (λ (v : NetParts). length v.froms ≡ length v.net.packets) c.self.view_is many

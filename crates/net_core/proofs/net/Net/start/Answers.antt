@@ -1,4 +1,4 @@
-use Rattle.std.proofs.Common.{◌≡◌, ℕ, ◌<◌, ◌^◌, length, sym, ap, subst, arith}
+use Rattle.std.proofs.Common.{◌≡◌, ℕ, ◌<◌, ◌^◌, length, sym, ap, subst, arith, inl}
 use Rattle.chem_model.specs.Opening.{opening}
 use Rattle.chem_model.specs.ProgramFacts.{ProgramTerms, IsProgram}
 use Rattle.chem_laws.proofs.Limits.{sites-few}
@@ -25,10 +25,13 @@ invariant_of-result c =
     let few : length c.args.code.now.sites < 2 ^ 32 =
     omega (arith, c.requires.no_other_sites, ok.few_sites, sites-few c.args.program.now.version) in
     record {
-      whole = subst (λ (x : CodeParts). IsWhole x c.in_ok-parts.parts 0) (sym c.in-Ok.ensures)
-          (opened_whole c.args.program.now c.args.code.now ok kept c.requires few
-          c.in_ok-parts.parts upto);
-      sent = c.in_ok-parts.ensures.sent.many;
+      net = record {
+        whole = subst (λ (x : CodeParts). IsWhole x c.in_ok-parts.parts 0) (sym c.in-Ok.ensures)
+            (opened_whole c.args.program.now c.args.code.now ok kept c.requires few
+            c.in_ok-parts.parts upto);
+        sent = c.in_ok-parts.ensures.sent.many;
+      };
+      rests = inl c.new.ensures.items;
     }
 
 pub returns-in-Ok-clause-stands : goal.returns-in-Ok-clause-stands

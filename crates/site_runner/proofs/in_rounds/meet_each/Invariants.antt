@@ -2,7 +2,7 @@ use Rattle.std.proofs.Common.{drop, ◌≤◌, length}
 use Rattle.net_core.specs.Asking.{asks}
 use Rattle.net_core.specs.Scheduling.{Meets, Forbids}
 use Rattle.site_runner.proofs.Rounding.{TurnsWay}
-use Rattle.site_runner.proofs.in_rounds.meet_all.Given as goal
+use Rattle.site_runner.proofs.in_rounds.meet_each.Given as goal
 
 abbrev pub invariant-loop-choice : goal.invariant-loop-choice
 invariant-loop-choice l = record {
