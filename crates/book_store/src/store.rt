@@ -22,24 +22,29 @@ use chem_model::{AtomId, Atoms, Event, Loc, Memory, Numbered, NumberedAtom};
 use chem_plain::atom_at;
 use std::alloc::Global;
 
-/// Messages and requests that were set apart, and which rules and requests to look at.
+/// Messages and requests that were set apart, which rules and requests to look at, and whether
+/// events are searched for.
 #[derive(Drop)]
 pub struct Store {
     pub older: Older,
     pub waiting: Waiting,
     pub asking: Asking,
+    pub searched: bool,
 }
 
 // From so many newest messages and requests on, they are set apart: few where there are many rules,
-// since a search looks at the rules that are filed at the channel of each.
+// since a search looks at the rules that are filed at the channel of each; and more of them where
+// no event is searched for, since what is taken soon is then never set apart.
 const MOST: usize = 16;
 
 const MOST_OF_FEW: usize = 64;
 
+const MOST_UNSEARCHED: usize = 128;
+
 const FEW_RULES: usize = 4;
 
 impl Store {
-    /// Nothing. It takes no memory.
+    /// Nothing, where events are searched for. It takes no memory.
     pub fn new(alloc: Global) -> Store
         ensures { IsEmpty result }
     {
@@ -47,6 +52,7 @@ impl Store {
             older: Older::new(alloc),
             waiting: Waiting::new(alloc),
             asking: Asking::new(alloc),
+            searched: true,
         }
     }
 }
@@ -150,8 +156,10 @@ fn settle_one(
 }
 
 // How many newest messages and requests are set apart.
-fn most_newest(solution: &Numbered) -> usize {
-    if solution.rules.len() < FEW_RULES {
+fn most_newest(solution: &Numbered, searched: bool) -> usize {
+    if !searched {
+        MOST_UNSEARCHED
+    } else if solution.rules.len() < FEW_RULES {
         MOST_OF_FEW
     } else {
         MOST
@@ -170,7 +178,7 @@ fn settle(
     ensures stored { IsStored solution.new store.new }
     ensures moves { Moves solution.old store.old solution.new store.new }
 {
-    let most = most_newest(solution);
+    let most = most_newest(solution, store.searched);
     if solution.atoms.len() < most {
         return Ok(());
     }

@@ -190,7 +190,8 @@ fn open_book<L: Run>(
     ensures book { IfOk result (λ r. r.0.book ≡ record { program = program.now; journal = [] }) }
     ensures passes { IfOk result (λ r. r.1 ≡ new_passes budget 1 passes) }
 {
-    let book = Book::start(alloc, program)?;
+    let mut book = Book::start(alloc, program)?;
+    book.expect_searches(false);
     open(alloc, blank, book, passes, budget)
 }
 

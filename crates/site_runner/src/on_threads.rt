@@ -59,6 +59,8 @@ fn shared(alloc: Global, book: Book, report: Report, budget: u32) -> Result<Done
         IsMadeWith report.workers book.program budget done.book.journal done.how) }
 {
     let events = book.journal().len() as u64;
+    let mut book = book;
+    book.expect_searches(true);
     match finish(alloc, book, budget) {
         Ok(book) => {
             let how = How::Shared { events, report };

@@ -197,6 +197,15 @@ impl Book {
         }
     }
 
+    /// Whether events are searched for between commits, as they are where nothing is said. Where
+    /// they aren't, more messages and requests stay beside each other before they are set apart: a
+    /// commit finds them sooner so, and a search would have to walk along them.
+    pub fn expect_searches(&mut self, searches: bool)
+        ensures { self.new ≡ self.old }
+    {
+        self.store.searched = searches;
+    }
+
     /// Whether an event is possible.
     pub fn enabled(&self, event: &Event) -> bool
         ensures { result ≡ is_enabled self.now event.now }
