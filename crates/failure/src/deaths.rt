@@ -6,6 +6,7 @@ ghost use Rattle.wire_packet.specs.GroupFacts.{GroupParts};
 ghost use Rattle.site_solution.specs.InTree.{name_stands, is_in_tree};
 ghost use Rattle.site_solution.specs.inside.InTree.{request_stands};
 ghost use Rattle.loc_tree.specs.Tree.{spot};
+ghost use Rattle.net_laws.specs.Holding.{request_with};
 ghost use Rattle.site_solution.specs.Possible.{Foretells};
 ghost use Rattle.failure.specs.Deaths.{has_died, sees_death, dead_for};
 
@@ -36,6 +37,17 @@ fn sees_death(tree: &LocTree, request: &Request) -> bool
         Ask::Fail { target, cont: _ } => tree.alive(&request.loc) && has_died(tree, target),
         Ask::Go { .. } | Ask::Halt => false,
     }
+}
+
+/// Whether this request, which the site has, is one to detect a failure, in a location that is
+/// alive, and its target is a dead location. It looks nothing up at the site.
+pub fn request_sees_death(site: &Site, tree: &LocTree, request: &Request) -> bool
+    requires tree { is_in_tree tree.now site.now ≡ true }
+    requires here { request_with request.now.id site.now.requests ≡ Some request.now }
+    ensures { result ≡ is_some (dead_for tree.now request.now.id site.now) }
+{
+    site_is_kept(site);
+    sees_death(tree, request)
 }
 
 /// The event by which a request detects a failure: exactly where this is a request of the site to

@@ -6,10 +6,9 @@ ghost use Rattle.wire_packet.specs.GroupFacts.{GroupParts};
 ghost use Rattle.env_store.specs.CodeParts.{CodeParts};
 ghost use Rattle.loc_tree.specs.Tree.{spot};
 ghost use Rattle.site_solution.specs.InTree.{is_in_tree};
-ghost use Rattle.site_solution.specs.InCode.{is_in_code};
-ghost use Rattle.site_solution.specs.Draws.{CanDraw};
 ghost use Rattle.site_solution.specs.Possible.{Foretells};
 ghost use Rattle.net_laws.specs.Site.{Site as site_of_net};
+ghost use Rattle.net_laws.specs.Holding.{request_with};
 ghost use Rattle.site_solution.specs.Staying.{StillFits};
 ghost use Rattle.failure.specs.Halts.{is_ready, can_halt, IsHalt, IsOneHalt};
 
@@ -24,6 +23,17 @@ fn is_ready(tree: &LocTree, request: &Request) -> bool
     ensures { result ≡ is_ready tree.now (Some request.now) }
 {
     matches!(request.ask, Ask::Halt) && tree.alive(&request.loc)
+}
+
+/// Whether this request, which the site has, is one to halt, in a location that is alive. It looks
+/// nothing up at the site.
+pub fn request_can_halt(site: &Site, tree: &LocTree, request: &Request) -> bool
+    requires tree { is_in_tree tree.now site.now ≡ true }
+    requires here { request_with request.now.id site.now.requests ≡ Some request.now }
+    ensures { result ≡ can_halt tree.now request.now.id site.now }
+{
+    site_is_kept(site);
+    is_ready(tree, request)
 }
 
 /// Whether this is a request of the site to halt, in a location that is alive: exactly where that
@@ -51,10 +61,7 @@ pub fn halt(tree: &mut LocTree, site: &mut Site, atom: &AtomId) -> Event
     ensures halt { IsHalt atom.now tree.old site.old tree.new site.new }
     ensures one_event { (rules_of : GroupParts → List NumberedRule)
         → IsOneHalt rules_of atom.now tree.old site.old site.new }
-    ensures in_tree { is_in_tree tree.new site.new ≡ true }
-    ensures in_code { (code : CodeParts) → is_in_code code tree.old site.old ≡ true
-        → is_in_code code tree.new site.new ≡ true }
-    ensures draws { CanDraw tree.old site.old → CanDraw tree.new site.new }
+    ensures fits { (code : CodeParts) → StillFits code tree.old site.old tree.new site.new }
     ensures others_keep { (code : CodeParts) (other : site_of_net)
         → StillFits code tree.old other tree.new other }
 {

@@ -6,6 +6,6 @@ mod deaths;
 mod detecting;
 mod halting;
 
-pub use deaths::dead_for;
+pub use deaths::{dead_for, request_sees_death};
 pub use detecting::detect;
-pub use halting::{halt, halt_ready};
+pub use halting::{halt, halt_ready, request_can_halt};

@@ -48,7 +48,7 @@ use Rattle.site_solution.proofs.Together.{in_tree_parts, in_tree_from, number_he
 use Rattle.site_solution.proofs.Together.{request_passes, numbers_same, fresh_same, places_same}
 use Rattle.migration.specs.Moves.{goes, is_ready, can_go}
 use Rattle.migration.specs.Within.{goes_to_one_of, leads_to_one_of, leads_into, IsMoveWithin}
-use Rattle.migration.specs.Within.{IsOneMove}
+use Rattle.migration.specs.Within.{IsOneMove, FitWithin}
 use Rattle.loc_tree.proofs.Away.{goes_within}
 
 -- ---- what a request tells whose location may move
@@ -251,9 +251,7 @@ pub record MovedWithin (seen : List ℕ) (i : AtomId) (t : Tree) (s : Site) (mov
   pub ok : IsMoveWithin seen i t s moved new e
   pub one_event : (rules_of : GroupParts → List NumberedRule)
       → IsOneMove rules_of seen i t s moved new e
-  pub keeps : HasEmitted moved new
-  pub in_code : (c : CodeParts) → is_in_code c t s ≡ true → is_in_code c moved new ≡ true
-  pub others_keep : (c : CodeParts) (v : Site) → StillFits c t v moved v
+  pub fit : FitWithin t s moved new
 
 -- the message is sent, and then the request is dropped
 pub sent_alone :
@@ -292,9 +290,11 @@ moved_within seen t s sent new i q b cont moved e there asks here kept in_tree m
       ok = move_within seen t s i q b cont there asks here.can here.number moved moves new e done;
       one_event = λ rules_of. one_move seen t s i q b cont there asks here.can here.number moved
           moves new e done kept in_tree rules_of;
-      keeps = within_keeps seen t s i q b cont there asks here.can here.number moved moves new e
-          done kept in_tree new left;
-      in_code = λ c coded. (others c new).in_code (ap (λ (v : Site). is_in_code c t v) is
-          ∙ sent_in_code seen s.number q.loc s.made cont t s sent e answers c coded);
-      others_keep = others;
+      fit = record {
+        site = within_keeps seen t s i q b cont there asks here.can here.number moved moves new e
+            done kept in_tree new left;
+        in_code = λ c coded. (others c new).in_code (ap (λ (v : Site). is_in_code c t v) is
+            ∙ sent_in_code seen s.number q.loc s.made cont t s sent e answers c coded);
+        others = others;
+      };
     }

@@ -1,11 +1,9 @@
 // Moves from one site to another.
-ghost use Rattle.std.specs.Prelude.{◌≡◌, List, [], true, Some, IfOk, OnErr, IsSome};
+ghost use Rattle.std.specs.Prelude.{◌≡◌, List, [], true, Some, IfOk, OnOk, OnErr, IsSome};
 ghost use Rattle.chem_model.specs.declared.numbered.NumberedRule.{NumberedRule};
 ghost use Rattle.wire_packet.specs.GroupFacts.{GroupParts};
 ghost use Rattle.wire_packet.specs.Operations.{IsPlain};
-ghost use Rattle.env_store.specs.CodeParts.{CodeParts};
 ghost use Rattle.loc_tree.specs.Tree.{Tree};
-ghost use Rattle.net_laws.specs.Site.{Site as site_of_net};
 ghost use Rattle.net_laws.specs.Holding.{request_with, drop_request};
 ghost use Rattle.net_laws.specs.ByCode.{told_by};
 ghost use Rattle.net_laws.specs.Meeting.{sent_here};
@@ -17,10 +15,9 @@ ghost use Rattle.site_solution.specs.InTree.{name_stands, is_in_tree};
 ghost use Rattle.site_solution.specs.InCode.{is_in_code};
 ghost use Rattle.site_solution.specs.Draws.{CanDraw};
 ghost use Rattle.site_solution.specs.Parcels.{CanReceive};
-ghost use Rattle.site_solution.specs.Staying.{AgreeBut, StillFits, HasReceived};
-ghost use Rattle.migration.specs.Moves.{can_go};
-ghost use Rattle.migration.specs.Within.{leads_into};
-ghost use Rattle.migration.specs.Across.{can_join, IsMoveBetween, IsOneMoveBetween};
+ghost use Rattle.site_solution.specs.Staying.{AgreeBut, HasReceived};
+ghost use Rattle.migration.specs.Across.{can_join, CanMoveBetween, IsMoveBetween, FitBetween};
+ghost use Rattle.migration.specs.Across.{IsOneMoveBetween};
 
 use crate::leaving::leave_out;
 use crate::moving::goal_of;
@@ -127,24 +124,14 @@ pub fn move_between(
     code: &Code,
     atom: &AtomId,
 ) -> Result<Effects, Memory>
-    requires from_tree { is_in_tree tree.old from.old ≡ true }
-    requires into_tree { is_in_tree tree.old into.old ≡ true }
-    requires from_code { is_in_code code.now tree.old from.old ≡ true }
-    requires into_code { is_in_code code.now tree.old into.old ≡ true }
-    requires can_draw { CanDraw tree.old into.old }
-    requires ready { can_go 2 tree.old atom.now from.old ≡ true }
-    requires hosted { leads_into atom.now from.old into.old ≡ true }
-    requires joins { can_join atom.now from.old into.old ≡ true }
+    requires { CanMoveBetween code.now tree.old from.old into.old atom.now }
     ensures ok { IfOk result (λ e. IsMoveBetween code.now.seen atom.now tree.old from.old into.old
         tree.new from.new into.new e) }
     ensures one_event { IfOk result (λ e. (rules_of : GroupParts → List NumberedRule)
         → IsOneMoveBetween rules_of code.now.seen atom.now tree.old from.old into.old
         from.new into.new e) }
-    ensures from_keeps { IfOk result (λ _.
-        StillFits code.now tree.old from.old tree.new from.new) }
-    ensures into_keeps { IfOk result (λ _. HasReceived code.now tree.new into.new) }
-    ensures others_keep { IfOk result (λ _. (c : CodeParts) (other : site_of_net)
-        → (other.number ≡ from.old.number → ⊥) → StillFits c tree.old other tree.new other) }
+    ensures fit { OnOk result
+        (FitBetween code.now tree.old from.old tree.new from.new into.new) }
     ensures err_from { OnErr result (from.new ≡ from.old) }
     ensures err_into { OnErr result (into.new ≡ into.old) }
     ensures err_tree { OnErr result (tree.new ≡ tree.old) }

@@ -9,4 +9,4 @@ mod ready;
 
 pub use carrying::{can_join, move_between};
 pub use moving::move_within;
-pub use ready::{leads_into, move_ready};
+pub use ready::{leads_into, move_ready, request_can_go};

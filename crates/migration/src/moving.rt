@@ -1,20 +1,12 @@
 // Moves within a site.
-ghost use Rattle.std.specs.Prelude.{◌≡◌, List, true, IfOk, OnErr};
+ghost use Rattle.std.specs.Prelude.{◌≡◌, List, true, IfOk, OnOk, OnErr};
 ghost use Rattle.chem_model.specs.declared.name.Name.TheVariants as name;
 ghost use Rattle.chem_model.specs.declared.numbered.NumberedRule.{NumberedRule};
 ghost use Rattle.wire_packet.specs.declared.packet.Ask.TheVariants as request;
 ghost use Rattle.wire_packet.specs.GroupFacts.{GroupParts, IsAskKept};
 ghost use Rattle.wire_packet.specs.Operations.{IsPlain};
-ghost use Rattle.env_store.specs.CodeParts.{CodeParts};
-ghost use Rattle.net_laws.specs.Site.{Site as site_of_net};
-ghost use Rattle.site_solution.specs.InTree.{is_in_tree};
-ghost use Rattle.site_solution.specs.InCode.{is_in_code};
-ghost use Rattle.site_solution.specs.Draws.{CanDraw};
-ghost use Rattle.site_solution.specs.Pours.{HasEmitted};
-ghost use Rattle.site_solution.specs.Staying.{StillFits};
 ghost use Rattle.migration.specs.inside.Moves.{has_goal};
-ghost use Rattle.migration.specs.Moves.{can_go};
-ghost use Rattle.migration.specs.Within.{leads_into, IsMoveWithin, IsOneMove};
+ghost use Rattle.migration.specs.Within.{CanMoveWithin, IsMoveWithin, FitWithin, IsOneMove};
 
 use chem_model::{AtomId, Items, Loc, Memory, Name, Nums};
 use loc_tree::{LocTree, tree_is_kept};
@@ -49,19 +41,12 @@ pub fn move_within(
     counts: &Nums,
     atom: &AtomId,
 ) -> Result<Effects, Memory>
-    requires in_tree { is_in_tree tree.old site.old ≡ true }
-    requires can_draw { CanDraw tree.old site.old }
-    requires ready { can_go 2 tree.old atom.now site.old ≡ true }
-    requires hosted { leads_into atom.now site.old site.old ≡ true }
+    requires { CanMoveWithin tree.old site.old atom.now }
     ensures ok { IfOk result (λ e.
         IsMoveWithin counts.now atom.now tree.old site.old tree.new site.new e) }
     ensures one_event { IfOk result (λ e. (rules_of : GroupParts → List NumberedRule)
         → IsOneMove rules_of counts.now atom.now tree.old site.old tree.new site.new e) }
-    ensures keeps { IfOk result (λ _. HasEmitted tree.new site.new) }
-    ensures in_code { IfOk result (λ _. (code : CodeParts)
-        → is_in_code code tree.old site.old ≡ true → is_in_code code tree.new site.new ≡ true) }
-    ensures others_keep { IfOk result (λ _. (code : CodeParts) (other : site_of_net)
-        → StillFits code tree.old other tree.new other) }
+    ensures fit { OnOk result (FitWithin tree.old site.old tree.new site.new) }
     ensures err { OnErr result (site.new ≡ site.old) }
     ensures err_tree { OnErr result (tree.new ≡ tree.old) }
 {

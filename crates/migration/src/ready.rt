@@ -3,6 +3,7 @@ ghost use Rattle.std.specs.Prelude.{◌≡◌, List, Some, true, IsSome};
 ghost use Rattle.chem_model.specs.declared.numbered.NumberedRule.{NumberedRule};
 ghost use Rattle.wire_packet.specs.GroupFacts.{GroupParts};
 ghost use Rattle.loc_tree.specs.Tree.{spot};
+ghost use Rattle.net_laws.specs.Holding.{request_with};
 ghost use Rattle.site_solution.specs.inside.InTree.{request_stands};
 ghost use Rattle.site_solution.specs.InTree.{is_in_tree};
 ghost use Rattle.migration.specs.Moves.{is_ready, can_go, ForetellsMove};
@@ -30,6 +31,17 @@ fn is_ready(tree: &LocTree, version: u32, request: &Request) -> bool
         }
         _ => false,
     }
+}
+
+/// Whether this request, which the site has, is one to go, which the rule Go allows, or in version 2
+/// the rule Fall. It looks nothing up at the site.
+pub fn request_can_go(site: &Site, tree: &LocTree, version: u32, request: &Request) -> bool
+    requires tree { is_in_tree tree.now site.now ≡ true }
+    requires here { request_with request.now.id site.now.requests ≡ Some request.now }
+    ensures { result ≡ can_go version tree.now request.now.id site.now }
+{
+    site_is_kept(site);
+    is_ready(tree, version, request)
 }
 
 /// Whether this is a request of the site to go, which the rule Go allows, or in version 2 the rule

@@ -31,7 +31,7 @@ use Rattle.site_solution.specs.Draws.{message_drawn}
 use Rattle.site_solution.specs.Held.{has_atom, taken_in, taken_at, without_fronts}
 use Rattle.site_solution.specs.InTree.{message_stands}
 use Rattle.site_solution.specs.Answers.{Answers}
-use Rattle.site_solution.specs.Staying.{HasReceived}
+use Rattle.site_solution.specs.Staying.{CanAct, HasReceived}
 use Rattle.site_solution.specs.declared.effects.Effects.{Effects}
 use Rattle.reducer.specs.declared.pick.Pick.{Pick}
 use Rattle.reducer.specs.Picks.{Picked, Fires}
@@ -44,7 +44,6 @@ use Rattle.net_laws.specs.Site.{Group}
 use Rattle.net_core.specs.declared.turn.Made.{Made}
 use Rattle.net_core.specs.Acting.{Reacts, Delivers}
 use Rattle.net_core.specs.inside.AtSites.{AllStayFit}
-use Rattle.site_turn.specs.Next.{CanAct}
 use Rattle.net_core.specs.inside.Alone.{IsAlone, HasArrived}
 use Rattle.site_turn.specs.Reacting.{ReactsOnce}
 use Rattle.net_core.specs.inside.Alone.{IsNoted, HasReacted}

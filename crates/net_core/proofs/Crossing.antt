@@ -9,19 +9,15 @@ use Rattle.loc_tree.specs.Tree.{Tree}
 use Rattle.net_laws.specs.Site.{Site}
 use Rattle.site_solution.specs.Staying.{StillFits, HasReceived}
 use Rattle.site_solution.specs.declared.effects.Effects.{Effects}
-use Rattle.migration.specs.Moves.{can_go}
-use Rattle.migration.specs.Within.{leads_into}
-use Rattle.migration.specs.Across.{can_join, IsMoveBetween}
+use Rattle.migration.specs.Across.{CanMoveBetween, IsMoveBetween, FitBetween}
 use Rattle.net_core.specs.inside.AtSites.{AllStayFit, MayCrossAt, CrossesAt}
 use Rattle.net_core.specs.inside.Fitting.{AreNumbered}
 use Rattle.net_core.specs.Whole.{AllFit}
-use Rattle.site_turn.specs.Next.{CanAct}
 use Rattle.net_core.proofs.Fitting.{fits_at, others_stay, stay_set, set_same}
 
-pub ok_three : {A E : Type 0} (P Q S R : Type 0) (r : Result A E) → (P → Q → S → R)
-    → IfOk r (λ _. P) → IfOk r (λ _. Q) → IfOk r (λ _. S) → OnOk r R
-ok_three P Q S R (Ok x) f p q s = f p q s
-ok_three P Q S R (Err e) f p q s = tt
+pub ok_one : {A E : Type 0} (P R : Type 0) (r : Result A E) → (P → R) → OnOk r P → OnOk r R
+ok_one P R (Ok x) f p = f p
+ok_one P R (Err e) f p = tt
 
 -- ---- the members of two parts of a list
 
@@ -80,36 +76,31 @@ both_set_back xs front back i j value x y far h long =
 
 -- ---- what the move asks of the two sites
 
-pub record MayMove (c : CodeParts) (t : Tree) (a : AtomId) (x y : Site) : Type 0 where
-  pub from : CanAct c t x
-  pub into : CanAct c t y
-  pub can : can_go 2 t a x ≡ true
-  pub hosted : leads_into a x y ≡ true
-  pub joins : can_join a x y ≡ true
-
 module _ (c : CodeParts) (t : Tree) (sites : List Site) (i j : ℕ) (a : AtomId)
     (may : MayCrossAt 2 t sites i j a) (fit : AllFit c t sites) (front back : List Site)
     (value : sites ≡ front ++ back) (d e : Site) where
-  may_move : (x y : Site) → x ≡ may.from → y ≡ may.into → MayMove c t a x y
+  may_move : (x y : Site) → x ≡ may.from → y ≡ may.into → CanMoveBetween c t x y a
   may_move x y x_is y_is =
-      subst (λ (s : Site). MayMove c t a s y) (sym x_is)
-      (subst (λ (s : Site). MayMove c t a may.from s) (sym y_is)
+      let fits = fits_at c t sites i may.from fit may.from_is in
+      subst (λ (s : Site). CanMoveBetween c t s y a) (sym x_is)
+      (subst (λ (s : Site). CanMoveBetween c t may.from s a) (sym y_is)
       (record {
-        from = fits_at c t sites i may.from fit may.from_is;
-        into = fits_at c t sites j may.into fit may.into_is;
-        can = may.can;
+        in_tree = fits.in_tree;
+        in_code = fits.in_code;
+        receiver = fits_at c t sites j may.into fit may.into_is;
+        may = may.can;
         hosted = may.hosted;
         joins = may.joins;
       }))
 
   pub may_up : i < length front → length front ≡ j
-      → MayMove c t a (slice_index_or front i d) (slice_index_or back 0 e)
+      → CanMoveBetween c t (slice_index_or front i d) (slice_index_or back 0 e) a
   may_up less long = may_move (slice_index_or front i d) (slice_index_or back 0 e)
       (before sites front back i value may.from d less may.from_is)
       (behind sites front back j value may.into e long may.into_is)
 
   pub may_down : j < length front → length front ≡ i
-      → MayMove c t a (slice_index_or back 0 d) (slice_index_or front j e)
+      → CanMoveBetween c t (slice_index_or back 0 d) (slice_index_or front j e) a
   may_down less long = may_move (slice_index_or back 0 d) (slice_index_or front j e)
       (behind sites front back i value may.from d long may.from_is)
       (before sites front back j value may.into e less may.into_is)
@@ -153,17 +144,12 @@ module _ {E : Type 0} (t u : Tree) (sites : List Site) (i j : ℕ) (a : AtomId)
       go (Err e) m = tt
 
   pub cross_fit : (c : CodeParts) → AllFit c t sites → AreNumbered sites
-      → IfOk r (λ _. StillFits c t old_from u left) → IfOk r (λ _. HasReceived c u after)
-      → IfOk r (λ _. (d : CodeParts) (other : Site) → (other.number ≡ old_from.number → ⊥)
-      → StillFits d t other u other)
-      → OnOk r (AllStayFit c u new)
-  cross_fit c fit numbered from_keeps into_keeps others =
-      ok_three (StillFits c t old_from u left) (HasReceived c u after)
-      ((d : CodeParts) (other : Site) → (other.number ≡ old_from.number → ⊥)
-      → StillFits d t other u other) (AllStayFit c u new) r
-      (λ still received far_still.
+      → OnOk r (FitBetween c t old_from u left after) → OnOk r (AllStayFit c u new)
+  cross_fit c fit numbered fits_both =
+      ok_one (FitBetween c t old_from u left after) (AllStayFit c u new) r
+      (λ both.
       let fits = fits_at c t sites i may.from fit may.from_is in
-      let kept = subst (λ (s : Site). StillFits c t s u left) from_is still in
+      let kept = subst (λ (s : Site). StillFits c t s u left) from_is both.from in
       let draws = kept.draws fits.draws in
       let left_fits : HasReceived c u left = record {
         all_there = kept.in_tree fits.in_tree;
@@ -174,10 +160,10 @@ module _ {E : Type 0} (t u : Tree) (sites : List Site) (i j : ℕ) (a : AtomId)
       let number : old_from.number ≡ i =
       ap (λ (s : Site). s.number) from_is ∙ numbered i may.from may.from_is in
       let rest = others_stay c t u sites i left numbered
-      (λ s far. far_still c s (λ same. far (same ∙ number))) fit left_fits in
+      (λ s far. both.others c s (λ same. far (same ∙ number))) fit left_fits in
       subst (AllStayFit c u) (sym new_is)
-      (stay_set c u (slice_set sites i left) j after rest received))
-      from_keeps into_keeps others
+      (stay_set c u (slice_set sites i left) j after rest both.into))
+      fits_both
 
   pub cross_err : OnErr r (left ≡ old_from) → OnErr r (after ≡ old_into) → OnErr r (new ≡ sites)
   cross_err from_same into_same = go r from_same into_same

@@ -16,6 +16,7 @@ use Rattle.loc_tree.specs.Tree.{Tree, bare}
 use Rattle.net_laws.specs.Site.{Site}
 use Rattle.net_laws.specs.Net.{Addressed, Net, among, home_or, address, without_packet, IsOnItsWay}
 use Rattle.net_laws.specs.Holding.{put}
+use Rattle.site_solution.specs.Staying.{CanAct}
 use Rattle.net_core.specs.UnderWay.{with_packets}
 use Rattle.net_laws.proofs.Holds.{each_get}
 use Rattle.router.specs.Delivering.{home_at, can_deliver}
@@ -26,7 +27,6 @@ use Rattle.net_core.specs.Whole.{AllFit, AreFlying, IsWhole, IsRunning}
 use Rattle.net_core.specs.Acting.{Delivers, delivered}
 use Rattle.net_core.specs.inside.Handing.{AreAsBefore}
 use Rattle.net_core.specs.Playing.{deliver}
-use Rattle.site_turn.specs.Next.{CanAct}
 use Rattle.site_turn.specs.Bringing.{IsBroughtTo, GoesOn, Brings}
 use Rattle.net_core.specs.inside.Delivering.{IsBrought}
 use Rattle.net_core.specs.inside.Delivering.{IsTextBroughtAt}

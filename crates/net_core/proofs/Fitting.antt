@@ -13,10 +13,9 @@ use Rattle.net_laws.proofs.Holds.{each_get}
 use Rattle.site_solution.specs.InTree.{is_in_tree}
 use Rattle.site_solution.specs.InCode.{is_in_code}
 use Rattle.site_solution.specs.Draws.{all_drawn, CanDraw}
-use Rattle.site_solution.specs.Staying.{StillFits, HasReceived}
+use Rattle.site_solution.specs.Staying.{CanAct, StillFits, HasReceived}
 use Rattle.net_core.specs.inside.AtSites.{AllStayFit}
 use Rattle.net_core.specs.inside.Fitting.{AreNumbered}
-use Rattle.site_turn.specs.Next.{CanAct}
 use Rattle.net_core.specs.Whole.{AllFit}
 
 -- one site

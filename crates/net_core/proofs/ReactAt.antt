@@ -9,10 +9,10 @@ use Rattle.net_laws.specs.Site.{Site}
 use Rattle.chem_model.specs.declared.event.Event.{Event}
 use Rattle.site_solution.specs.InCode.{is_in_code}
 use Rattle.site_solution.specs.declared.effects.Effects.{Effects}
+use Rattle.site_solution.specs.Staying.{CanAct}
 use Rattle.reducer.specs.declared.pick.Pick.{Pick}
 use Rattle.reducer.specs.Picks.{Picked, Picks, Fires, MayFire, IsToldAs}
 use Rattle.reducer.proofs.Levels.{level_at, told_as}
-use Rattle.site_turn.specs.Next.{CanAct}
 use Rattle.site_turn.specs.Reacting.{ReactsBy}
 use Rattle.net_core.specs.inside.AtSites.{MayReactAt, ReactsAt}
 use Rattle.net_core.specs.Whole.{AllFit}

@@ -16,12 +16,12 @@ use Rattle.net_laws.specs.Rounds.{WorksOff}
 use Rattle.site_solution.specs.InTree.{is_in_tree}
 use Rattle.site_solution.specs.InCode.{is_in_code}
 use Rattle.site_solution.specs.Draws.{CanDraw}
+use Rattle.site_solution.specs.Staying.{CanAct}
 use Rattle.net_laws.proofs.Holds.{each_get}
 use Rattle.net_core.specs.declared.parts.Parts.{Parts}
 use Rattle.net_core.specs.declared.senders.Run.{Run}
 use Rattle.net_core.specs.declared.slots.Slot.{Slot}
 use Rattle.net_core.specs.declared.turn.Work.{Work}
-use Rattle.site_turn.specs.Next.{CanAct}
 use Rattle.net_core.specs.inside.Alone.{IsAlone, IsWorked}
 use Rattle.net_core.specs.Lending.{mail_to, WorksAlone, AllAreLent, no_site, a_site, AreSentInTurn}
 use Rattle.net_core.specs.Lending.{no_sender, a_sender}

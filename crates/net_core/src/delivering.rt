@@ -3,8 +3,8 @@ ghost use Rattle.std.specs.Prelude.{◌≡◌, ℕ, ◌<◌, ◌≤◌, ◌++◌
 ghost use Rattle.std.specs.Prelude.{true, IfOk, OnOk, OnErr};
 ghost use Rattle.env_store.specs.CodeParts.{CodeParts};
 ghost use Rattle.net_laws.specs.Site.{Site as site_seen};
+ghost use Rattle.site_solution.specs.Staying.{CanAct};
 ghost use Rattle.router.specs.Delivering.{can_deliver};
-ghost use Rattle.site_turn.specs.Next.{CanAct};
 ghost use Rattle.site_turn.specs.Bringing.{Brings};
 ghost use Rattle.net_core.specs.declared.choice.Choice.TheVariants as choices;
 ghost use Rattle.net_core.specs.Acting.{Delivers};

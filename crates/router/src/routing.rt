@@ -6,9 +6,7 @@ ghost use Rattle.wire_packet.specs.GroupFacts.{GroupParts};
 ghost use Rattle.env_store.specs.CodeParts.{CodeParts};
 ghost use Rattle.loc_tree.specs.Tree.{spot};
 ghost use Rattle.net_laws.specs.Net.{home_or, address};
-ghost use Rattle.site_solution.specs.InTree.{is_in_tree};
-ghost use Rattle.site_solution.specs.InCode.{is_in_code};
-ghost use Rattle.site_solution.specs.Draws.{CanDraw};
+ghost use Rattle.site_solution.specs.Staying.{StillFits};
 ghost use Rattle.router.specs.Delivering.{is_channel, can_deliver, IsDelivery, IsNoEvent};
 
 use chem_model::{Loc, Memory, Name};
@@ -88,10 +86,7 @@ pub fn deliver(site: &mut Site, tree: &LocTree, msg: Msg) -> Result<Delivery, (M
     ensures ok { IfOk result (λ delivery. IsDelivery tree.now site.old msg delivery site.new) }
     ensures no_event { IfOk result (λ delivery. (rules_of : GroupParts → List NumberedRule)
         → IsNoEvent rules_of tree.now site.old msg delivery site.new) }
-    ensures in_tree { is_in_tree tree.now site.old ≡ true → is_in_tree tree.now site.new ≡ true }
-    ensures in_code { (code : CodeParts) → is_in_code code tree.now site.old ≡ true
-        → is_in_code code tree.now site.new ≡ true }
-    ensures draws { CanDraw tree.now site.old → CanDraw tree.now site.new }
+    ensures fits { (code : CodeParts) → StillFits code tree.now site.old tree.now site.new }
     ensures err { OnErr result (site.new ≡ site.old) }
     ensures back { IfErr result (λ back. back.0 ≡ msg) }
 {

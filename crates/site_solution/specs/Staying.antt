@@ -1,5 +1,5 @@
 -- What the tests of a site say after a change of the site or of the tree.
-use Rattle.std.specs.Prelude.{◌≡◌, ℕ, List, true, false, is_some}
+use Rattle.std.specs.Prelude.{◌≡◌, ℕ, List, true, false, is_some, IsTrue}
 use Rattle.chem_model.specs.declared.name.Loc.{Loc}
 use Rattle.chem_model.specs.Each.{Each}
 use Rattle.chem_model.specs.Solution.{same_loc}
@@ -10,6 +10,12 @@ use Rattle.net_laws.specs.Net.{with_births}
 use Rattle.site_shelves.specs.InTree.{is_in_tree}
 use Rattle.site_shelves.specs.InCode.{is_in_code}
 use Rattle.site_shelves.specs.Draws.{all_drawn, CanDraw}
+
+-- what the calls over a site need of it
+pub record CanAct (c : CodeParts) (t : Tree) (s : Site) : Type 0 where
+  pub in_tree : IsTrue (is_in_tree t s)
+  pub in_code : IsTrue (is_in_code c t s)
+  pub draws : CanDraw t s
 
 -- both trees have the same locations, and all but this one have the same number in both
 pub record AgreeBut (l : Loc) (t u : Tree) : Type 0 where

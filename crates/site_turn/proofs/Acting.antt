@@ -21,6 +21,7 @@ use Rattle.site_solution.specs.Answers.{Answers}
 use Rattle.site_solution.specs.Draws.{CanDraw}
 use Rattle.site_solution.specs.Held.{taken_at}
 use Rattle.site_solution.specs.declared.effects.Effects.{Effects}
+use Rattle.site_solution.specs.Staying.{CanAct}
 use Rattle.reducer.specs.declared.pick.Pick.{Pick}
 use Rattle.reducer.specs.Picks.{Picked, Picks, MayFire}
 use Rattle.reducer.specs.Fronts.{event_of}
@@ -29,7 +30,6 @@ use Rattle.reducer.specs.Reacted.{Reacts}
 use Rattle.site_turn.specs.declared.turn.Turn.{Turn}
 use Rattle.site_turn.specs.declared.turn.Turn.TheVariants.{Did, Passed, Nothing, NotEnabled, Full}
 use Rattle.site_turn.specs.Mail.{IsMessageFlight}
-use Rattle.site_turn.specs.Next.{CanAct}
 use Rattle.site_turn.specs.After.{AreNone, IsLeft, AfterPick, StaysFitAt, MeetsAsk}
 use Rattle.site_turn.specs.After.{AfterCrossing, IsSameTree, FitsHere}
 use Rattle.site_turn.proofs.Bearing.{births_new}

@@ -6,6 +6,7 @@ use Rattle.wire_packet.specs.MessageFacts.{MessageParts}
 use Rattle.wire_packet.specs.declared.packet.Flight.{Flight}
 use Rattle.wire_packet.specs.declared.parcel.Packet.TheVariants as packet
 use Rattle.wire_packet.specs.Codec.{IsSpelledBy}
+use Rattle.env_store.specs.CodeParts.{CodeParts}
 use Rattle.loc_tree.specs.Tree.{Tree}
 use Rattle.net_laws.specs.Site.{Site}
 use Rattle.net_laws.specs.Net.{among, address}
@@ -13,9 +14,19 @@ use Rattle.net_laws.specs.Holding.{put}
 use Rattle.router.specs.declared.routing.Delivery.TheVariants.{Delivered, Forward}
 use Rattle.router.specs.Delivering.{can_deliver, home_at, IsDelivery}
 use Rattle.site_solution.specs.Answers.{AreFlights}
+use Rattle.site_solution.specs.Staying.{CanAct, StillFits}
 use Rattle.site_turn.specs.Arriving.{Arrival, brought, come}
 use Rattle.site_turn.specs.Bringing.{IsBroughtTo, GoesOn, Brings}
 use Rattle.site_turn.specs.inside.Coming.{Comes}
+
+-- where the tests of one site say what those of another do, its calls have what they need
+pub still_acts : (c : CodeParts) (t u : Tree) (old new : Site) → StillFits c t old u new
+    → CanAct c t old → CanAct c u new
+still_acts c t u old new fits act = record {
+  in_tree = fits.in_tree act.in_tree;
+  in_code = fits.in_code act.in_code;
+  draws = fits.draws act.draws;
+}
 
 module _ (t : Tree) (s : Site) (m : MessageParts) (bytes : List ℕ) (on : List Flight)
     (new : Site) where

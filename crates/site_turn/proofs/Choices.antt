@@ -16,6 +16,7 @@ use Rattle.env_store.specs.CodeParts.{CodeParts}
 use Rattle.loc_tree.specs.Tree.{Tree, is_alive, can_move, can_fall}
 use Rattle.net_laws.specs.Site.{Site}
 use Rattle.net_laws.specs.Holding.{request_with}
+use Rattle.site_solution.specs.Staying.{CanAct}
 use Rattle.reducer.specs.declared.pick.Pick.{Pick}
 use Rattle.reducer.specs.Picks.{Picked, Picks, IsCovered, IsToldAs, MayFire}
 use Rattle.reducer.specs.Ready.{IsReady}
@@ -25,7 +26,7 @@ use Rattle.failure.specs.Halts as halts
 use Rattle.failure.specs.Deaths as deaths
 use Rattle.migration.specs.Moves as moves
 use Rattle.site_turn.specs.declared.next.Chosen.TheVariants as choice
-use Rattle.site_turn.specs.Next.{CanAct, may_meet}
+use Rattle.site_turn.specs.Next.{may_meet}
 use Rattle.site_turn.specs.After.{IsEventOf}
 
 module _ (c : CodeParts) (t : Tree) (s : Site) (p : Pick) (act : CanAct c t s)

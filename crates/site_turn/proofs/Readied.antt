@@ -6,13 +6,14 @@ use Rattle.loc_tree.specs.Tree.{Tree}
 use Rattle.net_laws.specs.Site.{Site}
 use Rattle.net_laws.specs.Net.{with_births}
 use Rattle.site_solution.specs.declared.effects.Effects.{Effects}
+use Rattle.site_solution.specs.Staying.{CanAct}
 use Rattle.reducer.specs.declared.pick.Pick.{Pick}
 use Rattle.reducer.specs.Picks.{Picked, Picks, MayFire}
 use Rattle.reducer.specs.Reacting.{ran_by}
 use Rattle.site_turn.specs.declared.next.Chosen.{Chosen}
 use Rattle.site_turn.specs.declared.next.Chosen.TheVariants as choice
 use Rattle.site_turn.specs.declared.turn.Turn.{Turn}
-use Rattle.site_turn.specs.Next.{CanAct, ChoosesPick, Chooses, MayMake}
+use Rattle.site_turn.specs.Next.{ChoosesPick, Chooses, MayMake}
 use Rattle.site_turn.specs.After.{HasRoomFor, IsReadied, AfterPick, AfterChosen}
 use Rattle.site_turn.proofs.Acting.{act_room, fire_room, same_room, has_room, pick_same}
 use Rattle.site_turn.proofs.Bearing.{births_room}

@@ -68,6 +68,32 @@ place_of (x ∷ qs) a q e = go (same_atom x.id a) e (place_of qs a q)
     go true f ih = (0, f)
     go false f ih = let later = ih f in (suc later.0, later.1)
 
+-- and a member is found, where ids rise
+differs : (a b : AtomId) → precedes a b ≡ true → same_atom a b ≡ false
+differs a b e = pairs a.site a.k b.site b.k e
+  where
+    pairs : (s k t j : ℕ) → nat_lt s t || ((s == t) && nat_lt k j) ≡ true
+        → (s == t) && (k == j) ≡ false
+    pairs s k t j e = grind (arith, nat_tests)
+
+is_same : (a : AtomId) → same_atom a a ≡ true
+is_same a = pairs a.site a.k
+  where
+    pairs : (s k : ℕ) → (s == s) && (k == k) ≡ true
+    pairs s k = grind (arith, nat_tests)
+
+pub found_at : (qs : List RequestParts) (k : ℕ) (q : RequestParts) → Rising qs
+    → slice_get qs k ≡ Some q → request_with q.id qs ≡ Some q
+found_at [] k q rising e = cc
+found_at (x ∷ qs) zero q rising e =
+    let same : x ≡ q = cc in
+    ap (λ (y : RequestParts). cond (same_atom y.id q.id) (Some y) (request_with q.id qs)) same
+    ∙ ap (λ (b : Bool). cond b (Some q) (request_with q.id qs)) (is_same q.id)
+found_at (x ∷ qs) (suc k) q rising e =
+    ap (λ (b : Bool). cond b (Some x) (request_with q.id qs))
+    (differs x.id q.id (after_at x.id qs k q rising.0 e))
+    ∙ found_at qs k q rising.1 e
+
 past_end : (qs : List RequestParts) (i : ℕ) → slice_get qs i ≡ None → length qs ≤ i
 past_end [] i e = omega arith
 past_end (x ∷ qs) zero e = cc

@@ -14,6 +14,7 @@ use Rattle.net_laws.specs.Net.{with_births}
 use Rattle.net_laws.specs.Holding.{request_with, drop_request}
 use Rattle.site_solution.specs.Held.{taken_at}
 use Rattle.site_solution.specs.declared.effects.Effects.{Effects}
+use Rattle.site_solution.specs.Staying.{CanAct}
 use Rattle.reducer.specs.declared.pick.Pick.{Pick}
 use Rattle.reducer.specs.Picks.{Picked, Picks}
 use Rattle.reducer.specs.Fronts.{event_of}
@@ -27,7 +28,6 @@ use Rattle.site_turn.specs.declared.next.Chosen.{Chosen}
 use Rattle.site_turn.specs.declared.next.Chosen.TheVariants as chosen
 use Rattle.site_turn.specs.declared.turn.Turn.{Turn}
 use Rattle.site_turn.specs.declared.turn.Turn.TheVariants.{Did, Passed, Nothing, NotEnabled, Full}
-use Rattle.site_turn.specs.Next.{CanAct}
 
 -- ---- the event of a choice
 

@@ -1,5 +1,5 @@
 -- What a site does next.
-use Rattle.std.specs.Prelude.{◌≡◌, ℕ, Bool, true, false, ◌||◌, Some, is_some, IsTrue}
+use Rattle.std.specs.Prelude.{◌≡◌, ℕ, Bool, true, false, ◌||◌, Some, is_some}
 use Rattle.chem_model.specs.declared.name.Loc.{Loc}
 use Rattle.chem_model.specs.declared.name.Name.{Name}
 use Rattle.chem_model.specs.declared.name.Name.TheVariants as name
@@ -11,9 +11,7 @@ use Rattle.loc_tree.specs.Tree.{Tree}
 use Rattle.net_laws.specs.Site.{Site}
 use Rattle.net_laws.specs.Net.{address}
 use Rattle.net_laws.specs.Holding.{precedes, request_with}
-use Rattle.site_solution.specs.InTree.{is_in_tree}
-use Rattle.site_solution.specs.InCode.{is_in_code}
-use Rattle.site_solution.specs.Draws.{CanDraw}
+use Rattle.site_solution.specs.Staying.{CanAct}
 use Rattle.reducer.specs.declared.pick.Pick.{Pick}
 use Rattle.reducer.specs.Picks.{Picked, Picks}
 use Rattle.reducer.specs.Ready.{NoneFires, IsReady}
@@ -22,12 +20,6 @@ use Rattle.failure.specs.Deaths.{dead_for}
 use Rattle.migration.specs.Moves.{can_go}
 use Rattle.site_turn.specs.declared.next.Chosen.{Chosen}
 use Rattle.site_turn.specs.declared.next.Chosen.TheVariants as chosen
-
--- what the calls over a site need of it
-pub record CanAct (c : CodeParts) (t : Tree) (s : Site) : Type 0 where
-  pub in_tree : IsTrue (is_in_tree t s)
-  pub in_code : IsTrue (is_in_code c t s)
-  pub draws : CanDraw t s
 
 -- ---- requests
 

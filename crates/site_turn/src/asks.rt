@@ -7,11 +7,12 @@ ghost use Rattle.chem_model.specs.declared.event.Event.{Event as event};
 ghost use Rattle.net_laws.specs.Holding.{request_with};
 ghost use Rattle.site_solution.specs.Draws.{CanDraw};
 ghost use Rattle.site_solution.specs.InTree.{is_in_tree};
+ghost use Rattle.site_solution.specs.Staying.{CanAct};
 ghost use Rattle.migration.specs.Moves.{can_go};
 ghost use Rattle.site_turn.specs.declared.next.Chosen.TheVariants as choice;
 ghost use Rattle.site_turn.specs.declared.turn.Turn.TheVariants as turns;
 ghost use Rattle.site_turn.specs.Mail.{IsMessageFlight};
-ghost use Rattle.site_turn.specs.Next.{CanAct, may_meet, IsToGo, LeadsTo};
+ghost use Rattle.site_turn.specs.Next.{may_meet, IsToGo, LeadsTo};
 ghost use Rattle.site_turn.specs.After.{event_for, IsEventOf, FitsHere, FitsAcross};
 ghost use Rattle.site_turn.specs.After.{MeetsAsk, AfterAsk, AfterChosen, AfterCrossing};
 

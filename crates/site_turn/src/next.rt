@@ -1,17 +1,20 @@
 // What a site does next. It takes no memory.
-ghost use Rattle.std.specs.Prelude.{◌≡◌, ◌↔◌, Ok, IfNone, IfSome, IsTrue};
+ghost use Rattle.std.specs.Prelude.{◌≡◌, ◌↔◌, Ok, Some, IfNone, IfSome, IsTrue};
+ghost use Rattle.net_laws.specs.Holding.{request_with};
 ghost use Rattle.site_solution.specs.InTree.{is_in_tree};
-ghost use Rattle.site_turn.specs.Next.{CanAct, may_meet, NoneMeets, IsLeastMet};
+ghost use Rattle.site_solution.specs.Staying.{CanAct};
+ghost use Rattle.site_turn.specs.Next.{may_meet, NoneMeets, IsLeastMet};
 ghost use Rattle.site_turn.specs.Next.{Chooses};
 
 use chem_model::{AtomId, Memory, Program};
 use env_store::Code;
-use failure::{dead_for, halt_ready};
+use failure::{request_can_halt, request_sees_death};
 use loc_tree::LocTree;
-use migration::move_ready;
+use migration::request_can_go;
 use reducer::{Pick, ready};
 use site_solution::{Site, site_is_kept};
 use std::alloc::Global;
+use wire_packet::Request;
 
 /// What a site does next.
 #[derive(Clone, Copy, PartialEq, Eq, Debug)]
@@ -39,14 +42,15 @@ pub(crate) fn can_act(site: &Site, code: &Code, tree: &LocTree) -> bool
     site.in_tree(tree) && site.in_code(code, tree) && site.can_draw(tree)
 }
 
-// Whether the site has a request with this id that may be met in a program of this version.
-fn may_meet(site: &Site, tree: &LocTree, version: u32, atom: &AtomId) -> bool
-    requires { IsTrue (is_in_tree tree.now site.now) }
-    ensures { result ≡ may_meet version tree.now site.now atom.now }
+// Whether this request, which the site has, may be met in a program of this version.
+fn may_meet(site: &Site, tree: &LocTree, version: u32, request: &Request) -> bool
+    requires tree { IsTrue (is_in_tree tree.now site.now) }
+    requires here { request_with request.now.id site.now.requests ≡ Some request.now }
+    ensures { result ≡ may_meet version tree.now site.now request.now.id }
 {
-    move_ready(site, tree, version, atom)
-        || halt_ready(site, tree, atom)
-        || dead_for(site, tree, atom).is_some()
+    request_can_go(site, tree, version, request)
+        || request_can_halt(site, tree, request)
+        || request_sees_death(site, tree, request)
 }
 
 /// Of the requests that may be met the one with the least id.
@@ -58,7 +62,7 @@ pub fn least_met(site: &Site, tree: &LocTree, version: u32) -> Option<AtomId>
     site_is_kept(site);
     let mut index = 0;
     while let Some(request) = site.request_at(index) {
-        if may_meet(site, tree, version, &request.id) {
+        if may_meet(site, tree, version, request) {
             return Some(request.id);
         }
         index += 1;

@@ -6,13 +6,14 @@ ghost use Rattle.chem_model.specs.Each.{Each};
 ghost use Rattle.net_laws.specs.Net.{with_births};
 ghost use Rattle.net_laws.specs.Opened.{AreNew};
 ghost use Rattle.site_solution.specs.Held.{queues_of, taken_at};
+ghost use Rattle.site_solution.specs.Staying.{CanAct};
 ghost use Rattle.reducer.specs.Picks.{Picked, Picks, MayFire, IsPick};
 ghost use Rattle.reducer.specs.Reacting.{ran_by};
 ghost use Rattle.site_turn.specs.declared.next.Chosen.TheVariants as choice;
 ghost use Rattle.site_turn.specs.declared.turn.Turn.TheVariants as turns;
 ghost use Rattle.site_turn.specs.Mail.{IsMessageFlight};
 ghost use Rattle.site_turn.specs.Reacting.{ReactsBy};
-ghost use Rattle.site_turn.specs.Next.{CanAct, ChoosesPick, OpensNone};
+ghost use Rattle.site_turn.specs.Next.{ChoosesPick, OpensNone};
 ghost use Rattle.site_turn.specs.After.{IsEventOf};
 ghost use Rattle.site_turn.specs.After.{AfterPick, StaysFitAt, IsSameTree, HasRoomFor};
 

@@ -2,9 +2,10 @@
 // event is made ready before, and the sites change after.
 ghost use Rattle.std.specs.Prelude.{◌≡◌, ◌≢◌, IfOk, OnErr};
 ghost use Rattle.chem_model.specs.Each.{Each};
+ghost use Rattle.site_solution.specs.Staying.{CanAct};
 ghost use Rattle.site_turn.specs.declared.next.Chosen.TheVariants as choice;
 ghost use Rattle.site_turn.specs.Mail.{IsMessageFlight};
-ghost use Rattle.site_turn.specs.Next.{CanAct, ChoosesPick, MayMake, IsToGo};
+ghost use Rattle.site_turn.specs.Next.{ChoosesPick, MayMake, IsToGo};
 ghost use Rattle.site_turn.specs.After.{IsEventOf, StaysFitAt, IsSameTree};
 ghost use Rattle.site_turn.specs.Desk.{ProposesPick, ProposesChosen, ProposesMove};
 ghost use Rattle.site_turn.specs.Desk.{MayHaveProposed};

@@ -43,8 +43,8 @@ arrive-requires-clause-can c =
     sym (ap (joins i from into) there) ∙ c.requires.joins in
     let may = can_receive from into q.loc i q (λ _. q.loc) there apart
     c.site_is_kept.ensures.once c.site_is_kept-2.ensures.once t c.site_is_kept.ensures.kept
-    c.site_is_kept-2.ensures.kept c.site_is_kept.ensures.numbers c.requires.can_draw in
-    let same = carries c.args.code.now t from i q c.in_ok-parcel.parcel c.requires.from_code there
+    c.site_is_kept-2.ensures.kept c.site_is_kept.ensures.numbers c.requires.receiver.draws in
+    let same = carries c.args.code.now t from i q c.in_ok-parcel.parcel c.requires.in_code there
     (c.in_ok-parcel.ensures
     ∙ ap (λ (r : RequestParts). parcel_of (pack r.loc (drop_request r.id from)))
     (sym c.request.view_is)) in
@@ -62,7 +62,7 @@ alive-lives-requires c =
     let k : Name = c.goal_of-cont.result.1 in
     let there : request_with i from.requests ≡ Some q =
     c.asked-request.ensures ∙ ap (λ (r : RequestParts). Some r) (sym c.request.view_is) in
-    (goal_stands t from i q b k c.requires.from_tree there c.goal_of-cont.ensures.asks).0
+    (goal_stands t from i q b k c.requires.in_tree there c.goal_of-cont.ensures.asks).0
 
 pub arrive-requires-clause-plain : goal.arrive-requires-clause-plain
 arrive-requires-clause-plain c = c.goal_of-cont.ensures.plain c.request.invariant
@@ -81,7 +81,7 @@ returns c =
     c.asked-request.ensures ∙ ap (λ (r : RequestParts). Some r) (sym c.request.view_is) in
     let apart : is_apart into i (pack q.loc from) ≡ true =
     sym (ap (joins i from into) there) ∙ c.requires.joins in
-    let same = carries c.args.code.now t from i q c.in_ok-parcel.parcel c.requires.from_code there
+    let same = carries c.args.code.now t from i q c.in_ok-parcel.parcel c.requires.in_code there
     (c.in_ok-parcel.ensures
     ∙ ap (λ (r : RequestParts). parcel_of (pack r.loc (drop_request r.id from)))
     (sym c.request.view_is)) in
@@ -93,27 +93,27 @@ returns c =
     subst (λ (u : Bool). let a = moved_made u c.args.code.now.seen into.number q.loc into.made k in
     Answers (sent_here t a (take_in (pack q.loc (drop_request i from)) into)) a.outs []
     c.arrive.new.into c.in_ok-effects.effects) c.alive-lives.ensures.tree came in
-    let can = one_goal t q.loc q.ask b k (may_move t from i c.requires.ready q there)
+    let can = one_goal t q.loc q.ask b k (may_move t from i c.requires.may q there)
     c.goal_of-cont.ensures.asks in
     let here = target_here from into i q b k c.requires.hosted there c.goal_of-cont.ensures.asks in
     let number =
-    target_number t into q.loc b c.tree_is_kept.ensures c.requires.into_tree can here in
+    target_number t into q.loc b c.tree_is_kept.ensures c.requires.receiver.in_tree can here in
     let away = joins_away from into q.loc i apart in
-    let moved = agree t from into i q b there can c.site_is_kept.ensures.kept c.requires.from_tree
+    let moved = agree t from into i q b there can c.site_is_kept.ensures.kept c.requires.in_tree
     c.tree_is_kept.ensures number c.rehost.new.self c.rehost.ensures.tree in
     let there_too = subst (λ (l : Loc). AgreeBut l t c.rehost.new.self)
     (sym (ap (λ (load : Load). load.loc) same)) moved in
     let rootless = no_root t from into i q b there can c.site_is_kept.ensures.kept
-    c.requires.from_tree c.tree_is_kept.ensures number c.rehost.new.self c.rehost.ensures.tree in
+    c.requires.in_tree c.tree_is_kept.ensures number c.rehost.new.self c.rehost.ensures.tree in
     let drawn = comes_drawn from into q.loc i q (λ _. q.loc) there apart
     c.site_is_kept.ensures.once c.site_is_kept-2.ensures.once in
     let fits =
     subst (λ (load : Load). FitsInto c.args.code.now c.rehost.new.self load into) (sym same)
     (comes_fit t from into i q b there can
-    c.site_is_kept.ensures.kept c.requires.from_tree c.tree_is_kept.ensures number
-    c.rehost.new.self c.rehost.ensures.tree c.args.code.now c.requires.from_code drawn) in
+    c.site_is_kept.ensures.kept c.requires.in_tree c.tree_is_kept.ensures number
+    c.rehost.new.self c.rehost.ensures.tree c.args.code.now c.requires.in_code drawn) in
     let named =
-    (goal_stands t from i q b k c.requires.from_tree there c.goal_of-cont.ensures.asks).1 in
+    (goal_stands t from i q b k c.requires.in_tree there c.goal_of-cont.ensures.asks).1 in
     record {
       ok = move_between c.args.code.now.seen t from into i q b k there
           c.goal_of-cont.ensures.asks number c.rehost.new.self c.rehost.ensures.tree
@@ -123,14 +123,16 @@ returns c =
           c.goal_of-cont.ensures.asks number c.rehost.new.self c.rehost.ensures.tree
           c.remove.new.self c.arrive.new.into c.remove.ensures.is c.in_ok-effects.effects
           c.site_is_kept.ensures.kept c.site_is_kept-2.ensures.kept away answers rules_of
-          c.requires.from_tree;
-      from_keeps = c.remove.ensures.keeps c.args.code.now t c.rehost.new.self moved rootless;
-      into_keeps = c.in_ok-effects.ensures.keeps t c.rehost.new.self there_too fits
-          (name_there t c.rehost.new.self moved.there k named)
-          c.requires.into_tree c.requires.into_code c.requires.can_draw;
-      others_keep =
-          others_keep t from into i q b there can c.site_is_kept.ensures.kept c.requires.from_tree
-          c.tree_is_kept.ensures number c.rehost.new.self c.rehost.ensures.tree;
+          c.requires.in_tree;
+      fit = record {
+        from = c.remove.ensures.keeps c.args.code.now t c.rehost.new.self moved rootless;
+        into = c.in_ok-effects.ensures.keeps t c.rehost.new.self there_too fits
+            (name_there t c.rehost.new.self moved.there k named)
+            c.requires.receiver.in_tree c.requires.receiver.in_code c.requires.receiver.draws;
+        others =
+            others_keep t from into i q b there can c.site_is_kept.ensures.kept c.requires.in_tree
+            c.tree_is_kept.ensures number c.rehost.new.self c.rehost.ensures.tree;
+      };
       err_from = tt;
       err_into = tt;
       err_tree = tt;

@@ -29,7 +29,7 @@ emit-requires-clause-alive c =
     let k : Name = c.goal_of-cont.result.1 in
     let there : request_with i s.requests ≡ Some q =
     c.asked-request.ensures ∙ ap (λ (r : RequestParts). Some r) (sym c.request.view_is) in
-    (leaves t q.loc b (one_goal t q.loc q.ask b k (may_move t s i c.requires.ready q there)
+    (leaves t q.loc b (one_goal t q.loc q.ask b k (may_move t s i c.requires.may q there)
     c.goal_of-cont.ensures.asks)).lives
 
 pub emit-requires-clause-can : goal.emit-requires-clause-can
@@ -45,7 +45,7 @@ emit-requires-clause-can c =
     c.asked-request.ensures ∙ ap (λ (r : RequestParts). Some r) (sym c.request.view_is) in
     let stands = (goal_stands t s i q b k c.requires.in_tree there c.goal_of-cont.ensures.asks).1 in
     subst (λ (args : List Name). CanEmit t k args s) (sym c.new-args.ensures)
-    (can_emit t s k c.requires.in_tree c.requires.can_draw stands
+    (can_emit t s k c.requires.in_tree c.requires.draws stands
     (c.goal_of-cont.ensures.plain c.request.invariant))
 
 pub drop_request-requires : goal.drop_request-requires
@@ -57,7 +57,7 @@ drop_request-requires c =
     let sent = sent_alone c.args.counts.now l k c.new-args.result t s
     c.emit.new.self c.in_ok-effects.effects c.new-args.ensures c.in_ok-effects.ensures.ok in
     still_asked c.args.counts.now s.number l s.made k t s c.emit.new.self c.in_ok-effects.effects
-    sent c.args.atom.now (asked_there t s c.args.atom.now c.requires.ready)
+    sent c.args.atom.now (asked_there t s c.args.atom.now c.requires.may)
 
 pub returns : goal.returns
 returns c =
@@ -71,7 +71,7 @@ returns c =
     let there : request_with i s.requests ≡ Some q =
     c.asked-request.ensures ∙ ap (λ (r : RequestParts). Some r) (sym c.request.view_is) in
     let here = moves_here t s i q b k c.tree_is_kept.ensures c.site_is_kept.ensures.kept
-    c.requires.in_tree c.requires.ready c.requires.hosted there c.goal_of-cont.ensures.asks in
+    c.requires.in_tree c.requires.may c.requires.hosted there c.goal_of-cont.ensures.asks in
     let sent = sent_alone c.args.counts.now q.loc k c.new-args.result t s
     c.emit.new.self c.in_ok-effects.effects c.new-args.ensures c.in_ok-effects.ensures.ok in
     let it = moved_within c.args.counts.now t s c.emit.new.self c.drop_request.new.self i q b k
@@ -81,9 +81,7 @@ returns c =
     record {
       ok = it.ok;
       one_event = it.one_event;
-      keeps = it.keeps;
-      in_code = it.in_code;
-      others_keep = it.others_keep;
+      fit = it.fit;
       err = tt;
       err_tree = tt;
     }

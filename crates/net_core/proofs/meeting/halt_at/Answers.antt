@@ -1,7 +1,9 @@
 use Rattle.std.proofs.Common.{◌≡◌, true, refl, subst}
 use Rattle.std.proofs.lemmas.Option.{get_or_from_slice_get}
+use Rattle.std.specs.Prelude.{slice_index_or}
 use Rattle.net_laws.specs.Site.{Site}
 use Rattle.failure.specs.Halts.{can_halt, IsHalt}
+use Rattle.site_turn.proofs.Bringing.{still_acts}
 use Rattle.net_core.proofs.AtSite.{asked_at}
 use Rattle.net_core.proofs.Fitting.{all_fit_set, all_still}
 use Rattle.net_core.proofs.ReactAt.{fits_or}
@@ -29,12 +31,9 @@ returns-clause-halts c = λ s at. record {
 
 pub returns-clause-fit : goal.returns-clause-fit
 returns-clause-fit c = λ code fit.
-    let here = fits_or code c.args.tree.now c.args.sites.now c.args.number c.requires.may.site
-    c.index-sites-number.result fit c.requires.may.site_is in
     all_fit_set code c.halt.new.tree c.args.sites.now c.args.number c.halt.new.site (all_still code
     c.args.tree.now c.halt.new.tree c.args.sites.now (λ s. c.halt.ensures.others_keep code s) fit)
-    (record {
-      in_tree = c.halt.ensures.in_tree;
-      in_code = c.halt.ensures.in_code code here.in_code;
-      draws = c.halt.ensures.draws here.draws;
-    })
+    (still_acts code c.args.tree.now c.halt.new.tree
+    (slice_index_or c.args.sites.now c.args.number c.index-sites-number.result) c.halt.new.site
+    (c.halt.ensures.fits code) (fits_or code c.args.tree.now c.args.sites.now c.args.number
+    c.requires.may.site c.index-sites-number.result fit c.requires.may.site_is))

@@ -46,8 +46,7 @@ returns-then-from-into-clause-fit c =
     cross_fit c.args.tree.now c.move_between.new.tree sites i j c.args.atom.now may
     (slice_index_or front i c.index-front-from.result) (slice_index_or back 0 c.index-back-0.result)
     c.move_between.new.from c.move_between.new.into x_is y_is new new_is c.move_between.result
-    c.args.code.now c.requires.fit c.requires.numbered c.move_between.ensures.from_keeps
-    c.move_between.ensures.into_keeps c.move_between.ensures.others_keep
+    c.args.code.now c.requires.fit c.requires.numbered c.move_between.ensures.fit
 
 pub returns-then-from-into-clause-err : goal.returns-then-from-into-clause-err
 returns-then-from-into-clause-err c =
@@ -124,9 +123,7 @@ returns-else-from-into-clause-fit c =
     (slice_index_or front j c.index-front-into.result)
     c.move_between-else-from-into.new.from c.move_between-else-from-into.new.into x_is y_is new
     new_is c.move_between-else-from-into.result c.args.code.now c.requires.fit c.requires.numbered
-    c.move_between-else-from-into.ensures.from_keeps
-    c.move_between-else-from-into.ensures.into_keeps
-    c.move_between-else-from-into.ensures.others_keep
+    c.move_between-else-from-into.ensures.fit
 
 pub returns-else-from-into-clause-err : goal.returns-else-from-into-clause-err
 returns-else-from-into-clause-err c =
@@ -155,169 +152,24 @@ returns-else-from-into-clause-err c =
     c.move_between-else-from-into.new.into x_is y_is new new_is c.move_between-else-from-into.result
     c.move_between-else-from-into.ensures.err_from c.move_between-else-from-into.ensures.err_into
 
-pub move_between-requires-clause-from_tree : goal.move_between-requires-clause-from_tree
-move_between-requires-clause-from_tree c =
+pub move_between-requires : goal.move_between-requires
+move_between-requires c =
     let front = c.split_at_mut-front.result.0.now in
     let less : c.args.ends.0 < length front = omega arith in
-    (may_up c.args.code.now c.args.tree.now c.args.sites.now c.args.ends.0 c.args.ends.1 c.args.atom.now
-    c.requires.may c.requires.fit front c.split_at_mut-front.result.1.now
+    may_up c.args.code.now c.args.tree.now c.args.sites.now c.args.ends.0 c.args.ends.1
+    c.args.atom.now c.requires.may c.requires.fit front c.split_at_mut-front.result.1.now
     c.split_at_mut-front.ensures.value c.index-front-from.result c.index-back-0.result less
-    c.split_at_mut-front.ensures.front_len).from.in_tree
+    c.split_at_mut-front.ensures.front_len
 
-pub move_between-requires-clause-into_tree : goal.move_between-requires-clause-into_tree
-move_between-requires-clause-into_tree c =
-    let front = c.split_at_mut-front.result.0.now in
-    let less : c.args.ends.0 < length front = omega arith in
-    (may_up c.args.code.now c.args.tree.now c.args.sites.now c.args.ends.0 c.args.ends.1 c.args.atom.now
-    c.requires.may c.requires.fit front c.split_at_mut-front.result.1.now
-    c.split_at_mut-front.ensures.value c.index-front-from.result c.index-back-0.result less
-    c.split_at_mut-front.ensures.front_len).into.in_tree
-
-pub move_between-requires-clause-from_code : goal.move_between-requires-clause-from_code
-move_between-requires-clause-from_code c =
-    let front = c.split_at_mut-front.result.0.now in
-    let less : c.args.ends.0 < length front = omega arith in
-    (may_up c.args.code.now c.args.tree.now c.args.sites.now c.args.ends.0 c.args.ends.1 c.args.atom.now
-    c.requires.may c.requires.fit front c.split_at_mut-front.result.1.now
-    c.split_at_mut-front.ensures.value c.index-front-from.result c.index-back-0.result less
-    c.split_at_mut-front.ensures.front_len).from.in_code
-
-pub move_between-requires-clause-into_code : goal.move_between-requires-clause-into_code
-move_between-requires-clause-into_code c =
-    let front = c.split_at_mut-front.result.0.now in
-    let less : c.args.ends.0 < length front = omega arith in
-    (may_up c.args.code.now c.args.tree.now c.args.sites.now c.args.ends.0 c.args.ends.1 c.args.atom.now
-    c.requires.may c.requires.fit front c.split_at_mut-front.result.1.now
-    c.split_at_mut-front.ensures.value c.index-front-from.result c.index-back-0.result less
-    c.split_at_mut-front.ensures.front_len).into.in_code
-
-pub move_between-requires-clause-can_draw : goal.move_between-requires-clause-can_draw
-move_between-requires-clause-can_draw c =
-    let front = c.split_at_mut-front.result.0.now in
-    let less : c.args.ends.0 < length front = omega arith in
-    (may_up c.args.code.now c.args.tree.now c.args.sites.now c.args.ends.0 c.args.ends.1 c.args.atom.now
-    c.requires.may c.requires.fit front c.split_at_mut-front.result.1.now
-    c.split_at_mut-front.ensures.value c.index-front-from.result c.index-back-0.result less
-    c.split_at_mut-front.ensures.front_len).into.draws
-
-pub move_between-requires-clause-ready : goal.move_between-requires-clause-ready
-move_between-requires-clause-ready c =
-    let front = c.split_at_mut-front.result.0.now in
-    let less : c.args.ends.0 < length front = omega arith in
-    (may_up c.args.code.now c.args.tree.now c.args.sites.now c.args.ends.0 c.args.ends.1 c.args.atom.now
-    c.requires.may c.requires.fit front c.split_at_mut-front.result.1.now
-    c.split_at_mut-front.ensures.value c.index-front-from.result c.index-back-0.result less
-    c.split_at_mut-front.ensures.front_len).can
-
-pub move_between-requires-clause-hosted : goal.move_between-requires-clause-hosted
-move_between-requires-clause-hosted c =
-    let front = c.split_at_mut-front.result.0.now in
-    let less : c.args.ends.0 < length front = omega arith in
-    (may_up c.args.code.now c.args.tree.now c.args.sites.now c.args.ends.0 c.args.ends.1 c.args.atom.now
-    c.requires.may c.requires.fit front c.split_at_mut-front.result.1.now
-    c.split_at_mut-front.ensures.value c.index-front-from.result c.index-back-0.result less
-    c.split_at_mut-front.ensures.front_len).hosted
-
-pub move_between-requires-clause-joins : goal.move_between-requires-clause-joins
-move_between-requires-clause-joins c =
-    let front = c.split_at_mut-front.result.0.now in
-    let less : c.args.ends.0 < length front = omega arith in
-    (may_up c.args.code.now c.args.tree.now c.args.sites.now c.args.ends.0 c.args.ends.1 c.args.atom.now
-    c.requires.may c.requires.fit front c.split_at_mut-front.result.1.now
-    c.split_at_mut-front.ensures.value c.index-front-from.result c.index-back-0.result less
-    c.split_at_mut-front.ensures.front_len).joins
-
-pub move_between-requires-else-from-into-clause-from_tree :
-    goal.move_between-requires-else-from-into-clause-from_tree
-move_between-requires-else-from-into-clause-from_tree c =
+pub move_between-requires-else-from-into : goal.move_between-requires-else-from-into
+move_between-requires-else-from-into c =
     let front = c.split_at_mut-front-else-from-into.result.0.now in
     let less : c.args.ends.1 < length front = let far = c.requires.may.away in omega arith in
-    (may_down c.args.code.now c.args.tree.now c.args.sites.now c.args.ends.0 c.args.ends.1
+    may_down c.args.code.now c.args.tree.now c.args.sites.now c.args.ends.0 c.args.ends.1
     c.args.atom.now c.requires.may c.requires.fit front
     c.split_at_mut-front-else-from-into.result.1.now
     c.split_at_mut-front-else-from-into.ensures.value c.index-back-0-else-from-into.result
-    c.index-front-into.result less
-    c.split_at_mut-front-else-from-into.ensures.front_len).from.in_tree
-
-pub move_between-requires-else-from-into-clause-into_tree :
-    goal.move_between-requires-else-from-into-clause-into_tree
-move_between-requires-else-from-into-clause-into_tree c =
-    let front = c.split_at_mut-front-else-from-into.result.0.now in
-    let less : c.args.ends.1 < length front = let far = c.requires.may.away in omega arith in
-    (may_down c.args.code.now c.args.tree.now c.args.sites.now c.args.ends.0 c.args.ends.1
-    c.args.atom.now c.requires.may c.requires.fit front
-    c.split_at_mut-front-else-from-into.result.1.now
-    c.split_at_mut-front-else-from-into.ensures.value c.index-back-0-else-from-into.result
-    c.index-front-into.result less
-    c.split_at_mut-front-else-from-into.ensures.front_len).into.in_tree
-
-pub move_between-requires-else-from-into-clause-from_code :
-    goal.move_between-requires-else-from-into-clause-from_code
-move_between-requires-else-from-into-clause-from_code c =
-    let front = c.split_at_mut-front-else-from-into.result.0.now in
-    let less : c.args.ends.1 < length front = let far = c.requires.may.away in omega arith in
-    (may_down c.args.code.now c.args.tree.now c.args.sites.now c.args.ends.0 c.args.ends.1
-    c.args.atom.now c.requires.may c.requires.fit front
-    c.split_at_mut-front-else-from-into.result.1.now
-    c.split_at_mut-front-else-from-into.ensures.value c.index-back-0-else-from-into.result
-    c.index-front-into.result less
-    c.split_at_mut-front-else-from-into.ensures.front_len).from.in_code
-
-pub move_between-requires-else-from-into-clause-into_code :
-    goal.move_between-requires-else-from-into-clause-into_code
-move_between-requires-else-from-into-clause-into_code c =
-    let front = c.split_at_mut-front-else-from-into.result.0.now in
-    let less : c.args.ends.1 < length front = let far = c.requires.may.away in omega arith in
-    (may_down c.args.code.now c.args.tree.now c.args.sites.now c.args.ends.0 c.args.ends.1
-    c.args.atom.now c.requires.may c.requires.fit front
-    c.split_at_mut-front-else-from-into.result.1.now
-    c.split_at_mut-front-else-from-into.ensures.value c.index-back-0-else-from-into.result
-    c.index-front-into.result less
-    c.split_at_mut-front-else-from-into.ensures.front_len).into.in_code
-
-pub move_between-requires-else-from-into-clause-can_draw :
-    goal.move_between-requires-else-from-into-clause-can_draw
-move_between-requires-else-from-into-clause-can_draw c =
-    let front = c.split_at_mut-front-else-from-into.result.0.now in
-    let less : c.args.ends.1 < length front = let far = c.requires.may.away in omega arith in
-    (may_down c.args.code.now c.args.tree.now c.args.sites.now c.args.ends.0 c.args.ends.1
-    c.args.atom.now c.requires.may c.requires.fit front
-    c.split_at_mut-front-else-from-into.result.1.now
-    c.split_at_mut-front-else-from-into.ensures.value c.index-back-0-else-from-into.result
-    c.index-front-into.result less c.split_at_mut-front-else-from-into.ensures.front_len).into.draws
-
-pub move_between-requires-else-from-into-clause-ready :
-    goal.move_between-requires-else-from-into-clause-ready
-move_between-requires-else-from-into-clause-ready c =
-    let front = c.split_at_mut-front-else-from-into.result.0.now in
-    let less : c.args.ends.1 < length front = let far = c.requires.may.away in omega arith in
-    (may_down c.args.code.now c.args.tree.now c.args.sites.now c.args.ends.0 c.args.ends.1
-    c.args.atom.now c.requires.may c.requires.fit front
-    c.split_at_mut-front-else-from-into.result.1.now
-    c.split_at_mut-front-else-from-into.ensures.value c.index-back-0-else-from-into.result
-    c.index-front-into.result less c.split_at_mut-front-else-from-into.ensures.front_len).can
-
-pub move_between-requires-else-from-into-clause-hosted :
-    goal.move_between-requires-else-from-into-clause-hosted
-move_between-requires-else-from-into-clause-hosted c =
-    let front = c.split_at_mut-front-else-from-into.result.0.now in
-    let less : c.args.ends.1 < length front = let far = c.requires.may.away in omega arith in
-    (may_down c.args.code.now c.args.tree.now c.args.sites.now c.args.ends.0 c.args.ends.1
-    c.args.atom.now c.requires.may c.requires.fit front
-    c.split_at_mut-front-else-from-into.result.1.now
-    c.split_at_mut-front-else-from-into.ensures.value c.index-back-0-else-from-into.result
-    c.index-front-into.result less c.split_at_mut-front-else-from-into.ensures.front_len).hosted
-
-pub move_between-requires-else-from-into-clause-joins :
-    goal.move_between-requires-else-from-into-clause-joins
-move_between-requires-else-from-into-clause-joins c =
-    let front = c.split_at_mut-front-else-from-into.result.0.now in
-    let less : c.args.ends.1 < length front = let far = c.requires.may.away in omega arith in
-    (may_down c.args.code.now c.args.tree.now c.args.sites.now c.args.ends.0 c.args.ends.1
-    c.args.atom.now c.requires.may c.requires.fit front
-    c.split_at_mut-front-else-from-into.result.1.now
-    c.split_at_mut-front-else-from-into.ensures.value c.index-back-0-else-from-into.result
-    c.index-front-into.result less c.split_at_mut-front-else-from-into.ensures.front_len).joins
+    c.index-front-into.result less c.split_at_mut-front-else-from-into.ensures.front_len
 
 pub returns-then-from-into-clause-err_tree : goal.returns-then-from-into-clause-err_tree
 returns-then-from-into-clause-err_tree c = c.move_between.ensures.err_tree

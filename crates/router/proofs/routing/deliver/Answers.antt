@@ -45,29 +45,18 @@ returns-in-Ok-clause-no_event c = λ rules_of.
     c.msg.view_is c.home_of-home.ensures) (sym c.has.ensures ∙ c.if-not-has.false)
     c.in-Ok.ensures.ok)
 
-pub returns-in-Ok-clause-in_tree : goal.returns-in-Ok-clause-in_tree
-returns-in-Ok-clause-in_tree c =
-    delivery_in_tree c.args.tree.now c.args.site.now c.args.msg c.site_is_kept.ensures.kept
-    c.requires Delivered c.put.new.self
-    (there c.args.tree.now c.args.site.now c.args.msg c.home_of-home.result c.put.new.self
+pub returns-in-Ok-clause-fits : goal.returns-in-Ok-clause-fits
+returns-in-Ok-clause-fits c = λ code.
+    let kept = c.site_is_kept.ensures.kept in
+    let is = there c.args.tree.now c.args.site.now c.args.msg c.home_of-home.result c.put.new.self
     (subst (λ (m : MessageParts). (l : Loc) → home_or l m.on ≡ c.home_of-home.result)
     c.msg.view_is c.home_of-home.ensures) (sym c.has.ensures ∙ c.if-not-has.false)
-    c.in-Ok.ensures.ok)
-
-pub returns-in-Ok-clause-in_code : goal.returns-in-Ok-clause-in_code
-returns-in-Ok-clause-in_code c = λ code.
-    delivery_in_code c.args.tree.now c.args.site.now c.args.msg c.site_is_kept.ensures.kept
-    c.requires code Delivered c.put.new.self
-    (there c.args.tree.now c.args.site.now c.args.msg c.home_of-home.result c.put.new.self
-    (subst (λ (m : MessageParts). (l : Loc) → home_or l m.on ≡ c.home_of-home.result)
-    c.msg.view_is c.home_of-home.ensures) (sym c.has.ensures ∙ c.if-not-has.false)
-    c.in-Ok.ensures.ok)
-
-pub returns-in-Ok-clause-draws : goal.returns-in-Ok-clause-draws
-returns-in-Ok-clause-draws c =
-    delivery_draws c.args.tree.now c.args.site.now c.args.msg c.site_is_kept.ensures.kept c.requires
-    Delivered c.put.new.self
-    (there c.args.tree.now c.args.site.now c.args.msg c.home_of-home.result c.put.new.self
-    (subst (λ (m : MessageParts). (l : Loc) → home_or l m.on ≡ c.home_of-home.result)
-    c.msg.view_is c.home_of-home.ensures) (sym c.has.ensures ∙ c.if-not-has.false)
-    c.in-Ok.ensures.ok)
+    c.in-Ok.ensures.ok in
+    record {
+      in_tree = delivery_in_tree c.args.tree.now c.args.site.now c.args.msg kept c.requires Delivered
+          c.put.new.self is;
+      in_code = delivery_in_code c.args.tree.now c.args.site.now c.args.msg kept c.requires code
+          Delivered c.put.new.self is;
+      draws = delivery_draws c.args.tree.now c.args.site.now c.args.msg kept c.requires Delivered
+          c.put.new.self is;
+    }

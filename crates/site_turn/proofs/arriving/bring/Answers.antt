@@ -3,7 +3,7 @@ use Rattle.router.specs.declared.routing.Delivery.{Delivery}
 use Rattle.router.specs.declared.routing.Delivery.TheVariants.{Forward}
 use Rattle.router.specs.Delivering.{IsDelivery}
 use Rattle.site_turn.specs.Bringing.{Brings}
-use Rattle.site_turn.proofs.Bringing.{brought_on}
+use Rattle.site_turn.proofs.Bringing.{brought_on, still_acts}
 use Rattle.site_turn.proofs.Results.{on_ok}
 use Rattle.site_turn.proofs.arriving.bring.Goals as goal
 
@@ -23,3 +23,8 @@ returns-in-Ok-Forward-clause-ok c =
     on_ok (c.add_flight.new.on ≡ on ++ record { target = target; bytes = bytes } ∷ [])
     (Brings t s m bytes on new c.add_flight.new.on) c.add_flight.result
     (brought_on t s m bytes on new target msg c.add_flight.new.on delivers) c.add_flight.ensures
+
+pub returns-in-Ok-Delivered-clause-fit : goal.returns-in-Ok-Delivered-clause-fit
+returns-in-Ok-Delivered-clause-fit c = λ code.
+    still_acts code c.args.tree.now c.args.tree.now c.args.site.now c.deliver.new.site
+    (c.deliver.ensures.fits code)

@@ -7,6 +7,18 @@ use Rattle.site_turn.specs.Mail.{IsMessageFlight}
 use Rattle.site_turn.proofs.Acting.{crossing_sent}
 use Rattle.site_turn.proofs.asks.after_crossing.Goals as goal
 
+pub move_between-requires : goal.move_between-requires
+move_between-requires c =
+    let fits = c.requires.fits c.in-Did.field-0 c.in-Did.is in
+    record {
+      in_tree = c.requires.act.in_tree;
+      in_code = c.requires.act.in_code;
+      receiver = fits.act;
+      may = c.requires.goes;
+      hosted = fits.hosted;
+      joins = fits.joins;
+    }
+
 pub returns-in-Did-clause-sends : goal.returns-in-Did-clause-sends
 returns-in-Did-clause-sends c =
     let seen = c.args.code.now.seen in

@@ -27,22 +27,23 @@ met_of : (t : Tree) (s : Site) (q r : RequestParts) → q ≡ r → may_meet 2 t
     → may_meet 2 t s q.id ≡ true
 met_of t s q r same met = subst (λ (x : RequestParts). may_meet 2 t s x.id ≡ true) (sym same) met
 
-pub move_within-requires-clause-ready : goal.move_within-requires-clause-ready
-move_within-requires-clause-ready c =
+pub move_within-requires : goal.move_within-requires
+move_within-requires c =
     let t = c.args.tree.now in
     let s = c.args.site.now in
     let q : RequestParts =
     record { id = c.request.inside.id; loc = c.request.inside.loc; ask = c.request.inside.ask } in
-    can_go_now 2 t s q.id q (here_of s q c.args.request.now c.request.view_is c.requires.here)
-    (met_of t s q c.args.request.now c.request.view_is c.requires.met)
-    c.in-Go.target c.in-Go.cont c.in-Go.is
-
-pub move_within-requires-clause-hosted : goal.move_within-requires-clause-hosted
-move_within-requires-clause-hosted c =
-    let s = c.args.site.now in
-    subst (λ (v : Ask). FitsHere s (event_for v c.request.inside.id)) c.in-Go.is
-    (subst (λ (x : RequestParts). FitsHere s (event_for x.ask x.id)) (sym c.request.view_is)
-    c.requires.fits)
+    record {
+      in_tree = c.requires.there;
+      draws = c.requires.draws;
+      may = can_go_now 2 t s q.id q
+          (here_of s q c.args.request.now c.request.view_is c.requires.here)
+          (met_of t s q c.args.request.now c.request.view_is c.requires.met)
+          c.in-Go.target c.in-Go.cont c.in-Go.is;
+      hosted = subst (λ (v : Ask). FitsHere s (event_for v c.request.inside.id)) c.in-Go.is
+          (subst (λ (x : RequestParts). FitsHere s (event_for x.ask x.id)) (sym c.request.view_is)
+          c.requires.fits);
+    }
 
 pub detect-requires-clause-dead : goal.detect-requires-clause-dead
 detect-requires-clause-dead c =

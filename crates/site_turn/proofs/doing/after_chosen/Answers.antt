@@ -2,10 +2,11 @@ use Rattle.std.proofs.Common.{◌≡◌, true, sym, subst}
 use Rattle.net_laws.specs.Net.{with_births}
 use Rattle.loc_tree.specs.Tree.{Tree}
 use Rattle.site_solution.specs.declared.effects.Effects.{Effects}
+use Rattle.site_solution.specs.Staying.{CanAct}
 use Rattle.reducer.proofs.Reactions.{if_ok, if_ok_both}
 use Rattle.site_turn.specs.declared.next.Chosen.{Chosen}
 use Rattle.site_turn.specs.declared.next.Chosen.TheVariants as choice
-use Rattle.site_turn.specs.Next.{CanAct, may_meet, MayMake}
+use Rattle.site_turn.specs.Next.{may_meet, MayMake}
 use Rattle.site_turn.specs.After.{IsReadied, AfterPick, AfterChosen}
 use Rattle.site_turn.proofs.Readied.{room_act, room_fire, room_few, pick_done, ask_done}
 use Rattle.site_turn.proofs.doing.after_chosen.Goals as goal
