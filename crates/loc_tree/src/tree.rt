@@ -140,11 +140,11 @@ fn look(spots: &IndexMap<(u32, u64), Spot>, pair: (u32, u64), guess: usize) -> (
     }
 }
 
-// The spot of a location, if the map has it. Nothing is known of its place.
+// The spot of a location, if the map has it. Nothing is known of its place: it may be the newest.
 fn find(spots: &IndexMap<(u32, u64), Spot>, loc: &Loc) -> Option<Spot>
     ensures { result ≡ lookup (is_pair_of loc.now) spots.now.entries }
 {
-    look(spots, (loc.site, loc.k), 0).0
+    look(spots, (loc.site, loc.k), spots.len().saturating_sub(1)).0
 }
 
 // Whether there is a spot, and it has this number.

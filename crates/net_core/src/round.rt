@@ -42,9 +42,10 @@ fn round_of<R: Threads + Sync>(
     ensures sent { OnOk result
         (HasSent code.now limits.quota parts.old parts.new senders.new.items) }
 {
+    let room = Vec::with_capacity(alloc, parts.sites.len())?;
     let flights = mem::replace(&mut parts.flights, VecDeque::new(alloc));
     let mail = flights.into_vec();
-    let sites = mem::replace(&mut parts.sites, Vec::new(alloc));
+    let sites = mem::replace(&mut parts.sites, room);
     let mut slots = slots_of(alloc, sites)?;
     let round = Round {
         code,

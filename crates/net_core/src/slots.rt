@@ -31,7 +31,7 @@ pub(crate) struct Slot {
 pub(crate) fn slots_of(alloc: Global, sites: Vec<Site>) -> Result<Vec<Slot>, Memory>
     ensures { IfOk result (λ slots. slots.items ≡ map slot_of sites.items) }
 {
-    let mut slots = Vec::new(alloc);
+    let mut slots = Vec::with_capacity(alloc, sites.len())?;
     for site in sites {
         slots.push(Slot { site, work: None })?;
     }

@@ -46,12 +46,6 @@ impl Places {
         }
     }
 
-    pub fn has(&self, loc: &Loc) -> bool
-        ensures { result ≡ among self.now.locs loc.now }
-    {
-        self.pairs.contains(&(loc.site, loc.k))
-    }
-
     // Whether the location stands at this place.
     fn is_at(&self, loc: &Loc, place: usize) -> bool
         ensures { IsTrue result → among self.now.locs loc.now ≡ true }
@@ -60,6 +54,20 @@ impl Places {
             Some(pair) => loc.site == pair.0 && loc.k == pair.1,
             None => false,
         }
+    }
+
+    /// Whether the location is one of them. Most ask for the first one or for the last, so only
+    /// others are looked for by their hash.
+    pub fn has(&self, loc: &Loc) -> bool
+        ensures { result ≡ among self.now.locs loc.now }
+    {
+        if self.is_at(loc, 0) {
+            return true;
+        }
+        if self.is_at(loc, self.pairs.len().saturating_sub(1)) {
+            return true;
+        }
+        self.pairs.contains(&(loc.site, loc.k))
     }
 
     // The place of a location, if it is among them. It is looked for near a place first, there and

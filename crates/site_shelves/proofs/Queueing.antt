@@ -521,3 +521,28 @@ absent ds d site k at apart has = go (locate ds site k at) refl
         let here = has-channel d site k at has in
         absurd (last-apart ds d there.told t.group apart there.is t.chan (k - d.inst.chans.k)
         there.chan.within here.within (sym there.chan.on ∙ here.on))
+
+-- ---- the first group
+
+-- what the code reads where the first group has the channel is the queue that takes the message
+pub first-spot :
+    (qs : Rows) (m : MessageParts) (site k : ℕ) (home : Loc) (q : Queued Told MessageParts) (c : ℕ)
+    (r : Option Spot) → slice_get qs 0 ≡ Some q → m.on ≡ name.Chan site k home
+    → has_channel q.told site k home ≡ true → k - q.told.inst.chans.k ≡ c
+    → r ≡ on_count (slice_get q.told.counts c) (length m.args) (record { group = 0; chan = c })
+    → spot_of (told_of qs) m ≡ r
+first-spot [] m site k home q c r there on has from read = absurd (cc)
+first-spot (p ∷ qs) m site k home q c r there on has from read =
+    let same : p ≡ q = cc in
+    let ds = told_of qs in
+    let count = length m.args in
+    let t : ℕ → Spot = λ j. record { group = 0; chan = j } in
+    let here : has_channel p.told site k home ≡ true =
+    ap (λ (x : Queued Told MessageParts). has_channel x.told site k home) same ∙ has in
+    let at : locate (p.told ∷ ds) site k home ≡ Some (t (k - p.told.inst.chans.k)) =
+    ap (λ b. cond b (Some (t (k - p.told.inst.chans.k))) (locate_from 1 ds site k home)) here in
+    ap (λ n. spot_on (p.told ∷ ds) n count) on ∙ ap (with_count (p.told ∷ ds) count) at
+    ∙ ap (λ (x : Queued Told MessageParts).
+    on_count (slice_get x.told.counts (k - x.told.inst.chans.k)) count
+    (t (k - x.told.inst.chans.k))) same
+    ∙ ap (λ j. on_count (slice_get q.told.counts j) count (t j)) from ∙ sym read

@@ -1,6 +1,6 @@
 // The queue of a message's channel.
 ghost use Rattle.std.specs.Prelude.{◌≡◌, ◌≤◌, ◌<◌, ◌+◌, ◌-◌, ◌^◌, ◌++◌, ◌∷◌, [], ℕ, List};
-ghost use Rattle.std.specs.Prelude.{Some, cond};
+ghost use Rattle.std.specs.Prelude.{Some, cond, true, IfSome};
 ghost use Rattle.std.specs.Prelude.{length, slice_get, vec_capacity, IsTrue, OnOk, OnErr, IfErr};
 ghost use Rattle.std.specs.HashMap as hash;
 ghost use Rattle.std.specs.HashMap.{spare};
@@ -14,10 +14,11 @@ ghost use Rattle.site_shelves.specs.inside.New.{IsNewGroup};
 ghost use Rattle.site_shelves.specs.inside.Index.{key_of, is_one_of, holding};
 ghost use Rattle.site_shelves.specs.inside.Index.{groups_of, told_of, same_key, spot_of};
 ghost use Rattle.site_shelves.specs.inside.Index.{on_count, Rise, place_of, IsIndex, HasRoom};
+ghost use Rattle.site_shelves.specs.inside.Index.{has_channel};
 
 use crate::covering::{Covering, refresh, refresh_on};
 use crate::told::{Mark, NewGroup, Spot, Spots, Told};
-use chem_model::{AtomId, Loc, Memory, Name};
+use chem_model::{AtomId, Loc, Memory, Name, same_loc};
 use queue_cells::Groups;
 use std::alloc::Global;
 use std::collections::HashMap;
@@ -76,8 +77,38 @@ fn with_count(told: &Told, spot: Spot, count: usize) -> Option<Spot>
     }
 }
 
-// The queue that takes a message, if there is one.
-pub(crate) fn find(groups: &Groups<Told, Msg>, spots: &Spots, msg: &Msg) -> Option<Spot>
+// Whether the channel is one of those of the group of which this is told.
+fn has_channel(told: &Told, site: u32, k: u64, home: Loc) -> bool
+    ensures { IsTrue result → has_channel told.now site k home ≡ true }
+{
+    let first = told.inst.chans;
+    if site != first.site || k < first.k {
+        return false;
+    }
+    k - first.k < told.counts.len() as u64 && same_loc(told.inst.loc, home)
+}
+
+// The queue that takes a message, where it is one of the first group's: these are a site's own
+// channels, which most messages are on.
+fn find_first(groups: &Groups<Told, Msg>, msg: &Msg) -> Option<Spot>
+    ensures { IfSome result (λ spot. spot_of (told_of groups.now.groups) msg.now ≡ Some spot) }
+{
+    let Name::Chan { site, k, home } = msg.on else {
+        return None;
+    };
+    if groups.len() == 0 {
+        return None;
+    }
+    let told = groups.told(0);
+    if !has_channel(told, site, k, home) {
+        return None;
+    }
+    let chan = u32::try_from(k.checked_sub(told.inst.chans.k)?).ok()?;
+    with_count(told, Spot { group: 0, chan }, msg.args.len())
+}
+
+// The queue that takes a message, if there is one, by the index.
+fn look_up(groups: &Groups<Told, Msg>, spots: &Spots, msg: &Msg) -> Option<Spot>
     requires { IsIndex spots.now (groups_of groups.now.groups) }
     ensures { result ≡ spot_of (told_of groups.now.groups) msg.now }
 {
@@ -90,6 +121,18 @@ pub(crate) fn find(groups: &Groups<Told, Msg>, spots: &Spots, msg: &Msg) -> Opti
         chan: mark.chan,
     };
     with_count(groups.told(spot.group), spot, msg.args.len())
+}
+
+// The queue that takes a message, if there is one. It is looked for in the first group before the
+// index is asked.
+pub(crate) fn find(groups: &Groups<Told, Msg>, spots: &Spots, msg: &Msg) -> Option<Spot>
+    requires { IsIndex spots.now (groups_of groups.now.groups) }
+    ensures { result ≡ spot_of (told_of groups.now.groups) msg.now }
+{
+    match find_first(groups, msg) {
+        Some(spot) => Some(spot),
+        None => look_up(groups, spots, msg),
+    }
 }
 
 // Whether a queue holds a message.

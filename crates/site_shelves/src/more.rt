@@ -173,53 +173,37 @@ fn refresh_where(
     }
 }
 
-// Drops the front of a queue of a group, where there is one, and the keys of those guards that wait
-// on it where it was the last. It takes no memory.
-fn take_noted(
-    groups: &mut Groups<Told, Msg>,
-    spots: &Spots,
-    covering: &mut Covering,
-    group: usize,
-    chan: u32,
-)
-    requires serials { HasSerials spots.now (length groups.old.groups) }
-    requires covering { IsCovering covering.old spots.now.serials.items
-        (groups_of groups.old.groups) }
-    ensures groups { groups_of groups.new.groups
-        ≡ gone_at group (chan ∷ []) (groups_of groups.old.groups) }
-    ensures many { length groups.new.groups ≡ length groups.old.groups }
-    ensures spare { groups.old.spare ≤ groups.new.spare }
-    ensures spare_groups { groups.new.spare_groups ≡ groups.old.spare_groups }
-    ensures covering { IsCovering covering.new spots.now.serials.items
-        (groups_of groups.new.groups) }
-{
-    take_one(groups, group, chan);
-    let gone = is_empty(groups, group, chan);
-    refresh_where(gone, covering, groups, spots, group, chan);
-}
-
 // Drops the front of each of these queues of a group in turn, where there is one. It takes no
 // memory.
-pub(crate) fn take_fronts(
-    groups: &mut Groups<Told, Msg>,
-    spots: &Spots,
-    covering: &mut Covering,
-    group: usize,
-    chans: &[u32],
-)
-    requires serials { HasSerials spots.now (length groups.old.groups) }
-    requires covering { IsCovering covering.old spots.now.serials.items
-        (groups_of groups.old.groups) }
+pub(crate) fn take_fronts(groups: &mut Groups<Told, Msg>, group: usize, chans: &[u32])
     ensures groups { groups_of groups.new.groups
         ≡ gone_at group chans.now (groups_of groups.old.groups) }
     ensures many { length groups.new.groups ≡ length groups.old.groups }
     ensures spare { groups.old.spare ≤ groups.new.spare }
     ensures spare_groups { groups.new.spare_groups ≡ groups.old.spare_groups }
-    ensures covering { IsCovering covering.new spots.now.serials.items
-        (groups_of groups.new.groups) }
 {
     for chan in chans {
-        take_noted(groups, spots, covering, group, *chan);
+        take_one(groups, group, *chan);
+    }
+}
+
+// Drops the keys of those guards of a group that wait on one of these channels whose queue is
+// empty.
+pub(crate) fn refresh_empty(
+    covering: &mut Covering,
+    groups: &Groups<Told, Msg>,
+    spots: &Spots,
+    group: usize,
+    chans: &[u32],
+)
+    requires serials { HasSerials spots.now (length groups.now.groups) }
+    requires is { IsCovering covering.old spots.now.serials.items
+        (groups_of groups.now.groups) }
+    ensures { IsCovering covering.new spots.now.serials.items (groups_of groups.now.groups) }
+{
+    for chan in chans {
+        let gone = is_empty(groups, group, *chan);
+        refresh_where(gone, covering, groups, spots, group, *chan);
     }
 }
 

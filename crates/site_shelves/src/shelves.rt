@@ -19,7 +19,7 @@ use crate::covering::{Covering, agrees, learn, no_covering};
 use crate::finding::{find, no_spots, push_back};
 use crate::forgetting::drop_groups;
 use crate::least_guard::{Search, first_fired};
-use crate::more::{More, lay_and_settle, make_room, take_fronts};
+use crate::more::{More, lay_and_settle, make_room, refresh_empty, take_fronts};
 use crate::told::{NewGroup, Spots, Told};
 use chem_model::{Loc, Memory, same_loc};
 use env_store::Code;
@@ -125,13 +125,8 @@ impl Shelves {
         ensures groups { self.new.groups ≡ gone_at group chans.now self.old.groups }
         ensures stuck { self.new.stuck ≡ self.old.stuck }
     {
-        take_fronts(
-            &mut self.groups,
-            &self.spots,
-            &mut self.covering,
-            group,
-            chans,
-        );
+        take_fronts(&mut self.groups, group, chans);
+        refresh_empty(&mut self.covering, &self.groups, &self.spots, group, chans);
     }
 
     /// Learns the masks of the levels of groups to come.
@@ -161,8 +156,10 @@ impl Shelves {
             return Err(Memory);
         };
         let covering = &mut self.covering;
-        take_fronts(rows, spots, covering, group, chans);
+        take_fronts(rows, group, chans);
         lay_and_settle(rows, spots, covering, &mut self.stuck, more, again);
+        // Behind the messages, since most queues of which a front was taken have one again.
+        refresh_empty(covering, rows, spots, group, chans);
         Ok(())
     }
 

@@ -66,7 +66,7 @@ returns-in-Ok-clause-round g c =
     c.in-Ok.ensures.back in
     has_round code old new quota es done served back.worked back.version
     (back.sites ∙ ap (λ ss. ss.items ++ sites_of done) c.replace-sites.ensures.after
-    ∙ ap (λ xs. xs ++ sites_of done) c.new-2.ensures.items) (ap bare back.tree) back.trace
+    ∙ ap (λ xs. xs ++ sites_of done) c.in_ok-room.ensures.items) (ap bare back.tree) back.trace
     (back.flights ∙ ap (λ fs. fs.items ++ flights_of done) c.replace-flights.ensures.after
     ∙ ap (λ xs. xs ++ flights_of done) c.new.ensures.items)
     (let count = back.count in omega arith) (back.few (omega arith))
@@ -114,7 +114,7 @@ returns-in-Ok-clause-sent g c =
     c.clear.ensures.items ∙ ap froms_of whole in
     has_sent code old new quota es done served back.worked back.version
     (back.sites ∙ ap (λ ss. ss.items ++ sites_of done) c.replace-sites.ensures.after
-    ∙ ap (λ xs. xs ++ sites_of done) c.new-2.ensures.items) (ap bare back.tree) back.trace
+    ∙ ap (λ xs. xs ++ sites_of done) c.in_ok-room.ensures.items) (ap bare back.tree) back.trace
     (back.flights ∙ ap (λ fs. fs.items ++ flights_of done) c.replace-flights.ensures.after
     ∙ ap (λ xs. xs ++ flights_of done) c.new.ensures.items)
     (let count = back.count in omega arith) (back.few (omega arith))

@@ -1,7 +1,6 @@
 use Rattle.std.proofs.Common.{◌≡◌, ◌≤◌, length, drop}
 use Rattle.site_shelves.specs.inside.Index.{groups_of}
 use Rattle.site_shelves.specs.inside.New.{gone_at}
-use Rattle.site_shelves.specs.inside.Covered.{IsCovering}
 use Rattle.site_shelves.proofs.more.take_fronts.Given as goal
 
 abbrev pub invariant-loop-chan : goal.invariant-loop-chan
@@ -12,5 +11,4 @@ invariant-loop-chan l = record {
   many : length l.groups.groups ≡ length l.fn.groups.groups;
   spare : l.fn.groups.spare ≤ l.groups.spare;
   spare_groups : l.groups.spare_groups ≡ l.fn.groups.spare_groups;
-  covering : IsCovering l.covering l.spots.serials.items (groups_of l.groups.groups);
 }

@@ -12,6 +12,7 @@ use Rattle.site_shelves.specs.inside.Index.{Rows, groups_of, told_of, new_groups
 use Rattle.site_shelves.specs.inside.New.{told_of_new, gone_at}
 use Rattle.site_shelves.proofs.Queueing.{groups-many}
 use Rattle.site_shelves.proofs.Noting.{serials-known, same-covering}
+use Rattle.site_shelves.proofs.StillHeld.{fronts-still}
 use Rattle.site_shelves.proofs.Shelving.{told-gone, index-gone, put_all-told, told-laid}
 use Rattle.site_shelves.proofs.shelves.Shelves.add.Goals as goal
 
@@ -19,22 +20,6 @@ pub make_room-requires : goal.make_room-requires
 make_room-requires c =
     let can = rw (← c.self.view_is) at c.requires in
     can.waiting
-
-pub take_fronts-requires-clause-serials : goal.take_fronts-requires-clause-serials
-take_fronts-requires-clause-serials c =
-    let index =
-    c.make_room.ensures.index (groups_of c.self.inside.groups.groups) c.self.invariant.index in
-    serials-known c.make_room.new.spots c.make_room.new.groups.groups
-    (subst (λ (qs : Rows). IsIndex c.make_room.new.spots (groups_of qs))
-    (sym c.make_room.ensures.groups) index)
-
-pub take_fronts-requires-clause-covering : goal.take_fronts-requires-clause-covering
-take_fronts-requires-clause-covering c =
-    same-covering c.self.inside.covering c.self.inside.spots.serials.items
-    c.make_room.new.spots.serials.items (groups_of c.self.inside.groups.groups)
-    (groups_of c.make_room.new.groups.groups)
-    c.make_room.ensures.serials (ap groups_of c.make_room.ensures.groups)
-    c.self.invariant.covering
 
 pub lay_and_settle-requires-clause-index : goal.lay_and_settle-requires-clause-index
 lay_and_settle-requires-clause-index c =
@@ -81,7 +66,23 @@ pub lay_and_settle-requires-clause-numbers : goal.lay_and_settle-requires-clause
 lay_and_settle-requires-clause-numbers c = c.requires.numbers
 
 pub lay_and_settle-requires-clause-covering : goal.lay_and_settle-requires-clause-covering
-lay_and_settle-requires-clause-covering c = c.take_fronts.ensures.covering
+lay_and_settle-requires-clause-covering c =
+    fronts-still c.self.inside.covering c.make_room.new.spots.serials.items
+    (groups_of c.make_room.new.groups.groups) (groups_of c.take_fronts.new.groups.groups)
+    c.args.group c.args.chans.now c.take_fronts.ensures.groups
+    (same-covering c.self.inside.covering c.self.inside.spots.serials.items
+    c.make_room.new.spots.serials.items (groups_of c.self.inside.groups.groups)
+    (groups_of c.make_room.new.groups.groups)
+    c.make_room.ensures.serials (ap groups_of c.make_room.ensures.groups)
+    c.self.invariant.covering)
+
+pub refresh_empty-requires-clause-serials : goal.refresh_empty-requires-clause-serials
+refresh_empty-requires-clause-serials c =
+    serials-known c.lay_and_settle.new.spots c.lay_and_settle.new.groups.groups
+    c.lay_and_settle.ensures.index
+
+pub refresh_empty-requires-clause-is : goal.refresh_empty-requires-clause-is
+refresh_empty-requires-clause-is c = c.lay_and_settle.ensures.covering
 
 pub invariant_of-self-2 : goal.invariant_of-self-2
 invariant_of-self-2 c =
@@ -114,7 +115,7 @@ invariant_of-self-2 c =
         can.few,
         groups-many qs,
       );
-      covering = c.lay_and_settle.ensures.covering;
+      covering = c.refresh_empty.ensures;
     }
 
 pub returns-clause-ok : goal.returns-clause-ok

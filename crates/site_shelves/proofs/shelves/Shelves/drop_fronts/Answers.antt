@@ -1,13 +1,22 @@
-use Rattle.std.proofs.Common.{List, sym, ap, subst, ◌∙◌}
+use Rattle.std.proofs.Common.{List, ℕ, sym, ap, subst, ◌∙◌}
 use Rattle.net_laws.specs.Site.{Group, told_in}
 use Rattle.site_shelves.specs.inside.Index.{groups_of, IsIndex}
+use Rattle.site_shelves.specs.inside.Covered.{HasSerials}
 use Rattle.site_shelves.proofs.Noting.{serials-known}
+use Rattle.site_shelves.proofs.StillHeld.{fronts-still}
 use Rattle.site_shelves.proofs.Shelving.{as-indexed, same-indexed, told-gone, index-gone}
 use Rattle.site_shelves.proofs.shelves.Shelves.drop_fronts.Goals as goal
 
-pub take_fronts-requires-clause-serials : goal.take_fronts-requires-clause-serials
-take_fronts-requires-clause-serials c =
-    serials-known c.self.inside.spots c.self.inside.groups.groups c.self.invariant.index
+pub refresh_empty-requires-clause-serials : goal.refresh_empty-requires-clause-serials
+refresh_empty-requires-clause-serials c =
+    subst (λ (n : ℕ). HasSerials c.self.inside.spots n) (sym c.take_fronts.ensures.many)
+    (serials-known c.self.inside.spots c.self.inside.groups.groups c.self.invariant.index)
+
+pub refresh_empty-requires-clause-is : goal.refresh_empty-requires-clause-is
+refresh_empty-requires-clause-is c =
+    fronts-still c.self.inside.covering c.self.inside.spots.serials.items
+    (groups_of c.self.inside.groups.groups) (groups_of c.take_fronts.new.groups.groups)
+    c.args.group c.args.chans.now c.take_fronts.ensures.groups c.self.invariant.covering
 
 pub invariant_of-self : goal.invariant_of-self
 invariant_of-self c =
@@ -22,5 +31,5 @@ invariant_of-self c =
       index = all.index;
       numbers = all.numbers;
       few = all.few;
-      covering = c.take_fronts.ensures.covering;
+      covering = c.refresh_empty.ensures;
     }

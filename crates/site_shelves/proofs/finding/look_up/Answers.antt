@@ -3,7 +3,7 @@ use Rattle.std.specs.Prelude.{slice_get}
 use Rattle.queue_cells.specs.Grouped.{lists_at}
 use Rattle.site_shelves.specs.inside.Index.{on_count, Rise, place_of}
 use Rattle.site_shelves.proofs.Queueing.{found-group, spot-is, spot-none}
-use Rattle.site_shelves.proofs.finding.find.Goals as goal
+use Rattle.site_shelves.proofs.finding.look_up.Goals as goal
 
 pub place_of-requires : goal.place_of-requires
 place_of-requires c = (
