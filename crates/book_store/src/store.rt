@@ -35,7 +35,7 @@ pub struct Store {
 // From so many newest messages and requests on, they are set apart: few where there are many rules,
 // since a search looks at the rules that are filed at the channel of each; and more of them where
 // no event is searched for, since what is taken soon is then never set apart.
-const MOST: usize = 16;
+const MOST: usize = 8;
 
 const MOST_OF_FEW: usize = 64;
 

@@ -1,5 +1,5 @@
 // Messages and requests by their numbers: the newest ones are looked at first.
-ghost use Rattle.std.specs.Prelude.{◌≡◌, ◌≤◌, length, take, IfOk, IfSome};
+ghost use Rattle.std.specs.Prelude.{◌≡◌, ◌<◌, ◌≤◌, ℕ, length, take, IfOk, IfSome, IsTrue};
 ghost use Rattle.std.specs.Option.{option_copied};
 ghost use Rattle.chem_model.specs.Apply.{atom_at, received_all};
 ghost use Rattle.chem_model.specs.Sound.{IsSound};
@@ -15,19 +15,31 @@ use std::alloc::Global;
 // How many of the newest ones are looked at first.
 const NEWEST: usize = 64;
 
-// The place of the one with this number, where it is among the newest of the first ones.
+// Whether the one at this place has the number.
+fn is_at(atoms: &NumberedAtoms, place: usize, id: AtomId) -> bool
+    ensures { IsTrue result → (count : ℕ) → place < count → IsAtomAt atoms.now count id place }
+{
+    match atoms.as_slice().get(place) {
+        Some(atom) => same_atom(atom.id, id),
+        None => false,
+    }
+}
+
+// The place of the one with this number, where it is among the newest of the first ones. The first
+// of the newest is looked at first, since what has waited longest is often taken next, and then
+// they are gone through from the last one.
 fn newest_place(atoms: &NumberedAtoms, count: usize, id: AtomId) -> Option<usize>
     ensures { IfSome result (λ j. IsAtomAt atoms.now count id j) }
 {
     let least = count.saturating_sub(NEWEST);
     let mut left = count;
+    let mut place = least;
     while left > least {
-        left -= 1;
-        if let Some(atom) = atoms.as_slice().get(left) {
-            if same_atom(atom.id, id) {
-                return Some(left);
-            }
+        if is_at(atoms, place, id) {
+            return Some(place);
         }
+        left -= 1;
+        place = left;
     }
     None
 }

@@ -1,5 +1,6 @@
 // Sites that stand beside those of another text, so that a book sets messages apart: it does so
-// where 16 and more came since it did last, and looks at each rule where there are fewer than four.
+// where eight and more came since it did last, and looks at each rule where there are fewer than
+// four.
 
 // Twenty messages that wait, beside three rules.
 const CROWD: &[(u32, &str)] = &[

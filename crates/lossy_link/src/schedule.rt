@@ -211,7 +211,7 @@ fn make_next(
     ensures whole { OnOk result (IsWhole (links_of parts.new)) }
 {
     let event = act(alloc, parts, choice)?;
-    let _commit = book.commit(alloc, &event)?;
+    let _commit = book.append(alloc, event)?;
     Ok(())
 }
 

@@ -48,7 +48,7 @@ fn make(alloc: Global, net: &mut Net, book: &mut Book, choice: &Choice) -> Resul
     let acted = net.act(alloc, choice)?;
     few_under_way(net);
     if let Some(event) = acted {
-        let _commit = book.commit(alloc, &event)?;
+        let _commit = book.append(alloc, event)?;
     }
     Ok(())
 }

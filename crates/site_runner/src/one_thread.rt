@@ -9,7 +9,7 @@ use crate::outcome::{Done, How};
 use chem_laws::{event_is_a_reduction, opening_is_a_start};
 use chem_model::Memory;
 use std::alloc::Global;
-use trace_history::Book;
+use trace_history::{Book, Found};
 
 // The site whose turn comes after this one.
 fn after(sites: usize, site: u32) -> u32
@@ -42,8 +42,9 @@ fn run_on(alloc: Global, book: &mut Book, budget: u32) -> Result<(), Memory>
     for _place in book.journal().len()..budget as usize {
         match book.first_enabled(alloc, from)? {
             Some(found) => {
-                let _commit = book.commit(alloc, &found.event)?;
-                from = after(sites, found.site);
+                let Found { site, event } = found;
+                let _commit = book.append(alloc, event)?;
+                from = after(sites, site);
             }
             None => return Ok(()),
         }

@@ -149,14 +149,13 @@ kept_of p journal = record { program = p; journal = journal }
 
 -- what is said of the parts of a book is said of the book
 pub commits_place :
-    (b : BookKept) (p : ProgramTerms) (journal new : List Event) (e made : Event) (k : ℕ)
+    (b : BookKept) (p : ProgramTerms) (journal new : List Event) (e : Event) (k : ℕ)
     → record { program = p; journal = journal } ≡ b → is_enabled b e ≡ true
-    → new ≡ journal ++ made ∷ [] → made ≡ e → k ≡ length journal
+    → new ≡ journal ++ e ∷ [] → k ≡ length journal
     → Commits b e (Place k) (record { program = p; journal = new })
-commits_place b p journal new e made k view enabled pushed same count =
+commits_place b p journal new e k view enabled pushed count =
     subst (λ (x : BookKept). is_enabled x e ≡ true → Commits x e (Place k) (kept_of p new)) view
-    (λ is. (is, count, ap (kept_of p) (pushed ∙ ap (λ (x : Event). journal ++ x ∷ []) same)))
-    enabled
+    (λ is. (is, count, ap (kept_of p) pushed)) enabled
 
 pub commits_none : (b : BookKept) (p : ProgramTerms) (journal new : List Event) (e : Event)
     → record { program = p; journal = journal } ≡ b → is_enabled b e ≡ false → new ≡ journal

@@ -1,14 +1,16 @@
 // A book: what contracts see of it is a program and a journal alone.
 ghost use Rattle.std.specs.Prelude.{◌≡◌, [], ◌<◌, ◌-◌, ◌^◌, length, Ok, Some, IfOk, IfSome, OnErr};
-ghost use Rattle.std.specs.Prelude.{IsTrue, ◌↔◌};
+ghost use Rattle.std.specs.Prelude.{IsTrue, ◌↔◌, List, ◌++◌, ◌∷◌};
+ghost use Rattle.chem_model.specs.declared.event.Event.{Event as EventValue};
 ghost use Rattle.chem_model.specs.Numbered.{binder_in};
 ghost use Rattle.chem_model.specs.Sound.{IsSound};
 ghost use Rattle.chem_model.specs.Runs.{IsRun};
 ghost use Rattle.chem_model.specs.Laws.{erase_all};
-ghost use Rattle.chem_model.specs.Apply.{states};
+ghost use Rattle.chem_model.specs.Apply.{apply, states};
 ghost use Rattle.chem_model.specs.Opening.{opening};
 ghost use Rattle.trace_history.specs.Kept.{is_enabled};
 ghost use Rattle.trace_history.specs.inside.Holds.{Holds};
+ghost use Rattle.chem_commit.specs.Replaces.{Replaces};
 ghost use Rattle.book_store.specs.Older.{whole};
 ghost use Rattle.book_store.specs.Stored.{IsStored, Moves};
 ghost use Rattle.trace_history.specs.Book.{Commits, IsAStart, IsAReduction, OnItsSolution, IsStuck};
@@ -132,6 +134,26 @@ fn opened(alloc: Global, program: &Program) -> Result<(Numbered, Guesses, Store)
     }
 }
 
+// Makes the last event of a journal in place, where it is possible.
+fn make_last(
+    alloc: Global,
+    solution: &mut Numbered,
+    guesses: &Guesses,
+    journal: &Journal,
+) -> Result<bool, Memory>
+    requires { IsSound solution.old }
+    ensures done { IfOk result (λ made. (event : EventValue) (before : List EventValue)
+        → journal.now ≡ before ++ event ∷ []
+        → Replaces (apply solution.old event) solution.old made solution.new) }
+    ensures err { OnErr result (solution.new ≡ solution.old) }
+{
+    let events = journal.as_slice();
+    match events.get(events.len().saturating_sub(1)) {
+        Some(event) => make_event(alloc, solution, guesses, event),
+        None => Ok(false),
+    }
+}
+
 impl Book {
     /// The book of a program's opening, which stands for a start of the program.
     pub fn start(alloc: Global, program: &Program) -> Result<Book, Memory>
@@ -160,28 +182,38 @@ impl Book {
     /// Makes an event where it is possible, and appends it to the journal: what the book stands for
     /// then is one reduction away, as the event names it. Where it isn't possible, and on want of
     /// memory, nothing changes.
-    #[tactic(auto, using(crate::proofs::Committing::moved_holds))]
     pub fn commit(&mut self, alloc: Global, event: &Event) -> Result<Commit, Memory>
         requires { length self.old.journal < 2 ^ 32 - 1 }
         ensures done { IfOk result (λ c. Commits self.old event.now c self.new) }
         ensures reduction { IfOk result (λ c. IsAReduction self.old event.now c self.new) }
         ensures err { OnErr result (self.new ≡ self.old) }
     {
+        let copy = event.copy(alloc)?;
+        self.append(alloc, copy)
+    }
+
+    /// The same of an event that goes into the journal itself. Where it doesn't, it is dropped.
+    #[tactic(auto, using(crate::proofs::Committing::moved_holds))]
+    pub fn append(&mut self, alloc: Global, event: Event) -> Result<Commit, Memory>
+        requires { length self.old.journal < 2 ^ 32 - 1 }
+        ensures done { IfOk result (λ c. Commits self.old event c self.new) }
+        ensures reduction { IfOk result (λ c. IsAReduction self.old event c self.new) }
+        ensures err { OnErr result (self.new ≡ self.old) }
+    {
         self.is_sound();
         event_is_a_reduction();
         note(alloc, &mut self.guesses, &self.solution)?;
         let place = self.journal.len();
-        let copy = event.copy(alloc)?;
         ready(
             alloc,
             &mut self.store,
             &mut self.solution,
             &self.guesses,
-            event,
+            &event,
         )?;
-        let site = site_of(&self.store, &self.solution, &self.guesses, event);
-        self.journal.push(copy)?;
-        match make_event(alloc, &mut self.solution, &self.guesses, event) {
+        let site = site_of(&self.store, &self.solution, &self.guesses, &event);
+        self.journal.push(event)?;
+        match make_last(alloc, &mut self.solution, &self.guesses, &self.journal) {
             Ok(true) => {
                 tidy(&mut self.store, &self.solution, &self.guesses, site);
                 Ok(Commit::Place(place as u64))

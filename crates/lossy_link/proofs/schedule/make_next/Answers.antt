@@ -12,5 +12,5 @@ act-requires-clause-few c =
 pub returns-clause-makes : goal.returns-clause-makes
 returns-clause-makes c =
     made_event (links_of c.args.parts.now) (links_of c.act.new.parts) c.args.choice.now
-    c.in_ok-event.event c.in_ok-_commit._commit c.args.book.now c.commit.new.self c.requires.one
+    c.in_ok-event.event c.in_ok-_commit._commit c.args.book.now c.append.new.self c.requires.one
     c.in_ok-event.ensures.steps c.in_ok-event.ensures.leads c.in_ok-_commit.ensures.done

@@ -3,7 +3,7 @@ use Rattle.site_runner.proofs.in_rounds.make.Goals as goal
 
 pub returns-in_ok-_commit : goal.returns-in_ok-_commit
 returns-in_ok-_commit c =
-    made_some c.args.net.now c.act.new.self c.args.book.now c.commit.new.self c.args.choice.now
+    made_some c.args.net.now c.act.new.self c.args.book.now c.append.new.self c.args.choice.now
     c.requires.one c.few_under_way.ensures c.in-Some.event c.in_ok-_commit._commit
     (rw c.in-Some.is at c.in_ok-acted.ensures.ok) c.in_ok-_commit.ensures.done
 

@@ -38,12 +38,12 @@ loop-place-preserved c =
     (rw c.in-Some.is at c.in_ok-found.ensures.first) g.last g.leads in
     let more = after_event c.args.book.now c.args.budget run c.loop-place.from g found first low
     c.len-sites.result sites
-    c.in_ok-_commit-in-Some._commit c.commit.new.self c.in_ok-_commit-in-Some.ensures.done in (
-      subst (λ (s : ℕ). Goes c.args.book.now c.args.budget c.commit.new.self s)
+    c.in_ok-_commit-in-Some._commit c.append.new.self c.in_ok-_commit-in-Some.ensures.done in (
+      subst (λ (s : ℕ). Goes c.args.book.now c.args.budget c.append.new.self s)
           (sym c.after-from.ensures.after) more.0,
       subst (λ (s : ℕ). c.after-from.result < s) sites c.after-from.ensures.within,
       more.1 ∙ ap (λ (k : ℕ). k + 1) at,
-      still_stuck c.args.book.now run c.commit.new.self c.loop-place.invariant.3
+      still_stuck c.args.book.now run c.append.new.self c.loop-place.invariant.3
           (first_not_stuck run g.last g.leads c.loop-place.from found.site found.event first),
     )
 

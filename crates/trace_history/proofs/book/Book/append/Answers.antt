@@ -18,7 +18,7 @@ use Rattle.trace_history.proofs.Holding.{event_made, event_not_made, not_replace
 use Rattle.trace_history.proofs.Holding.{commits_place, commits_none}
 use Rattle.book_store.proofs.SoundLaws.{sound_rest}
 use Rattle.trace_history.proofs.Quiets.{one_reduction}
-use Rattle.trace_history.proofs.book.Book.commit.Goals as goal
+use Rattle.trace_history.proofs.book.Book.append.Goals as goal
 
 pub ready-requires-clause-sound : goal.ready-requires-clause-sound
 ready-requires-clause-sound c =
@@ -43,8 +43,8 @@ site_of-site-requires c =
     c.self.invariant.0 c.in_ok-ready.ensures.moves in
     base_sound o old n h sound
 
-pub make_event-requires : goal.make_event-requires
-make_event-requires c =
+pub make_last-requires : goal.make_last-requires
+make_last-requires c =
     let sound : (m : Numbered) → replay c.self.inside.program c.self.inside.journal ≡ Some m
     → IsSound m =
     subst (λ (b : BookKept). (m : Numbered) → solution b ≡ Some m → IsSound m) (sym c.self.view_is)
@@ -69,15 +69,16 @@ invariant_of-self-in-Ok-true c =
     let n = c.ready.new.solution in
     let h : Holds o old n = moved_holds o c.self.inside.solution n c.self.inside.store store
     c.self.invariant.0 c.in_ok-ready.ensures.moves in
-    let e = c.args.event.now in
-    let after = c.make_event.new.solution in
+    let e = c.args.event in
+    let after = c.make_last.new.solution in
+    let done = c.in-Ok-true.ensures.done e c.self.inside.journal c.in_ok-push.ensures.ok in
     let made : apply n e ≡ Some after =
-    replaced _ n after c.in-Ok-true.field-0 c.in-Ok-true.ensures.done c.in-Ok-true.field-0-test in
+    replaced _ n after c.in-Ok-true.field-0 done c.in-Ok-true.field-0-test in
     let m = event_made o old n h sound c.event_is_a_reduction.ensures e after
     c.in_ok-ready.ensures.gone made in
     let pushed : replay c.self.inside.program c.push.new.self ≡ Some m.after =
-    replay_pushed c.self.inside.program c.self.inside.journal c.push.new.self e c.in_ok-copy.copy
-    h.left m.after h.replays c.in_ok-push.ensures.ok c.in_ok-copy.ensures m.applied in (
+    replay_pushed c.self.inside.program c.self.inside.journal c.push.new.self e
+    h.left m.after h.replays c.in_ok-push.ensures.ok m.applied in (
       subst (λ (xs : List NumberedAtom).
           Holds (replay c.self.inside.program c.push.new.self) xs after)
           (ap (λ (x : Older). x.table) (sym c.tidy.ensures.older))
@@ -97,10 +98,11 @@ tidy-requires c =
     let n = c.ready.new.solution in
     let h : Holds o old n = moved_holds o c.self.inside.solution n c.self.inside.store store
     c.self.invariant.0 c.in_ok-ready.ensures.moves in
-    let e = c.args.event.now in
-    let after = c.make_event.new.solution in
+    let e = c.args.event in
+    let after = c.make_last.new.solution in
+    let done = c.in-Ok-true.ensures.done e c.self.inside.journal c.in_ok-push.ensures.ok in
     let made : apply n e ≡ Some after =
-    replaced _ n after c.in-Ok-true.field-0 c.in-Ok-true.ensures.done c.in-Ok-true.field-0-test in
+    replaced _ n after c.in-Ok-true.field-0 done c.in-Ok-true.field-0-test in
     let all : IsSound (whole old after) =
     sound_made o old n h sound c.event_is_a_reduction.ensures e after
     c.in_ok-ready.ensures.gone made
@@ -122,17 +124,18 @@ returns-in-Ok-true-clause-done c =
     let n = c.ready.new.solution in
     let h : Holds o old n = moved_holds o c.self.inside.solution n c.self.inside.store store
     c.self.invariant.0 c.in_ok-ready.ensures.moves in
-    let e = c.args.event.now in
-    let after = c.make_event.new.solution in
+    let e = c.args.event in
+    let after = c.make_last.new.solution in
+    let done = c.in-Ok-true.ensures.done e c.self.inside.journal c.in_ok-push.ensures.ok in
     let made : apply n e ≡ Some after =
-    replaced _ n after c.in-Ok-true.field-0 c.in-Ok-true.ensures.done c.in-Ok-true.field-0-test in
+    replaced _ n after c.in-Ok-true.field-0 done c.in-Ok-true.field-0-test in
     let m = event_made o old n h sound c.event_is_a_reduction.ensures e after
     c.in_ok-ready.ensures.gone made in
     let leads : solution c.args.self.now ≡ Some h.left = rw (← c.self.view_is) h.replays in
     commits_place c.args.self.now c.self.inside.program c.self.inside.journal c.push.new.self e
-    c.in_ok-copy.copy c.len-place.result c.self.view_is
+    c.len-place.result c.self.view_is
     (enabled_in c.args.self.now h.left e leads ∙ ap is_some m.applied)
-    c.in_ok-push.ensures.ok c.in_ok-copy.ensures c.len-place.ensures.count
+    c.in_ok-push.ensures.ok c.len-place.ensures.count
 
 pub returns-in-Ok-true-clause-reduction : goal.returns-in-Ok-true-clause-reduction
 returns-in-Ok-true-clause-reduction c =
@@ -146,15 +149,16 @@ returns-in-Ok-true-clause-reduction c =
     let n = c.ready.new.solution in
     let h : Holds o old n = moved_holds o c.self.inside.solution n c.self.inside.store store
     c.self.invariant.0 c.in_ok-ready.ensures.moves in
-    let e = c.args.event.now in
-    let after = c.make_event.new.solution in
+    let e = c.args.event in
+    let after = c.make_last.new.solution in
+    let done = c.in-Ok-true.ensures.done e c.self.inside.journal c.in_ok-push.ensures.ok in
     let made : apply n e ≡ Some after =
-    replaced _ n after c.in-Ok-true.field-0 c.in-Ok-true.ensures.done c.in-Ok-true.field-0-test in
+    replaced _ n after c.in-Ok-true.field-0 done c.in-Ok-true.field-0-test in
     let m = event_made o old n h sound c.event_is_a_reduction.ensures e after
     c.in_ok-ready.ensures.gone made in
     let pushed : replay c.self.inside.program c.push.new.self ≡ Some m.after =
-    replay_pushed c.self.inside.program c.self.inside.journal c.push.new.self e c.in_ok-copy.copy
-    h.left m.after h.replays c.in_ok-push.ensures.ok c.in_ok-copy.ensures m.applied in
+    replay_pushed c.self.inside.program c.self.inside.journal c.push.new.self e
+    h.left m.after h.replays c.in_ok-push.ensures.ok m.applied in
     let leads : solution c.args.self.now ≡ Some h.left = rw (← c.self.view_is) h.replays in
     one_reduction c.event_is_a_reduction.ensures (solution c.args.self.now)
     (replay c.self.inside.program c.push.new.self) h.left m.after e leads pushed
@@ -172,14 +176,16 @@ invariant_of-self-in-Ok-false c =
     let back : c.truncate.new.self ≡ journal =
     c.truncate.ensures ∙ ap (λ (k : ℕ). take k c.push.new.self) c.len-place.ensures.count
     ∙ ap (take (length journal)) c.in_ok-push.ensures.ok
-    ∙ take-append_seam journal (c.in_ok-copy.copy ∷ []) in
-    let same : n ≡ c.make_event.new.solution =
-    sym (unchanged _ n c.make_event.new.solution c.in-Ok-false.field-0 c.in-Ok-false.ensures.done
+    ∙ take-append_seam journal (c.args.event ∷ []) in
+    let done =
+    c.in-Ok-false.ensures.done c.args.event c.self.inside.journal c.in_ok-push.ensures.ok in
+    let same : n ≡ c.make_last.new.solution =
+    sym (unchanged _ n c.make_last.new.solution c.in-Ok-false.field-0 done
     c.in-Ok-false.field-0-test) in (
       subst
-          (λ (l : List Event). Holds (replay c.self.inside.program l) old c.make_event.new.solution)
+          (λ (l : List Event). Holds (replay c.self.inside.program l) old c.make_last.new.solution)
           (sym back) (subst (λ (x : Numbered). Holds o old x) same h),
-      stored_as n c.make_event.new.solution store same c.in_ok-ready.ensures.stored,
+      stored_as n c.make_last.new.solution store same c.in_ok-ready.ensures.stored,
     )
 
 pub returns-in-Ok-false-clause-done : goal.returns-in-Ok-false-clause-done
@@ -198,11 +204,12 @@ returns-in-Ok-false-clause-done c =
     let back : c.truncate.new.self ≡ journal =
     c.truncate.ensures ∙ ap (λ (k : ℕ). take k c.push.new.self) c.len-place.ensures.count
     ∙ ap (take (length journal)) c.in_ok-push.ensures.ok
-    ∙ take-append_seam journal (c.in_ok-copy.copy ∷ []) in
+    ∙ take-append_seam journal (c.args.event ∷ []) in
     let leads : solution c.args.self.now ≡ Some h.left = rw (← c.self.view_is) h.replays in
-    let e = c.args.event.now in
+    let e = c.args.event in
+    let done = c.in-Ok-false.ensures.done e c.self.inside.journal c.in_ok-push.ensures.ok in
     let not : apply n e ≡ None =
-    not_replaced _ n c.make_event.new.solution c.in-Ok-false.field-0 c.in-Ok-false.ensures.done
+    not_replaced _ n c.make_last.new.solution c.in-Ok-false.field-0 done
     c.in-Ok-false.field-0-test in
     commits_none c.args.self.now c.self.inside.program journal c.truncate.new.self e c.self.view_is
     (enabled_in c.args.self.now h.left e leads
@@ -220,10 +227,10 @@ invariant_of-self-in-Err c =
     let back : c.truncate-in-Err.new.self ≡ journal =
     c.truncate-in-Err.ensures ∙ ap (λ (k : ℕ). take k c.push.new.self) c.len-place.ensures.count
     ∙ ap (take (length journal)) c.in_ok-push.ensures.ok
-    ∙ take-append_seam journal (c.in_ok-copy.copy ∷ []) in
-    let same : n ≡ c.make_event.new.solution = sym c.in-Err.ensures.err in (
+    ∙ take-append_seam journal (c.args.event ∷ []) in
+    let same : n ≡ c.make_last.new.solution = sym c.in-Err.ensures.err in (
       subst
-          (λ (l : List Event). Holds (replay c.self.inside.program l) old c.make_event.new.solution)
+          (λ (l : List Event). Holds (replay c.self.inside.program l) old c.make_last.new.solution)
           (sym back) (subst (λ (x : Numbered). Holds o old x) same h),
-      stored_as n c.make_event.new.solution store same c.in_ok-ready.ensures.stored,
+      stored_as n c.make_last.new.solution store same c.in_ok-ready.ensures.stored,
     )
