@@ -34,7 +34,7 @@ fn sees_death(tree: &LocTree, request: &Request) -> bool
     ensures { result ≡ sees_death tree.now (Some request.now) }
 {
     match request.ask {
-        Ask::Fail { target, cont: _ } => tree.alive(&request.loc) && has_died(tree, target),
+        Ask::Fail { target, cont: _ } => has_died(tree, target) && tree.alive(&request.loc),
         Ask::Go { .. } | Ask::Halt => false,
     }
 }

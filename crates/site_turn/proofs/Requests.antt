@@ -8,11 +8,13 @@ use Rattle.std.proofs.lemmas.Option.{slice_get_within}
 use Rattle.chem_model.specs.declared.event.AtomId.{AtomId}
 use Rattle.chem_model.specs.declared.event.Event.TheVariants as event
 use Rattle.chem_model.specs.Apply.{same_atom}
+use Rattle.chem_laws.proofs.Taking.{same_atom_refl}
 use Rattle.wire_packet.specs.GroupFacts.{RequestParts}
 use Rattle.loc_tree.specs.Tree.{Tree}
 use Rattle.net_laws.specs.Site.{Site}
 use Rattle.net_laws.specs.Holding.{precedes, request_with}
 use Rattle.site_solution.specs.Rising.{AllAfter, Rising}
+use Rattle.site_solution.proofs.Ranks.{before-not_same}
 use Rattle.site_solution.proofs.Together.{request_id}
 use Rattle.failure.specs.Halts as halts
 use Rattle.failure.specs.Deaths as deaths
@@ -69,29 +71,16 @@ place_of (x ∷ qs) a q e = go (same_atom x.id a) e (place_of qs a q)
     go false f ih = let later = ih f in (suc later.0, later.1)
 
 -- and a member is found, where ids rise
-differs : (a b : AtomId) → precedes a b ≡ true → same_atom a b ≡ false
-differs a b e = pairs a.site a.k b.site b.k e
-  where
-    pairs : (s k t j : ℕ) → nat_lt s t || ((s == t) && nat_lt k j) ≡ true
-        → (s == t) && (k == j) ≡ false
-    pairs s k t j e = grind (arith, nat_tests)
-
-is_same : (a : AtomId) → same_atom a a ≡ true
-is_same a = pairs a.site a.k
-  where
-    pairs : (s k : ℕ) → (s == s) && (k == k) ≡ true
-    pairs s k = grind (arith, nat_tests)
-
 pub found_at : (qs : List RequestParts) (k : ℕ) (q : RequestParts) → Rising qs
     → slice_get qs k ≡ Some q → request_with q.id qs ≡ Some q
 found_at [] k q rising e = cc
 found_at (x ∷ qs) zero q rising e =
     let same : x ≡ q = cc in
     ap (λ (y : RequestParts). cond (same_atom y.id q.id) (Some y) (request_with q.id qs)) same
-    ∙ ap (λ (b : Bool). cond b (Some q) (request_with q.id qs)) (is_same q.id)
+    ∙ ap (λ (b : Bool). cond b (Some q) (request_with q.id qs)) (same_atom_refl q.id)
 found_at (x ∷ qs) (suc k) q rising e =
     ap (λ (b : Bool). cond b (Some x) (request_with q.id qs))
-    (differs x.id q.id (after_at x.id qs k q rising.0 e))
+    (before-not_same x.id q.id (after_at x.id qs k q rising.0 e))
     ∙ found_at qs k q rising.1 e
 
 past_end : (qs : List RequestParts) (i : ℕ) → slice_get qs i ≡ None → length qs ≤ i

@@ -47,8 +47,8 @@ pub trait Post {
         requires { Each IsMessageFlight flights };
 }
 
-/// What a turn is made with, whatever the site: room, the program of the run with its code, and where
-/// flights are posted.
+/// What a turn is made with, whatever the site: room, the program of the run with its code, and
+/// where flights are posted.
 #[derive(Drop)]
 pub struct Tools<'a, M> {
     pub alloc: Global,

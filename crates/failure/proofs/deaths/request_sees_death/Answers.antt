@@ -1,15 +1,12 @@
-use Rattle.std.proofs.Common.{◌≡◌, Bool, true, false, cond, Option, Some, None, refl, sym, ap, ◌∙◌}
+use Rattle.std.proofs.Common.{cond, Option, Some, None, sym, ap, ◌∙◌}
 use Rattle.std.specs.Prelude.{is_some}
 use Rattle.chem_model.specs.declared.event.Event.TheVariants as event
 use Rattle.wire_packet.specs.GroupFacts.{RequestParts}
 use Rattle.site_solution.specs.inside.InTree.{request_stands}
+use Rattle.site_solution.proofs.Possible.{some_cond}
 use Rattle.site_solution.proofs.Together.{in_tree_parts, asked_there, request_passes}
 use Rattle.failure.specs.Deaths.{sees_death}
 use Rattle.failure.proofs.deaths.request_sees_death.Goals as goal
-
-some_where : {X : Type 0} (b : Bool) (x : X) → b ≡ is_some (cond b (Some x) None)
-some_where true x = refl
-some_where false x = refl
 
 pub sees_death-requires-clause-loc : goal.sees_death-requires-clause-loc
 sees_death-requires-clause-loc c =
@@ -27,7 +24,7 @@ pub returns : goal.returns
 returns c =
     let i = c.args.request.now.id in
     c.sees_death.ensures
-    ∙ some_where (sees_death c.args.tree.now (Some c.args.request.now)) (event.Detect i)
+    ∙ some_cond (sees_death c.args.tree.now (Some c.args.request.now)) (event.Detect i)
     ∙ ap (λ (o : Option RequestParts).
     is_some (cond (sees_death c.args.tree.now o) (Some (event.Detect i)) None))
     (sym c.requires.here)
