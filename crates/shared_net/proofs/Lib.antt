@@ -12,3 +12,4 @@ pub mod Posting
 pub mod Starting
 pub mod Owners
 pub mod Sharing
+pub mod Known

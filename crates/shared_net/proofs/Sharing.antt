@@ -4,17 +4,19 @@ use denote.Struct.Field.{u32-field}
 use denote.Param.Send.{IsSync, view_sync, sendable}
 use denote.Param.SendFields.{declared_sync, as_row_sync}
 use Rattle.chem_model.specs.contracts.program.Program as program
-use Rattle.env_store.specs.contracts.code.Code as code
+use Rattle.site_turn.specs.contracts.shared.SharedCode as code
 use Rattle.shared_net.specs.contracts.net.Parts as parts
 use Rattle.shared_net.specs.declared.net.Parts as declared
-use Rattle.shared_net.specs.inside.Crosses.{ProgramIsShared, CodeIsShared, LockedTreeIsShared}
+use Rattle.site_turn.specs.Crosses.{SharedCodeIsShared}
+use Rattle.shared_net.specs.inside.Crosses.{ProgramIsShared, LockedTreeIsShared}
 use Rattle.shared_net.specs.inside.Crosses.{LockedSitesAreShared, LockedMailIsShared}
 use Rattle.shared_net.specs.inside.Crosses.{PartsAreShared}
 
 budget_is_shared : IsSync u32
 budget_is_shared = search sendable
 
-pub all_shared : ProgramIsShared → CodeIsShared → LockedTreeIsShared → LockedSitesAreShared
+pub all_shared :
+    ProgramIsShared → SharedCodeIsShared → LockedTreeIsShared → LockedSitesAreShared
     → LockedMailIsShared → PartsAreShared
 all_shared p c t s m =
     let inner : IsSync parts.TheInside.the_row = declared_sync parts.TheInside.the_type (

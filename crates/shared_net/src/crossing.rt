@@ -1,20 +1,17 @@
 // What of a network may go to another thread, and what threads may share. Nothing here does
 // anything.
 ghost use denote.Param.Send.{IsSend, IsSync};
-ghost use Rattle.shared_net.specs.inside.Crosses.{TreeCrosses, SiteCrosses, LockedCrosses};
-ghost use Rattle.shared_net.specs.inside.Crosses.{MailboxCrosses, ProgramIsShared, CodeIsShared};
-ghost use Rattle.shared_net.specs.inside.Crosses.{TreeIsShared, LockedTreeIsShared};
-ghost use Rattle.shared_net.specs.inside.Crosses.{LockedSitesAreShared, LockedMailIsShared};
-ghost use Rattle.shared_net.specs.inside.Crosses.{PartsAreShared};
+ghost use Rattle.shared_net.specs.inside.Crosses.{MailboxCrosses, ProgramIsShared};
+ghost use Rattle.shared_net.specs.inside.Crosses.{LockedTreeIsShared, LockedSitesAreShared};
+ghost use Rattle.shared_net.specs.inside.Crosses.{LockedMailIsShared, PartsAreShared};
+ghost use Rattle.shared_net.specs.inside.Crosses.{LockedCrosses};
 
 use crate::locked::Locked;
 use crate::mail::Mailbox;
 use crate::net::{LockedMail, LockedSites, LockedTree, Parts};
 use crate::run::Run;
 use chem_model::Program;
-use env_store::Code;
-use loc_tree::LocTree;
-use site_solution::Site;
+use site_turn::{kept_site_crosses, kept_tree_goes_about, shared_code_goes_about};
 use trace_history::book_crosses;
 
 // Values of this type may go to another thread.
@@ -27,34 +24,10 @@ fn is_shared<T: Sync>()
     ensures { IsSync T.row }
 {}
 
-fn tree_crosses()
-    ensures { TreeCrosses }
-{
-    crosses::<LocTree>();
-}
-
-fn site_crosses()
-    ensures { SiteCrosses }
-{
-    crosses::<Site>();
-}
-
 fn program_is_shared()
     ensures { ProgramIsShared }
 {
     is_shared::<Program>();
-}
-
-fn code_is_shared()
-    ensures { CodeIsShared }
-{
-    is_shared::<Code>();
-}
-
-fn tree_is_shared()
-    ensures { TreeIsShared }
-{
-    is_shared::<LocTree>();
 }
 
 fn mailbox_crosses()
@@ -66,15 +39,14 @@ fn mailbox_crosses()
 fn locked_tree_is_shared()
     ensures { LockedTreeIsShared }
 {
-    tree_crosses();
-    tree_is_shared();
+    kept_tree_goes_about();
     is_shared::<LockedTree>();
 }
 
 fn locked_sites_are_shared()
     ensures { LockedSitesAreShared }
 {
-    site_crosses();
+    kept_site_crosses();
     is_shared::<LockedSites>();
 }
 
@@ -90,7 +62,7 @@ pub(crate) fn parts_are_shared()
     ensures { PartsAreShared }
 {
     program_is_shared();
-    code_is_shared();
+    shared_code_goes_about();
     locked_tree_is_shared();
     locked_sites_are_shared();
     locked_mail_is_shared();

@@ -21,6 +21,7 @@ use chem_model::{Memory, Program, Texts};
 use env_store::Code;
 use loc_tree::LocTree;
 use site_solution::Site;
+use site_turn::{KeptSite, KeptTree, SharedCode, SharedTree};
 use std::alloc::Global;
 use std::marker::Model;
 use std::sync::ledger::Blank;
@@ -29,13 +30,13 @@ use std::sync::{Mutex, RwLock};
 // The tree behind its lock.
 #[derive(Drop)]
 pub(crate) struct LockedTree {
-    pub(crate) lock: RwLock<LocTree>,
+    pub(crate) lock: RwLock<KeptTree>,
 }
 
 // The sites by their numbers, each behind a lock of its own.
 #[derive(Drop)]
 pub(crate) struct LockedSites {
-    pub(crate) list: Vec<Mutex<Site>>,
+    pub(crate) list: Vec<Mutex<KeptSite>>,
 }
 
 // The mailboxes of the sites by their numbers, each behind a lock of its own.
@@ -56,7 +57,7 @@ struct LockedBoth {
 #[derive(Drop)]
 pub(crate) struct Parts {
     pub(crate) program: Program,
-    pub(crate) code: Code,
+    pub(crate) code: SharedCode,
     pub(crate) budget: u32,
     pub(crate) tree: LockedTree,
     pub(crate) sites: LockedSites,
@@ -107,13 +108,19 @@ impl<L: Run> Model for SharedNet<L> {
     ghost invariant = { λ n. n.parts.program ≡ L.program };
 }
 
-// Puts each site behind a lock of its own.
-fn lock_sites(alloc: Global, sites: Vec<Site>) -> Result<LockedSites, Memory>
+// Puts each site behind a lock of its own, with the code.
+fn lock_sites(alloc: Global, sites: Vec<Site>, code: &SharedCode) -> Result<LockedSites, Memory>
     ensures { IfOk result (λ behind. vec_len behind.list ≡ length sites.items) }
 {
     let mut locked = Vec::new(alloc);
     for site in sites {
-        locked.push(Mutex::new(site))?;
+        match code.share() {
+            Ok(code) => locked.push(Mutex::new(KeptSite::new(site, code)))?,
+            Err(memory) => {
+                drop(site);
+                return Err(memory);
+            }
+        }
     }
     Ok(LockedSites { list: locked })
 }
@@ -142,12 +149,17 @@ fn are_opened(program: &Program, code: &Code, tree: &LocTree, sites: &Sites, mai
 }
 
 // Sites and their mail, behind their locks.
-fn lock_both(alloc: Global, sites: Sites, mail: Mails) -> Result<LockedBoth, Memory>
+fn lock_both(
+    alloc: Global,
+    sites: Sites,
+    mail: Mails,
+    code: &SharedCode,
+) -> Result<LockedBoth, Memory>
     requires spelled { Each (Each IsMessageText) mail }
     ensures sites { IfOk result (λ both. vec_len both.sites.list ≡ length sites) }
     ensures mail { IfOk result (λ both. vec_len both.mail.list ≡ length mail) }
 {
-    match lock_sites(alloc, sites.into_vec()) {
+    match lock_sites(alloc, sites.into_vec(), code) {
         Ok(sites) => match lock_mail(alloc, mail.into_vec()) {
             Ok(mail) => Ok(LockedBoth { sites, mail }),
             Err(memory) => {
@@ -162,42 +174,64 @@ fn lock_both(alloc: Global, sites: Sites, mail: Mails) -> Result<LockedBoth, Mem
     }
 }
 
-// Copies of a program and of its code.
-fn copies(alloc: Global, program: &Program, code: &Code) -> Result<(Program, Code), Memory>
-    ensures program { IfOk result (λ both. both.0 ≡ program.now) }
+// What the network and its sites share, and the program that it is opened for.
+#[derive(Drop)]
+struct Common {
+    program: Program,
+    code: SharedCode,
+    tree: SharedTree,
+}
+
+// Copies of a program and of its code, and the tree.
+fn common_of(alloc: Global, program: &Program, code: &Code, tree: LocTree) -> Result<Common, Memory>
+    ensures { IfOk result (λ common. common.program ≡ program.now) }
 {
-    let program = program.copy(alloc)?;
-    match code.copy(alloc) {
-        Ok(code) => Ok((program, code)),
+    let tree = SharedTree::new(alloc, tree)?;
+    let Ok(code) = SharedCode::new(alloc, code) else {
+        drop(tree);
+        return Err(Memory);
+    };
+    match program.copy(alloc) {
+        Ok(program) => Ok(Common {
+            program,
+            code,
+            tree,
+        }),
         Err(memory) => {
-            drop(program);
+            drop(code);
+            drop(tree);
             Err(memory)
         }
     }
 }
 
-// All of a network but its book: copies of the program and its code, and the rest behind its locks.
+// All of a network but its book.
 fn parts_of(
     alloc: Global,
-    program: &Program,
-    code: &Code,
+    common: Common,
     budget: u32,
-    tree: LocTree,
-    both: LockedBoth,
+    sites: Sites,
+    mail: Mails,
 ) -> Result<Parts, Memory>
-    requires some { IsCountOfSites (vec_len both.sites.list) }
-    requires boxes { vec_len both.mail.list ≡ vec_len both.sites.list }
+    requires some { IsCountOfSites (length sites) }
+    requires boxes { length mail ≡ length sites }
+    requires spelled { Each (Each IsMessageText) mail }
     ensures { IfOk result (λ parts. parts ≡ record {
-      program = program.now;
+      program = common.program;
       budget = budget;
-      sites = vec_len both.sites.list;
+      sites = length sites;
     }) }
 {
-    match copies(alloc, program, code) {
-        Ok((program, code)) => {
+    match lock_both(alloc, sites, mail, &common.code) {
+        Ok(both) => {
+            let Common {
+                program,
+                code,
+                tree,
+            } = common;
             let LockedBoth { sites, mail } = both;
             let tree = LockedTree {
-                lock: RwLock::new(tree),
+                lock: RwLock::new(KeptTree::new(tree)),
             };
             Ok(Parts {
                 program,
@@ -209,8 +243,7 @@ fn parts_of(
             })
         }
         Err(memory) => {
-            drop(tree);
-            drop(both);
+            drop(common);
             Err(memory)
         }
     }
@@ -240,8 +273,8 @@ fn lock_all<L: Run>(
         mail,
         locked,
     } = opened;
-    match lock_both(alloc, sites, mail) {
-        Ok(both) => match parts_of(alloc, program, code, budget, tree, both) {
+    match common_of(alloc, program, code, tree) {
+        Ok(common) => match parts_of(alloc, common, budget, sites, mail) {
             Ok(parts) => Ok(SharedNet {
                 parts,
                 locked: Mutex::new(locked),
@@ -252,7 +285,8 @@ fn lock_all<L: Run>(
             }
         },
         Err(memory) => {
-            drop(tree);
+            drop(sites);
+            drop(mail);
             drop(locked);
             Err(memory)
         }

@@ -9,7 +9,7 @@ ghost use Rattle.shared_net.specs.Offers.{MayGain};
 ghost use Rattle.shared_net.specs.Turning.{Turns};
 ghost use Rattle.shared_net.specs.inside.TurnParts.{Steps, StepsFirst};
 
-use crate::door::{Decides, Door};
+use crate::door::{Decides, Door, enter};
 use crate::gate::{Gate, Phase};
 use crate::net::{Parts, SharedNet};
 use crate::pass::Pass;
@@ -18,8 +18,8 @@ use chem_model::{Memory, Texts};
 use loc_tree::LocTree;
 use site_solution::Site;
 use site_turn::{
-    Chosen, Leading, Made, Post, Step, Tools, Turn, WideStep, act_here, act_wide, end_turn,
-    passed_or, propose_chosen, propose_move,
+    Chosen, KeptTree, Leading, Made, Post, Step, Tools, Turn, WideStep, act_here, act_wide,
+    end_turn, passed_or, propose_chosen, propose_move,
 };
 use std::alloc::Global;
 use std::sync::{Mutex, Wait};
@@ -86,7 +86,7 @@ impl Parts {
     fn turn_here<L: Run, K: Decides<L>, G: Gate, R: Wait>(
         &self,
         hands: &Hands<'_, K, G, R>,
-        tools: &Tools<'_, Boxes<'_, R>>,
+        boxes: &Boxes<'_, R>,
         pass: &mut Pass<L>,
     ) -> Result<Step, Memory>
         requires { hands.now.at < self.now.sites }
@@ -94,10 +94,26 @@ impl Parts {
         ensures gain { OnErr result (MayGain pass.old pass.new) }
     {
         let tree = self.tree.lock.read(hands.rt);
-        let mut site = self.sites.list[hands.at].lock(hands.rt);
+        let mut site = enter(hands.rt, &self.sites.list[hands.at]);
         let mail = self.mail_of(hands.rt, hands.alloc, hands.at);
         let mut door = hands.door(false);
-        act_here(tools, &mut *site, &*tree, &mail, &mut door, pass)
+        let kept = &mut *site;
+        kept.find(&*tree);
+        let tools = Tools {
+            alloc: hands.alloc,
+            program: &self.program,
+            code: kept.code.code(),
+            post: boxes,
+        };
+        match &kept.tree {
+            Some(own) => act_here(&tools, &mut kept.held, own.tree(), &mail, &mut door, pass),
+            None => {
+                let tree = tree.tree.tree();
+                let step = act_here(&tools, &mut kept.held, tree, &mail, &mut door, pass);
+                kept.held.fits = false;
+                step
+            }
+        }
     }
 
     // Proposes the move of a request that leads to another site, whose lock is taken too.
@@ -125,11 +141,13 @@ impl Parts {
             let ask = Chosen::Ask(leading.atom);
             return propose_chosen(alloc, site, tree, code, &ask, &mut door, pass);
         }
-        let mut into = self.sites.list[target].lock(hands.rt);
+        let mut other = self.sites.list[target].lock(hands.rt);
+        other.give_back();
+        let into = &mut other.held.site;
         propose_move(
             alloc,
             site,
-            &mut *into,
+            into,
             tree,
             code,
             &leading.atom,
@@ -138,12 +156,24 @@ impl Parts {
         )
     }
 
-    // The part of a turn under the tree's write lock and the site's. Messages went into mailboxes
-    // before, or not.
-    fn turn_wide<L: Run, K: Decides<L>, G: Gate, R: Wait>(
+    // Takes the tree back from all sites, so that it may be changed.
+    fn take_back<R: Wait>(&self, rt: &R, kept: &mut KeptTree) {
+        if !kept.is_taken() {
+            return;
+        }
+        let list = &self.sites.list;
+        for at in 0..list.len() {
+            list[at].lock(rt).give_back();
+        }
+    }
+
+    // What a site does next, with a tree that may be changed. Messages went into mailboxes before,
+    // or not.
+    fn act_over<L: Run, K: Decides<L>, G: Gate, R: Wait>(
         &self,
         hands: &Hands<'_, K, G, R>,
         tools: &Tools<'_, Boxes<'_, R>>,
+        tree: &mut LocTree,
         passed: bool,
         pass: &mut Pass<L>,
     ) -> Result<Turn, Memory>
@@ -151,18 +181,46 @@ impl Parts {
         ensures step { IfOk result (λ turn. Steps pass.old turn pass.new) }
         ensures gain { OnErr result (MayGain pass.old pass.new) }
     {
-        let mut tree = self.tree.lock.write(hands.rt);
-        let mut site = self.sites.list[hands.at].lock(hands.rt);
+        let mut kept = self.sites.list[hands.at].lock(hands.rt);
+        kept.give_back();
+        let site = &mut kept.held.site;
         let mail = self.mail_of(hands.rt, hands.alloc, hands.at);
         let mut door = hands.door(false);
-        match act_wide(tools, &mut *site, &mut *tree, &mail, &mut door, pass)? {
+        match act_wide(tools, site, tree, &mail, &mut door, pass)? {
             WideStep::Ended(turn) => Ok(passed_or(turn, passed)),
             WideStep::Leads(leading) => {
-                let made = self.cross(hands, tools, &mut *site, &mut *tree, &leading, pass)?;
+                let made = self.cross(hands, tools, site, tree, &leading, pass)?;
                 let turn = end_turn(tools, made)?;
                 Ok(passed_or(turn, passed || leading.passed))
             }
         }
+    }
+
+    // The part of a turn under the tree's write lock and the site's. Messages went into mailboxes
+    // before, or not.
+    fn turn_wide<L: Run, K: Decides<L>, G: Gate, R: Wait>(
+        &self,
+        hands: &Hands<'_, K, G, R>,
+        boxes: &Boxes<'_, R>,
+        passed: bool,
+        pass: &mut Pass<L>,
+    ) -> Result<Turn, Memory>
+        requires { hands.now.at < self.now.sites }
+        ensures step { IfOk result (λ turn. Steps pass.old turn pass.new) }
+        ensures gain { OnErr result (MayGain pass.old pass.new) }
+    {
+        let mut kept = self.tree.lock.write(hands.rt);
+        self.take_back(hands.rt, &mut *kept);
+        let tools = Tools {
+            alloc: hands.alloc,
+            program: &self.program,
+            code: self.code.code(),
+            post: boxes,
+        };
+        let Some(tree) = kept.tree.change() else {
+            return Err(Memory);
+        };
+        self.act_over(hands, &tools, tree, passed, pass)
     }
 
     // A turn at a site. It may wait.
@@ -179,15 +237,9 @@ impl Parts {
             rt: hands.rt,
             parts: self,
         };
-        let tools = Tools {
-            alloc: hands.alloc,
-            program: &self.program,
-            code: &self.code,
-            post: &boxes,
-        };
-        let turn = match self.turn_here(hands, &tools, pass)? {
+        let turn = match self.turn_here(hands, &boxes, pass)? {
             Step::Ended(turn) => turn,
-            Step::Wide(passed) => self.turn_wide(hands, &tools, passed, pass)?,
+            Step::Wide(passed) => self.turn_wide(hands, &boxes, passed, pass)?,
         };
         pass.note(turn);
         if let Turn::Did(_) = turn {
@@ -202,10 +254,10 @@ impl<L: Run> SharedNet<L> {
     /// one event. It may wait.
     ///
     /// Under the tree's read lock the site makes a reaction that opens no location, where one is
-    /// ready. All else it does under the tree's write lock, after its mail was worked off once
-    /// more; a move to another site takes that site's lock too. What is sent goes into the
-    /// mailboxes of its targets. The gate is passed inside the site's lock before the book's is
-    /// taken, and after a turn that made an event.
+    /// ready, or finds that there is nothing to do. All else it does under the tree's write lock,
+    /// after its mail was worked off once more; a move to another site takes that site's lock too.
+    /// What is sent goes into the mailboxes of its targets. The gate is passed inside the site's
+    /// lock before the book's is taken, and after a turn that made an event.
     ///
     /// `Passed` is answered where no event was made and a message that came went on into a mailbox.
     /// On want of memory the pass is as before, or has one receipt more, of the event that was

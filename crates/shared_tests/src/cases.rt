@@ -52,6 +52,36 @@ const HALTED: &str = "observe out/0; site a [ none : halt() ] \
 // The first reaction opens a location, with a message in it.
 const OPENED: &str = "observe out/1; site s [ x() => def m[ k() => out(m) : k() ] in 0 : x() ]";
 
+// A location moves to a site that has made as many reactions as it wants to keep the tree.
+const SETTLED: &str = "observe out/1; site a [ m[ k() => out(m) : go(b, k) ] : 0 ] \
+    site b [ t() => t() : t() ]";
+
+// The tree is kept from the 16th reaction on, and given back for the move.
+const SETTLED_STEPS: &[(u32, Turn)] = &[
+    (1, Turn::Did(0)),
+    (1, Turn::Did(1)),
+    (1, Turn::Did(2)),
+    (1, Turn::Did(3)),
+    (1, Turn::Did(4)),
+    (1, Turn::Did(5)),
+    (1, Turn::Did(6)),
+    (1, Turn::Did(7)),
+    (1, Turn::Did(8)),
+    (1, Turn::Did(9)),
+    (1, Turn::Did(10)),
+    (1, Turn::Did(11)),
+    (1, Turn::Did(12)),
+    (1, Turn::Did(13)),
+    (1, Turn::Did(14)),
+    (1, Turn::Did(15)),
+    (1, Turn::Did(16)),
+    (1, Turn::Did(17)),
+    (0, Turn::Did(18)),
+    (1, Turn::Did(19)),
+    (1, Turn::Did(20)),
+    (0, Turn::Nothing),
+];
+
 const CASES: &[Case] = &[
     Case {
         text: FIRST,
@@ -142,6 +172,16 @@ const CASES: &[Case] = &[
         full: false,
         held: 2,
         last: 1,
+    },
+    Case {
+        text: SETTLED,
+        budget: 40,
+        steps: SETTLED_STEPS,
+        events: 21,
+        idle: 1,
+        full: false,
+        held: 21,
+        last: 20,
     },
 ];
 

@@ -10,3 +10,4 @@ pub mod Room
 pub mod Bringing
 pub mod Asking
 pub mod Readied
+pub mod Fitting

@@ -6,6 +6,8 @@ use Rattle.loc_tree.specs.Tree.{Tree}
 use Rattle.net_laws.specs.Site.{Site}
 use Rattle.net_laws.specs.Net.{among, address}
 use Rattle.net_laws.specs.Holding.{put}
+use Rattle.env_store.specs.CodeParts.{CodeParts}
+use Rattle.site_solution.specs.Staying.{CanAct}
 use Rattle.router.specs.Delivering.{home_at}
 
 -- it was put at its home at the site, or it goes on from there to another site
@@ -27,3 +29,7 @@ pub record Brings (t : Tree) (s : Site) (m : MessageParts) (bytes : List ℕ) (b
   pub brought : IsBroughtTo t s m target new
   pub goes : GoesOn bytes target more
   pub on_is : after ≡ before ++ more
+
+-- where the site had what the calls over it need, it has it still
+abbrev pub StillActs : Tree → Site → Site → Type 0
+StillActs t s new = (c : CodeParts) → CanAct c t s → CanAct c t new

@@ -6,4 +6,6 @@ pub mod Arriving
 pub mod After
 pub mod Desk
 pub mod Steps
+pub mod Kept
+pub mod Crosses
 pub mod inside

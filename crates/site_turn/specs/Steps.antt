@@ -1,5 +1,5 @@
 -- What the two parts of a turn at a site come to: with the tree lent to be read, and to be changed.
-use Rattle.std.specs.Prelude.{◌≡◌, ◌⊎◌, ℕ, Bool, cond, List}
+use Rattle.std.specs.Prelude.{◌≡◌, ◌≢◌, ◌⊎◌, ℕ, Bool, cond, List}
 use Rattle.chem_model.specs.declared.event.AtomId.{AtomId}
 use Rattle.chem_model.specs.declared.event.Event.{Event}
 use Rattle.wire_packet.specs.declared.packet.Flight.{Flight}
@@ -53,11 +53,20 @@ module _ {D P : Type 0} (decides : D → P → Event → Bool → Turn → D →
     pub passed : Bool
     pub turn_is : turn ≡ passed_or made.turn passed
 
+  -- the site chose nothing
+  pub record Idles (version : ℕ) (c : CodeParts) (t : Tree) (s : Site) (desk : D)
+      (carried : P) (turn : Turn) (new : Site) (after : D) (carries : P) : Type 0 where
+    pub chooses : Chooses version c t s chosen.Nothing
+    pub same : AreSame s desk carried new after carries
+    pub passed : Bool
+    pub turn_is : turn ≡ passed_or Nothing passed
+
   -- the site chose something else
   pub record NeedsTree (version : ℕ) (c : CodeParts) (t : Tree) (s : Site) (desk : D)
       (carried : P) (new : Site) (after : D) (carries : P) : Type 0 where
     pub choice : Chosen
     pub chooses : Chooses version c t s choice
+    pub some : choice ≢ chosen.Nothing
     pub other : (p : Pick) → choice ≡ chosen.Pick p → OpensNone c s p → ⊥
     pub same : AreSame s desk carried new after carries
 
@@ -65,6 +74,7 @@ module _ {D P : Type 0} (decides : D → P → Event → Bool → Turn → D →
       ℕ → CodeParts → Tree → Site → D → P → Step → Site → D → P → Type 0
   StepsHere version c t s desk carried (step.Ended turn) new after carries =
       EndsHere c t s desk carried turn new after carries
+      ⊎ Idles version c t s desk carried turn new after carries
   StepsHere version c t s desk carried (step.Wide passed) new after carries =
       NeedsTree version c t s desk carried new after carries
 
@@ -94,11 +104,8 @@ module _ {D P : Type 0} (decides : D → P → Event → Bool → Turn → D →
   pub record EndsIdle (version : ℕ) (c : CodeParts) (t : Tree) (s : Site) (desk : D)
       (carried : P) (turn : Turn) (u : Tree) (new : Site) (after : D) (carries : P)
       : Type 0 where
-    pub chooses : Chooses version c t s chosen.Nothing
     pub tree : u ≡ t
-    pub same : AreSame s desk carried new after carries
-    pub passed : Bool
-    pub turn_is : turn ≡ passed_or Nothing passed
+    pub idles : Idles version c t s desk carried turn new after carries
 
   -- it chose a request to go to a location that another site hosts
   pub record LeadsAway (version : ℕ) (c : CodeParts) (t : Tree) (s : Site) (desk : D)

@@ -1,14 +1,13 @@
 // Mail that comes to a site.
-ghost use Rattle.std.specs.Prelude.{◌≡◌, [], ◌∷◌, ◌++◌, true, IfOk, OnOk, OnErr};
+ghost use Rattle.std.specs.Prelude.{◌≡◌, [], ◌∷◌, ◌++◌, true, IfOk, OnOk, OnErr, IsTrue};
 ghost use Rattle.chem_model.specs.Each.{Each};
-ghost use Rattle.env_store.specs.CodeParts.{CodeParts};
 ghost use Rattle.wire_packet.specs.MessageFacts.{MessageParts};
 ghost use Rattle.wire_packet.specs.Codec.{IsSpelledBy};
 ghost use Rattle.wire_packet.specs.declared.parcel.Packet.TheVariants as sent;
-ghost use Rattle.site_solution.specs.Staying.{CanAct};
+ghost use Rattle.site_solution.specs.InTree.{is_in_tree};
 ghost use Rattle.router.specs.Delivering.{can_deliver};
 ghost use Rattle.site_turn.specs.Mail.{IsMessageText, IsMessageFlight};
-ghost use Rattle.site_turn.specs.Bringing.{Brings};
+ghost use Rattle.site_turn.specs.Bringing.{Brings, StillActs};
 ghost use Rattle.site_turn.specs.Arriving.{HasCome, Arrives, HasBegun};
 ghost use Rattle.site_turn.specs.inside.Coming.{Comes, HasComeUpTo};
 
@@ -63,8 +62,7 @@ pub fn bring(
 ) -> Result<(), Memory>
     requires { can_deliver tree.now site.old msg ≡ true }
     ensures ok { OnOk result (Brings tree.now site.old msg bytes.now on.old site.new on.new) }
-    ensures fit { OnOk result ((c : CodeParts) → CanAct c tree.now site.old
-        → CanAct c tree.now site.new) }
+    ensures fit { OnOk result (StillActs tree.now site.old site.new) }
     ensures err { OnErr result (site.new ≡ site.old) }
 {
     match deliver(site, tree, msg) {
@@ -84,6 +82,7 @@ fn take_text(
 ) -> Result<(), Memory>
     requires { IsMessageText text.now }
     ensures ok { OnOk result (Comes tree.now site.old text.now on.old site.new on.new) }
+    ensures fit { OnOk result (StillActs tree.now site.old site.new) }
     ensures err { OnErr result (site.new ≡ site.old) }
 {
     let bytes = text.as_slice();
@@ -103,6 +102,7 @@ fn work_off(
 ) -> Result<Flights, Memory>
     requires { Each IsMessageText mail.now }
     ensures ok { IfOk result (HasCome tree.now site.old mail.now site.new) }
+    ensures fit { OnOk result (StillActs tree.now site.old site.new) }
     ensures err { OnErr result (HasComeUpTo tree.now site.old mail.now site.new) }
 {
     let mut on = Items::new(alloc);
@@ -110,6 +110,36 @@ fn work_off(
         take_text(alloc, site, tree, text, &mut on)?;
     }
     Ok(on)
+}
+
+// Whether what the site holds and names is all in the tree, which may be known.
+fn is_there(site: &Site, tree: &LocTree, known: bool) -> bool
+    requires { IsTrue known → IsTrue (is_in_tree tree.now site.now) }
+    ensures { result ≡ is_in_tree tree.now site.now }
+{
+    known || site.in_tree(tree)
+}
+
+// Works mail off, in order, as `arrive` does. That all which the site holds and names is in the tree
+// may be known, and then isn't looked at. A site that had what the calls over it need has it still.
+pub(crate) fn arrive_known(
+    alloc: Global,
+    site: &mut Site,
+    tree: &LocTree,
+    mail: &Texts,
+    known: bool,
+) -> Result<Flights, Memory>
+    requires text { Each IsMessageText mail.now }
+    requires known { IsTrue known → IsTrue (is_in_tree tree.now site.old) }
+    ensures arrives { IfOk result (Arrives tree.now site.old mail.now site.new) }
+    ensures fit { OnOk result (StillActs tree.now site.old site.new) }
+    ensures spelled { IfOk result (Each IsMessageFlight) }
+    ensures err { OnErr result (HasBegun tree.now site.old mail.now site.new) }
+{
+    if mail.is_empty() || !is_there(site, tree, known) {
+        return Ok(Items::new(alloc));
+    }
+    work_off(alloc, site, tree, mail.as_slice())
 }
 
 /// Works mail off, in order. A message that may be delivered at its turn is put at its home, where
@@ -127,8 +157,5 @@ pub fn arrive(
     ensures spelled { IfOk result (Each IsMessageFlight) }
     ensures err { OnErr result (HasBegun tree.now site.old mail.now site.new) }
 {
-    if mail.is_empty() || !site.in_tree(tree) {
-        return Ok(Items::new(alloc));
-    }
-    work_off(alloc, site, tree, mail.as_slice())
+    arrive_known(alloc, site, tree, mail, false)
 }

@@ -70,6 +70,20 @@ pub fn least_met(site: &Site, tree: &LocTree, version: u32) -> Option<AtomId>
     None
 }
 
+// What the site does next, where it has what the calls over it need.
+pub(crate) fn next_of(site: &Site, program: &Program, code: &Code, tree: &LocTree) -> Chosen
+    requires { CanAct code.now tree.now site.now }
+    ensures { Chooses program.now.version code.now tree.now site.now result }
+{
+    if let Some(pick) = ready(site, code, tree) {
+        return Chosen::Pick(pick);
+    }
+    match least_met(site, tree, program.version) {
+        Some(atom) => Chosen::Ask(atom),
+        None => Chosen::Nothing,
+    }
+}
+
 /// What the site does next: the reaction that is ready; where none is, the request with the least
 /// id that may be met. It is nothing exactly where there is neither, or where the site, the tree
 /// and the code don't fit together, as the tests of the site tell.
@@ -81,11 +95,5 @@ pub fn choose(site: &Site, program: &Program, code: &Code, tree: &LocTree) -> Ch
     if !can_act(site, code, tree) {
         return Chosen::Nothing;
     }
-    if let Some(pick) = ready(site, code, tree) {
-        return Chosen::Pick(pick);
-    }
-    match least_met(site, tree, program.version) {
-        Some(atom) => Chosen::Ask(atom),
-        None => Chosen::Nothing,
-    }
+    next_of(site, program, code, tree)
 }

@@ -1,19 +1,22 @@
 // The two parts of a turn at a site, in which it makes at most one event: one that leaves the tree
 // as it is, and where that doesn't do, one that may change it.
-ghost use Rattle.std.specs.Prelude.{◌≡◌, ◌≢◌, List, IfOk, IfSome, OnOk, OnErr};
+ghost use Rattle.std.specs.Prelude.{◌≡◌, ◌≢◌, List, false, IfOk, IfSome, OnOk, OnErr, IsTrue};
 ghost use Rattle.chem_model.specs.Each.{Each};
 ghost use Rattle.wire_packet.specs.declared.packet.Flight.{Flight as flight};
 ghost use Rattle.site_turn.specs.declared.next.Chosen.TheVariants as choice;
+ghost use Rattle.site_solution.specs.Staying.{CanAct};
 ghost use Rattle.site_turn.specs.Arriving.{Arrives};
+ghost use Rattle.site_turn.specs.Bringing.{StillActs};
 ghost use Rattle.site_turn.specs.Next.{Chooses, IsToGo};
 ghost use Rattle.site_turn.specs.Mail.{IsMessageText, IsMessageFlight};
 ghost use Rattle.site_turn.specs.declared.turn.Made.{Made as made_term};
 ghost use Rattle.site_turn.specs.Desk.{ProposesChosen, MayHaveProposed};
 ghost use Rattle.site_turn.specs.Steps.{passed_or, IsAny, StepsHere, ActsHere, StepsWide, ActsWide};
 
-use crate::arriving::arrive;
+use crate::arriving::arrive_known;
 use crate::asks::leads_to;
 use crate::desk::{Desk, Post, Tools};
+use crate::fitted::{Fitted, choose_fitted, still_fits};
 use crate::next::{Chosen, choose};
 use crate::picks::opens_none;
 use crate::proposing::{propose_chosen, propose_pick};
@@ -21,6 +24,7 @@ use crate::turn::{Made, Turn};
 use chem_model::{AtomId, Memory, Texts};
 use loc_tree::LocTree;
 use site_solution::{Effects, Site};
+use std::mem;
 
 /// What the part of a turn came to in which the tree stays.
 #[derive(Clone, Copy, PartialEq, Eq, Debug)]
@@ -68,66 +72,92 @@ pub fn end_turn<M: Post>(tools: &Tools<'_, M>, made: Made) -> Result<Turn, Memor
     Ok(turn)
 }
 
-// The mail comes, and what goes on of it is posted. Whether that went into a mailbox.
+// The mail comes, and what goes on of it is posted. Whether that went into a mailbox. It may be
+// known that the site has what the calls over it need.
 fn come<M: Post>(
     tools: &Tools<'_, M>,
     site: &mut Site,
     tree: &LocTree,
     mail: &Texts,
+    known: bool,
 ) -> Result<bool, Memory>
-    requires { Each IsMessageText mail.now }
-    ensures { OnOk result ((on : List flight) × Arrives tree.now site.old mail.now site.new on) }
+    requires text { Each IsMessageText mail.now }
+    requires known { IsTrue known → CanAct tools.now.code.now tree.now site.old }
+    ensures arrives { OnOk result
+        ((on : List flight) × Arrives tree.now site.old mail.now site.new on) }
+    ensures fit { OnOk result (StillActs tree.now site.old site.new) }
 {
-    let on = arrive(tools.alloc, site, tree, mail)?;
+    let on = arrive_known(tools.alloc, site, tree, mail, known)?;
     tools.post.post(on)
 }
 
 // What the site does next, where that leaves the tree as it is.
 fn step_here<P, D: Desk<P>, M: Post>(
     tools: &Tools<'_, M>,
-    site: &mut Site,
+    held: &mut Fitted,
     tree: &LocTree,
     passed: bool,
     desk: &mut D,
     carried: &mut P,
 ) -> Result<Step, Memory>
+    requires { IsTrue held.old.fits → CanAct tools.now.code.now tree.now held.old.site }
     ensures steps { IfOk result (λ step. StepsHere D.decides tools.now.program.now.version
-        tools.now.code.now tree.now site.old desk.old carried.old step
-        site.new desk.new carried.new) }
+        tools.now.code.now tree.now held.old.site desk.old carried.old step
+        held.new.site desk.new carried.new) }
+    ensures fits { OnOk result
+        (IsTrue held.new.fits → CanAct tools.now.code.now tree.now held.new.site) }
+    ensures lost { OnErr result (held.new.fits ≡ false) }
     ensures err { OnErr result (MayHaveProposed D.decides D.keeps IsAny
         desk.old carried.old desk.new carried.new) }
 {
-    let Chosen::Pick(pick) = choose(site, tools.program, tools.code, tree) else {
-        return Ok(Step::Wide(passed));
+    let pick = match choose_fitted(held, tools.program, tools.code, tree) {
+        Chosen::Pick(pick) => pick,
+        Chosen::Ask(_) => return Ok(Step::Wide(passed)),
+        Chosen::Nothing => return Ok(Step::Ended(passed_or(Turn::Nothing, passed))),
     };
-    if !opens_none(site, tools.code, tree, &pick) {
+    if !opens_none(&held.site, tools.code, tree, &pick) {
         return Ok(Step::Wide(passed));
     }
+    held.fits = false;
+    let site = &mut held.site;
     let made = propose_pick(tools.alloc, site, tree, tools.code, &pick, desk, carried)?;
+    let fits = still_fits(&held.site, tree, &made);
     let turn = end_turn(tools, made)?;
+    held.fits = fits;
     Ok(Step::Ended(passed_or(turn, passed)))
 }
 
 /// The part of a turn in which the tree stays: the mail comes, and what goes on of it is posted;
 /// then, where the site chooses a reaction that opens no location, that is proposed, and what it
-/// sends is posted. On want of memory at most one event was proposed.
+/// sends is posted; where it chooses nothing, the turn is over. On want of memory at most one event
+/// was proposed.
+///
+/// Where it is known that the site has what the calls over it need, that isn't tested. It is known
+/// afterwards where it was known or tested, and the event, if one was made, bore no location and
+/// leaves numbers to draw. On want of memory it isn't.
 pub fn act_here<P, D: Desk<P>, M: Post>(
     tools: &Tools<'_, M>,
-    site: &mut Site,
+    held: &mut Fitted,
     tree: &LocTree,
     mail: &Texts,
     desk: &mut D,
     carried: &mut P,
 ) -> Result<Step, Memory>
-    requires { Each IsMessageText mail.now }
+    requires text { Each IsMessageText mail.now }
+    requires fits { IsTrue held.old.fits → CanAct tools.now.code.now tree.now held.old.site }
     ensures acts { IfOk result (λ step. ActsHere D.decides tools.now.program.now.version
-        tools.now.code.now tree.now site.old mail.now desk.old carried.old step
-        site.new desk.new carried.new) }
+        tools.now.code.now tree.now held.old.site mail.now desk.old carried.old step
+        held.new.site desk.new carried.new) }
+    ensures fits { OnOk result
+        (IsTrue held.new.fits → CanAct tools.now.code.now tree.now held.new.site) }
+    ensures lost { OnErr result (held.new.fits ≡ false) }
     ensures err { OnErr result (MayHaveProposed D.decides D.keeps IsAny
         desk.old carried.old desk.new carried.new) }
 {
-    let passed = come(tools, site, tree, mail)?;
-    step_here(tools, site, tree, passed, desk, carried)
+    let known = mem::replace(&mut held.fits, false);
+    let passed = come(tools, &mut held.site, tree, mail, known)?;
+    held.fits = known;
+    step_here(tools, held, tree, passed, desk, carried)
 }
 
 // Where the site chose a request to go to a location that another site hosts: the request, and the
@@ -216,6 +246,6 @@ pub fn act_wide<P, D: Desk<P>, M: Post>(
     ensures err { OnErr result (MayHaveProposed D.decides D.keeps IsAny
         desk.old carried.old desk.new carried.new) }
 {
-    let passed = come(tools, site, tree, mail)?;
+    let passed = come(tools, site, tree, mail, false)?;
     step_wide(tools, site, tree, passed, desk, carried)
 }

@@ -3,9 +3,6 @@ use Rattle.std.specs.Borrow.{RattleType}
 use Rattle.std.specs.declared.sync.ledger.Ledger as Ledger
 use denote.Param.Send.{IsSend, IsSync}
 use Rattle.chem_model.specs.contracts.program.Program as program
-use Rattle.env_store.specs.contracts.code.Code as code
-use Rattle.loc_tree.specs.contracts.tree.LocTree as tree
-use Rattle.site_solution.specs.contracts.site.Site as site
 use Rattle.shared_net.specs.contracts.locked.Locked as locked
 use Rattle.shared_net.specs.contracts.mail.Mailbox as mailbox
 use Rattle.shared_net.specs.contracts.net.LockedTree as locked_tree
@@ -14,23 +11,11 @@ use Rattle.shared_net.specs.contracts.net.LockedMail as locked_mail
 use Rattle.shared_net.specs.contracts.net.Parts as parts
 use Rattle.shared_net.specs.declared.run.Run as Run
 
-abbrev pub TreeCrosses : Type 0
-TreeCrosses = IsSend tree.the_row
-
-abbrev pub SiteCrosses : Type 0
-SiteCrosses = IsSend site.the_row
-
 abbrev pub MailboxCrosses : Type 0
 MailboxCrosses = IsSend mailbox.the_row
 
 abbrev pub ProgramIsShared : Type 0
 ProgramIsShared = IsSync program.the_row
-
-abbrev pub CodeIsShared : Type 0
-CodeIsShared = IsSync code.the_row
-
-abbrev pub TreeIsShared : Type 0
-TreeIsShared = IsSync tree.the_row
 
 abbrev pub LockedTreeIsShared : Type 0
 LockedTreeIsShared = IsSync locked_tree.the_row

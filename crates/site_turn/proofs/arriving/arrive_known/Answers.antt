@@ -3,7 +3,7 @@ use Rattle.reducer.proofs.Reactions.{if_ok}
 use Rattle.site_turn.specs.Mail.{IsMessageFlight}
 use Rattle.site_turn.specs.Arriving.{HasCome, all_come}
 use Rattle.site_turn.proofs.Coming.{are_message_flights}
-use Rattle.site_turn.proofs.arriving.arrive.Goals as goal
+use Rattle.site_turn.proofs.arriving.arrive_known.Goals as goal
 
 pub returns-clause-spelled : goal.returns-clause-spelled
 returns-clause-spelled c =
