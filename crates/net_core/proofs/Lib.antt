@@ -50,3 +50,6 @@ pub mod Requests
 pub mod SoFar
 pub mod NoneFound
 pub mod StillRests
+pub mod Idling
+pub mod InPlace
+pub mod StillIdle

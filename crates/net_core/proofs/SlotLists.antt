@@ -35,21 +35,21 @@ slots_more (x ∷ ss) s = ap (λ rs. slot_of x ∷ rs) (slots_more ss s)
 
 -- ---- what slots hold, one behind the other
 
-sites_join : (ss rs : List Slot) → sites_of (ss ++ rs) ≡ sites_of ss ++ sites_of rs
+pub sites_join : (ss rs : List Slot) → sites_of (ss ++ rs) ≡ sites_of ss ++ sites_of rs
 sites_join [] rs = refl
 sites_join (s ∷ ss) rs = ap (λ xs. s.site ∷ xs) (sites_join ss rs)
 
-events_join : (ss rs : List Slot) → events_of (ss ++ rs) ≡ events_of ss ++ events_of rs
+pub events_join : (ss rs : List Slot) → events_of (ss ++ rs) ≡ events_of ss ++ events_of rs
 events_join [] rs = refl
 events_join (s ∷ ss) rs = ap (λ xs. events_in s.work ++ xs) (events_join ss rs)
     ∙ sym (append_assoc (events_in s.work) (events_of ss) (events_of rs))
 
-outs_join : (ss rs : List Slot) → outs_of (ss ++ rs) ≡ outs_of ss ++ outs_of rs
+pub outs_join : (ss rs : List Slot) → outs_of (ss ++ rs) ≡ outs_of ss ++ outs_of rs
 outs_join [] rs = refl
 outs_join (s ∷ ss) rs = ap (λ xs. outs_in s.work ++ xs) (outs_join ss rs)
     ∙ sym (append_assoc (outs_in s.work) (outs_of ss) (outs_of rs))
 
-flights_join : (ss rs : List Slot) → flights_of (ss ++ rs) ≡ flights_of ss ++ flights_of rs
+pub flights_join : (ss rs : List Slot) → flights_of (ss ++ rs) ≡ flights_of ss ++ flights_of rs
 flights_join [] rs = refl
 flights_join (s ∷ ss) rs = ap (λ xs. flights_in s.work ++ xs) (flights_join ss rs)
     ∙ sym (append_assoc (flights_in s.work) (flights_of ss) (flights_of rs))

@@ -98,12 +98,12 @@ each_index P Q (x ∷ xs) f h = (f 0 x refl h.0, each_index P Q xs (λ j y e. f 
 -- ---- births
 
 module _ (i : ℕ) where
-  birth_spot : (t : Tree) (b q : Loc)
+  pub birth_spot : (t : Tree) (b q : Loc)
       → spot (with_birth t b i) q ≡ or_else (spot t q) (lookup (is_pair_of q) (unmarked b i ∷ []))
   birth_spot t b q = lookup_behind q t.entries (unmarked b i ∷ [])
 
   -- what is in the tree stays as it is
-  still_there : (bs : List Loc) (t : Tree) (q : Loc) (p : Spot) → spot t q ≡ Some p
+  pub still_there : (bs : List Loc) (t : Tree) (q : Loc) (p : Spot) → spot t q ≡ Some p
       → spot (with_births t i bs) q ≡ Some p
   still_there [] t q p e = e
   still_there (b ∷ bs) t q p e = still_there bs (with_birth t b i) q p

@@ -13,3 +13,5 @@ pub mod Delivering
 pub mod Slots
 pub mod Searched
 pub mod Rests
+pub mod Idle
+pub mod Turns

@@ -25,6 +25,7 @@ ghost use Rattle.net_core.specs.Whole.{IsWhole, IsNetWhole};
 use crate::choice::Choice;
 use crate::delivering::deliver_flight;
 use crate::events::{detect_request, halt_request, move_here, move_over, react_pick};
+use crate::idle::forget;
 use crate::net::Net;
 use crate::parts::Parts;
 use crate::searching::meeting_site;
@@ -244,6 +245,7 @@ impl Net {
         ensures err { OnErr result (self.new ≡ self.old) }
     {
         self.asked.clear();
+        forget(&mut self.idle, choice);
         self.acted = true;
         match make_noted(
             alloc,

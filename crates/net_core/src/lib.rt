@@ -8,6 +8,7 @@ mod delivering;
 mod drained;
 mod events;
 mod handing;
+mod idle;
 mod laws;
 mod meeting;
 mod moving;
@@ -25,6 +26,7 @@ mod senders;
 mod slots;
 mod tracing;
 mod turn;
+mod turns;
 
 pub use choice::{Choice, Choices};
 pub use drained::{FlightFrom, FlightFroms};

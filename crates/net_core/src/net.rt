@@ -11,6 +11,7 @@ ghost use Rattle.net_core.specs.Working.{IsOpeningAt};
 
 use crate::asking::{all_asks, asked_by};
 use crate::choice::{Choice, Choices};
+use crate::idle::is_idle_at;
 use crate::parts::Parts;
 use crate::searching::{first_request, is_enabled, next_choice, opening_of};
 use crate::senders::Run;
@@ -42,6 +43,8 @@ pub struct Net {
     pub(crate) asked: Vec<u32>,
     // whether a choice was made since it was looked whether one may be
     pub(crate) acted: bool,
+    // at which sites no reaction is ready; where it is too short, that isn't known
+    pub(crate) idle: Vec<bool>,
 }
 
 impl Model for Net {
@@ -59,7 +62,8 @@ impl Model for Net {
       events = n.events;
     } };
 
-    ghost invariant = { λ n. IsKept n.code n.parts n.senders.items n.events n.asked.items };
+    ghost invariant = { λ n.
+        IsKept n.code n.parts n.senders.items n.events n.asked.items n.idle.items };
 }
 
 impl Net {
@@ -147,6 +151,9 @@ impl Net {
         ensures none { IfNone result (ReadyOpensNone self.now.code self.now.net site) }
         ensures some { IfSome result (IsOpeningAt self.now.code self.now.net site) }
     {
+        if is_idle_at(self.idle.as_slice(), site as usize) {
+            return None;
+        }
         opening_of(
             self.parts.sites.as_slice(),
             &self.parts.tree,

@@ -163,6 +163,7 @@ impl Net {
                 events: 0,
                 asked: Vec::new(alloc),
                 acted: false,
+                idle: Vec::new(alloc),
             }),
             Err(memory) => {
                 drop(parts);

@@ -79,6 +79,7 @@ impl Net {
         ensures err { OnErr result (self.new ≡ self.old) }
     {
         self.asked.clear();
+        self.idle.clear();
         receive_noted(alloc, &mut self.parts, &mut self.senders, site, bytes)
     }
 }

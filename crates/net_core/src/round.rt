@@ -1,14 +1,18 @@
-// Rounds of all sites, lent to workers.
+// Rounds of all sites: each has its turn, where it stands or lent to one of the workers.
 ghost use Rattle.std.specs.Prelude.{ℕ, ◌+◌, ◌-◌, ◌*◌, ◌<◌, ◌≤◌, ◌^◌, length, IfOk, OnOk};
+ghost use Rattle.loc_tree.specs.Tree.{bare};
+ghost use Rattle.net_core.specs.inside.Idle.{AreIdle};
 ghost use Rattle.net_core.specs.inside.Slots.{HasRound, HasSent};
 ghost use Rattle.net_core.specs.Whole.{IsWhole};
 ghost use Rattle.net_core.specs.Working.{HasWorked};
 
 use crate::asking::keep_asked;
+use crate::idle::{know_all, wake};
 use crate::net::Net;
 use crate::parts::Parts;
 use crate::senders::Run;
 use crate::slots::{Round, lend, slots_of, take_all_back};
+use crate::turns::{Turns, turn_all};
 use chem_model::{Items, Journal, Memory};
 use env_store::Code;
 use std::alloc::Global;
@@ -21,6 +25,50 @@ use std::thread::Threads;
 struct Limits {
     workers: u32,
     quota: u32,
+}
+
+// Each site has its turn where it stands; those that are idle, and to which no packet goes, have
+// none. Where there is no memory, the parts are not whole any more.
+fn round_here(
+    alloc: Global,
+    parts: &mut Parts,
+    senders: &mut VecDeque<Run>,
+    idle: &mut Vec<bool>,
+    code: &Code,
+    quota: u32,
+) -> Result<Journal, Memory>
+    requires few { (events : ℕ) × (events + quota * length parts.old.sites.items < 2 ^ 32 - 1)
+        × IsWhole code.now parts.old events }
+    requires idle { AreIdle code.now (bare parts.old.tree) parts.old.sites.items idle.old.items }
+    ensures round { IfOk result (λ journal.
+        HasRound code.now quota parts.old parts.new journal) }
+    ensures sent { OnOk result (HasSent code.now quota parts.old parts.new senders.new.items) }
+    ensures idle { OnOk result
+        (AreIdle code.now (bare parts.new.tree) parts.new.sites.items idle.new.items) }
+{
+    know_all(alloc, idle, parts.sites.len())?;
+    let flights = mem::replace(&mut parts.flights, VecDeque::new(alloc));
+    let mail = flights.into_vec();
+    let coming = mail.as_slice();
+    wake(idle, coming);
+    parts.under_way = 0;
+    senders.clear();
+    let mut journal = Items::new(alloc);
+    let turns = Turns {
+        alloc,
+        code,
+        flights: coming,
+        quota,
+    };
+    let turned = turn_all(parts, senders, &mut journal, idle, turns);
+    drop(mail);
+    match turned {
+        Ok(()) => Ok(journal),
+        Err(memory) => {
+            drop(journal);
+            Err(memory)
+        }
+    }
 }
 
 // Lends each site to one of the workers, and takes all back. Where there is no memory, the parts
@@ -67,6 +115,44 @@ fn round_of<R: Threads + Sync>(
     }
 }
 
+// The code of a round, and its limits.
+#[derive(Clone, Copy)]
+struct Terms<'a> {
+    code: &'a Code,
+    limits: Limits,
+}
+
+// Each site has its turn: where it stands, if there is one worker, and else lent to one of them.
+fn round_by<R: Threads + Sync>(
+    rt: &R,
+    alloc: Global,
+    parts: &mut Parts,
+    senders: &mut VecDeque<Run>,
+    idle: &mut Vec<bool>,
+    terms: Terms<'_>,
+) -> Result<Journal, Memory>
+    requires workers { 1 ≤ terms.limits.workers }
+    requires few { (events : ℕ)
+        × (events + terms.limits.quota * length parts.old.sites.items < 2 ^ 32 - 1)
+        × IsWhole terms.code.now parts.old events }
+    requires idle { AreIdle terms.code.now (bare parts.old.tree) parts.old.sites.items
+        idle.old.items }
+    ensures round { IfOk result (λ journal.
+        HasRound terms.entry.code.now terms.entry.limits.quota parts.old parts.new journal) }
+    ensures sent { OnOk result
+        (HasSent terms.entry.code.now terms.entry.limits.quota parts.old parts.new
+        senders.new.items) }
+    ensures idle { OnOk result
+        (AreIdle terms.entry.code.now (bare parts.new.tree) parts.new.sites.items idle.new.items) }
+{
+    let Terms { code, limits } = terms;
+    if limits.workers == 1 {
+        return round_here(alloc, parts, senders, idle, code, limits.quota);
+    }
+    idle.clear();
+    round_of(rt, alloc, parts, senders, code, limits)
+}
+
 impl Net {
     /// Lends each site to one of the workers. Each site delivers what was under way to it at the
     /// start of the round, in order: a message is put at its home, or goes on to the site that
@@ -94,9 +180,13 @@ impl Net {
             events,
             mut asked,
             acted,
+            mut idle,
         } = self;
-        let limits = Limits { workers, quota };
-        match round_of(rt, alloc, &mut parts, &mut senders, &code, limits) {
+        let terms = Terms {
+            code: &code,
+            limits: Limits { workers, quota },
+        };
+        match round_by(rt, alloc, &mut parts, &mut senders, &mut idle, terms) {
             Ok(journal) => {
                 let events = events + journal.len() as u32;
                 keep_asked(&mut asked, parts.sites.as_slice());
@@ -107,6 +197,7 @@ impl Net {
                     events,
                     asked,
                     acted,
+                    idle,
                 };
                 Ok((net, journal))
             }
@@ -114,6 +205,7 @@ impl Net {
                 drop(parts);
                 drop(senders);
                 drop(asked);
+                drop(idle);
                 drop(code);
                 Err(memory)
             }

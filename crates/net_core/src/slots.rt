@@ -104,10 +104,10 @@ fn send(flights: &mut VecDeque<Flight>, under_way: &mut u32, more: Flights) -> R
 }
 
 // Takes back what the turn of a site leaves.
-fn take_work(parts: &mut Parts, journal: &mut Journal, work: Work) -> Result<(), Memory>
+pub(crate) fn take_work(parts: &mut Parts, journal: &mut Journal, work: Work) -> Result<(), Memory>
     ensures { OnOk result (IsTaken work parts.old journal.old parts.new journal.new) }
 {
-    let Work { on, made } = work;
+    let Work { on, made, idle: _ } = work;
     let Made {
         sends,
         outs,

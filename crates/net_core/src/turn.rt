@@ -1,13 +1,12 @@
 // A turn of a site, while it is lent: its mail is worked off, and then it reacts.
-ghost use Rattle.std.specs.Prelude.{ℕ, ◌+◌, ◌<◌, ◌^◌, [], IfSome};
-ghost use Rattle.std.specs.Prelude.{IfNone, IfOk, OnOk, IsTrue};
+ghost use Rattle.std.specs.Prelude.{◌≡◌, ℕ, ◌+◌, ◌<◌, ◌^◌, [], true, IfOk, OnOk};
 ghost use Rattle.chem_model.specs.Each.{Each};
-ghost use Rattle.site_solution.specs.InTree.{is_in_tree};
-ghost use Rattle.site_solution.specs.InCode.{is_in_code};
 ghost use Rattle.site_solution.specs.Staying.{CanAct};
 ghost use Rattle.reducer.specs.Picks.{MayFire};
 ghost use Rattle.net_core.specs.inside.Alone.{IsAlone, HasArrived};
-ghost use Rattle.net_core.specs.inside.Alone.{IsNextHere, NoneIsNext, IsNoted};
+ghost use Rattle.net_core.specs.inside.Alone.{IsNoted};
+ghost use Rattle.reducer.specs.Ready.{NoneFires};
+ghost use Rattle.loc_tree.specs.Tree.{bare};
 ghost use Rattle.net_core.specs.inside.Alone.{ReactsAndNotes};
 ghost use Rattle.net_core.specs.inside.Alone.{HasReacted};
 ghost use Rattle.net_core.specs.inside.Alone.{IsWorked};
@@ -32,11 +31,13 @@ pub(crate) struct Made {
     pub(crate) events: Journal,
 }
 
-// What a turn leaves: the packets that go on, and what the reactions leave.
+// What a turn leaves: the packets that go on, what the reactions leave, and whether none is ready
+// any more.
 #[derive(Drop)]
 pub(crate) struct Work {
     pub(crate) on: Flights,
     pub(crate) made: Made,
+    pub(crate) idle: bool,
 }
 
 // ---- mail
@@ -73,20 +74,6 @@ fn work_off(
 
 // ---- reactions
 
-// The reaction that is ready, where it opens no location.
-fn next_pick(site: &Site, code: &Code, tree: &LocTree) -> Option<Pick>
-    requires tree { IsTrue (is_in_tree tree.now site.now) }
-    requires code { IsTrue (is_in_code code.now tree.now site.now) }
-    ensures none { IfNone result (NoneIsNext code.now tree.now site.now) }
-    ensures some { IfSome result (IsNextHere code.now tree.now site.now) }
-{
-    let pick = ready(site, code, tree)?;
-    if births(code, site, &pick) > 0 {
-        return None;
-    }
-    Some(pick)
-}
-
 // An event and its effects go behind what was made so far.
 fn note(made: &mut Made, event: Event, effects: &mut Effects) -> Result<(), Memory>
     ensures { OnOk result (IsNoted event effects.old made.old made.new) }
@@ -115,18 +102,19 @@ fn react_once(
 }
 
 // Reacts with what is ready, until the quota is used up, none is ready, or the one that is opens a
-// location.
+// location. The answer is what is made, and whether it ends since none is ready.
 fn react_up_to(
     alloc: Global,
     site: &mut Site,
     code: &Code,
     tree: &LocTree,
     quota: u32,
-) -> Result<Made, Memory>
+) -> Result<(Made, bool), Memory>
     requires { (events : ℕ) × (events + quota < 2 ^ 32)
         × IsAlone code.now tree.now site.old.number events site.old [] }
-    ensures { IfOk result (λ made.
-        HasReacted code.now tree.now site.old.number quota site.old made site.new) }
+    ensures reacted { IfOk result (λ r.
+        HasReacted code.now tree.now site.old.number quota site.old r.0 site.new) }
+    ensures idle { IfOk result (λ r. r.1 ≡ true → NoneFires code.now (bare tree.now) site.new) }
 {
     let mut made = Made {
         sends: Items::new(alloc),
@@ -134,12 +122,15 @@ fn react_up_to(
         events: Items::new(alloc),
     };
     for _event in 0..quota {
-        let Some(pick) = next_pick(site, code, tree) else {
-            return Ok(made);
+        let Some(pick) = ready(site, code, tree) else {
+            return Ok((made, true));
         };
+        if births(code, site, &pick) > 0 {
+            return Ok((made, false));
+        }
         react_once(alloc, site, code, tree, &pick, &mut made)?;
     }
-    Ok(made)
+    Ok((made, false))
 }
 
 // A turn of a site: those of the flights that go to it arrive, in order, and then it reacts.
@@ -159,6 +150,6 @@ pub(crate) fn take_turn(
         IsWorked code.now tree.now quota flights.now site.old w site.new) }
 {
     let on = work_off(alloc, site, code, tree, flights)?;
-    let made = react_up_to(alloc, site, code, tree, quota)?;
-    Ok(Work { on, made })
+    let (made, idle) = react_up_to(alloc, site, code, tree, quota)?;
+    Ok(Work { on, made, idle })
 }

@@ -1,7 +1,7 @@
 -- A site that works while its network is elsewhere: it does what it would do in the network, where
 -- all the others wait.
 use Rattle.std.specs.Prelude.{◌≡◌, ℕ, ◌+◌, ◌<◌, ◌^◌, List, [], ◌∷◌, ◌++◌, length, true, Some}
-use Rattle.std.specs.Prelude.{Option, slice_get}
+use Rattle.std.specs.Prelude.{slice_get}
 use Rattle.chem_model.specs.declared.event.Event.{Event}
 use Rattle.chem_model.specs.Each.{Each}
 use Rattle.wire_packet.specs.declared.packet.Flight.{Flight}
@@ -10,21 +10,14 @@ use Rattle.loc_tree.specs.Tree.{Tree, bare}
 use Rattle.net_laws.specs.Site.{Site}
 use Rattle.net_laws.specs.Net.{Addressed, Net}
 use Rattle.net_laws.specs.Rounds.{WorksOff}
-use Rattle.site_solution.specs.InTree.{is_in_tree}
-use Rattle.site_solution.specs.InCode.{is_in_code}
-use Rattle.site_solution.specs.Draws.{CanDraw}
 use Rattle.site_solution.specs.declared.effects.Effects.{Effects}
 use Rattle.reducer.specs.declared.pick.Pick.{Pick}
-use Rattle.reducer.specs.Picks.{Picked, Picks}
-use Rattle.reducer.specs.Fronts.{event_of}
-use Rattle.reducer.specs.Ready.{IsReady}
-use Rattle.reducer.specs.Reacted.{Reacts, StaysFit}
 use Rattle.net_core.specs.declared.turn.Made.{Made}
 use Rattle.net_core.specs.declared.turn.Work.{Work}
 use Rattle.site_turn.specs.Reacting.{ReactsBy}
+use Rattle.reducer.specs.Ready.{NoneFires}
 use Rattle.net_core.specs.Lending.{mail_to, WorksAlone}
-use Rattle.net_core.specs.Parts.{message_in, all_carried, IsMessageFlight}
-use Rattle.net_core.specs.Scheduling.{births_of}
+use Rattle.net_core.specs.Parts.{all_carried, IsMessageFlight}
 use Rattle.net_core.specs.Whole.{IsRunning}
 
 -- the site is the site i of a network with this tree that runs the code and had so many events, and
@@ -47,14 +40,6 @@ pub record HasArrived (t : Tree) (i : ℕ) (flights : List Flight) (s : Site) (o
   pub spelled : Each IsMessageFlight on
 
 -- ---- its reactions
-
--- the reaction is ready, and opens no location
-pub record IsNextHere (c : CodeParts) (t : Tree) (s : Site) (q : Pick) : Type 0 where
-  pub ready : IsReady c t s q
-  pub none : births_of c q ≡ 0
-
-abbrev pub NoneIsNext : CodeParts → Tree → Site → Type 0
-NoneIsNext c t s = (q : Pick) → IsReady c (bare t) s q → 0 < births_of c q
 
 -- an event and its effects go behind what was made so far
 pub record IsNoted (e : Event) (effects : Effects) (old new : Made) : Type 0 where
@@ -89,3 +74,4 @@ pub record IsWorked (c : CodeParts) (t : Tree) (quota : ℕ) (flights : List Fli
   pub stays :
       (events : ℕ) → IsAlone c t s.number events s (mail_to s.number (all_carried flights))
       → IsAlone c t s.number events mid []
+  pub idle : w.idle ≡ true → NoneFires c (bare t) new

@@ -1,6 +1,7 @@
 -- What a network knows of its requests: where none may be met, how many each site then has.
-use Rattle.std.specs.Prelude.{◌≡◌, ◌≤◌, ◌⊎◌, ℕ, List, [], Some, length, map, slice_get}
+use Rattle.std.specs.Prelude.{◌≡◌, ◌≤◌, ◌⊎◌, ℕ, List, [], Bool, Some, length, map, slice_get}
 use Rattle.env_store.specs.CodeParts.{CodeParts}
+use Rattle.loc_tree.specs.Tree.{bare}
 use Rattle.net_laws.specs.Site.{Site}
 use Rattle.net_laws.specs.Net.{Net}
 use Rattle.net_core.specs.declared.parts.Parts.{Parts}
@@ -8,6 +9,7 @@ use Rattle.net_core.specs.declared.senders.Run.{Run}
 use Rattle.net_core.specs.Choosing.{NoneMeetsAny}
 use Rattle.net_core.specs.Parts.{net_of}
 use Rattle.net_core.specs.Whole.{IsNetWhole}
+use Rattle.net_core.specs.inside.Idle.{AreIdle}
 
 -- how many requests each of these sites has
 abbrev pub asked_by : List Site → List ℕ
@@ -22,11 +24,12 @@ pub record Rests (c : CodeParts) (net : Net) (asked : List ℕ) : Type 0 where
 abbrev pub MayRest : CodeParts → Net → List ℕ → Type 0
 MayRest c net asked = (asked ≡ []) ⊎ Rests c net asked
 
--- the network is whole, and what it knows of its requests is so
+-- the network is whole, and what it knows of its requests and of its idle sites is so
 pub record IsKept (c : CodeParts) (p : Parts) (senders : List Run) (events : ℕ) (asked : List ℕ)
-    : Type 0 where
+    (idle : List Bool) : Type 0 where
   pub net : IsNetWhole c p senders events
   pub rests : MayRest c (net_of c.seen p) asked
+  pub quiet : AreIdle c (bare p.tree) p.sites.items idle
 
 -- no site has more requests than its number says
 abbrev pub AskNoMore : List Site → List ℕ → Type 0

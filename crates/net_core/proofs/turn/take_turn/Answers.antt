@@ -14,6 +14,7 @@ returns c =
       mid = mid;
       arrives = c.in_ok-on.ensures.arrives;
       reacts = subst (λ (k : ℕ). HasReacted c.args.code.now c.args.tree.now k c.args.quota mid
-          c.in_ok-made.made c.react_up_to.new.site) number c.in_ok-made.ensures;
+          c.in_ok-made.made c.react_up_to.new.site) number c.in_ok-made.ensures.reacted;
       stays = c.in_ok-on.ensures.stays;
+      idle = c.in_ok-made.ensures.idle;
     }

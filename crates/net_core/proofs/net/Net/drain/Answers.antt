@@ -36,6 +36,7 @@ invariant_of-self c =
       rests = rests_by c.self.inside.code (net_of c.self.inside.code.seen old)
           (net_of c.self.inside.code.seen new) c.self.inside.asked.items refl refl refl
           c.self.invariant.rests;
+      quiet = c.self.invariant.quiet;
     }
 
 pub invariant_of-result : goal.invariant_of-result

@@ -6,6 +6,8 @@ use Rattle.net_core.specs.Whole.{NetParts, RunsSome}
 use Rattle.net_core.specs.inside.Runs.{spread}
 use Rattle.net_core.proofs.Deliveries.{as_before_net}
 use Rattle.net_core.proofs.Fitting.{both_err}
+use Rattle.loc_tree.specs.Tree.{bare}
+use Rattle.net_core.proofs.Idling.{none_known}
 use Rattle.net_core.proofs.FromOutside.{either_whole, has_received}
 use Rattle.net_core.proofs.net.Net.receive.Goals as goal
 
@@ -34,6 +36,8 @@ invariant_of-self c =
           c.receive_noted.ensures.ok) c.receive_noted.ensures.err
           c.receive_noted.ensures.err_senders;
       rests = inl c.clear.ensures.items;
+      quiet = none_known c.self.inside.code (bare c.receive_noted.new.parts.tree)
+          c.receive_noted.new.parts.sites.items c.clear-2.new.self.items c.clear-2.ensures.items;
     }
 
 pub returns-clause-ok : goal.returns-clause-ok

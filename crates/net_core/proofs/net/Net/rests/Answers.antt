@@ -9,4 +9,5 @@ invariant_of-self-in-Ok c = record {
     asked_is = c.in-Ok.ensures ∙ ap asked_by c.as_slice.ensures.value;
     none = c.may_meet.ensures c.if-may_meet.false;
   });
+  quiet = c.self.invariant.quiet;
 }

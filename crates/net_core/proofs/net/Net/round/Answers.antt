@@ -1,4 +1,5 @@
-use Rattle.std.proofs.Common.{◌≡◌, ℕ, List, ◌+◌, ◌*◌, ◌-◌, ◌<◌, ◌≤◌, ◌^◌, length, sym, ap, subst, refl}
+use Rattle.std.proofs.Common.{◌≡◌, ℕ, List, ◌+◌, ◌*◌, ◌-◌, ◌<◌, ◌≤◌, ◌^◌, length, sym, ap, subst}
+use Rattle.std.proofs.Common.{refl}
 use Rattle.std.proofs.Common.{arith}
 use Rattle.net_laws.specs.Site.{Site}
 use Rattle.net_core.specs.Parts.{net_of}
@@ -29,11 +30,11 @@ invariant_of-net g c =
     subst (λ (v : NetParts). v.events + c.args.quota * length v.net.sites < 2 ^ 32 - 1)
     (sym c.self.view_is) c.requires.few in
     let old = net_of inside.code.seen inside.parts in
-    let new = net_of inside.code.seen c.round_of.new.parts in
+    let new = net_of inside.code.seen c.round_by.new.parts in
     let done = c.in-Ok.ensures.round in
     record {
       net = record {
-        whole = subst (λ (k : ℕ). IsWhole inside.code c.round_of.new.parts (inside.events + k))
+        whole = subst (λ (k : ℕ). IsWhole inside.code c.round_by.new.parts (inside.events + k))
             (sym c.len.ensures.count) (done.whole inside.events few c.self.invariant.net.whole);
         sent = c.in-Ok.ensures.sent.many;
       };
@@ -43,6 +44,7 @@ invariant_of-net g c =
           done.tree
           (subst (λ (ss : List Site). AreStill ss inside.asked.items c.keep_asked.new.asked.items)
           c.as_slice.ensures.value c.keep_asked.ensures) c.self.invariant.rests;
+      quiet = c.in-Ok.ensures.idle;
     }
 
 pub returns-in-Ok : goal.returns-in-Ok
@@ -57,11 +59,12 @@ returns-in-Ok g c =
     } in
     let new : NetParts = record {
       code = inside.code;
-      net = net_of inside.code.seen c.round_of.new.parts;
-      froms = spread c.round_of.new.senders.items;
+      net = net_of inside.code.seen c.round_by.new.parts;
+      froms = spread c.round_by.new.senders.items;
       events = inside.events + c.len.result;
     } in
     subst (λ (v : NetParts). HasWorked c.args.quota v c.in-Ok.journal new) c.self.view_is
-    (has_worked old new c.args.quota inside.events c.in-Ok.journal c.self.invariant.net.whole.running
+    (has_worked old new
+    c.args.quota inside.events c.in-Ok.journal c.self.invariant.net.whole.running
     done.turns refl (ap (λ (k : ℕ). inside.events + k) c.len.ensures.count)
     done.within done.tree done.sites c.in-Ok.ensures.sent.turns)

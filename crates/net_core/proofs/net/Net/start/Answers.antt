@@ -10,6 +10,8 @@ use Rattle.net_laws.specs.Opened.{opened_net, RunsCode}
 use Rattle.net_core.specs.Parts.{net_of}
 use Rattle.net_core.specs.inside.Starting.{IsUpTo, AreSentUpTo}
 use Rattle.net_core.specs.Whole.{IsWhole}
+use Rattle.loc_tree.specs.Tree.{bare}
+use Rattle.net_core.proofs.Idling.{none_known}
 use Rattle.net_core.proofs.Starting.{opened_whole, opened_is, opened_runs, all_are_opened}
 use Rattle.net_core.proofs.Starting.{all_are_sent}
 use Rattle.net_core.proofs.net.Net.start.Goals as goal
@@ -32,6 +34,8 @@ invariant_of-result c =
         sent = c.in_ok-parts.ensures.sent.many;
       };
       rests = inl c.new.ensures.items;
+      quiet = none_known c.in-Ok.code (bare c.in_ok-parts.parts.tree)
+          c.in_ok-parts.parts.sites.items c.new-in-Ok.result.items c.new-in-Ok.ensures.items;
     }
 
 pub returns-in-Ok-clause-stands : goal.returns-in-Ok-clause-stands
