@@ -57,7 +57,7 @@ use Rattle.net_core.proofs.Carrying.{all_carry, carried_append}
 use Rattle.net_core.proofs.Deliverable.{may_be_delivered}
 use Rattle.net_core.proofs.Deliveries.{set_length}
 use Rattle.net_core.proofs.Fitting.{fits_at, all_fit_set, fit_full, fit_stays, stay_set}
-use Rattle.net_core.proofs.Handed.{run_bare}
+use Rattle.site_turn.proofs.Room.{run_bare}
 use Rattle.net_core.proofs.Mail.{first_mail, mail_append, mail_here, mail_elsewhere, drop_next}
 use Rattle.net_core.proofs.Reaching.{by_guard, takes, births_counted, fires_bare}
 use Rattle.net_core.proofs.SiteReactions.{to_bare, from_bare, take_next}

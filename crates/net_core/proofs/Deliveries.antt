@@ -1,8 +1,8 @@
 -- A delivery, from its parts.
 use Rattle.std.proofs.Common.{◌≡◌, ℕ, zero, suc, ◌+◌, ◌<◌, Bool, true, false, cond, List, [], ◌∷◌}
-use Rattle.std.proofs.Common.{◌++◌, Option, Some, None, Result, Ok, Err, length, slice_get, refl}
+use Rattle.std.proofs.Common.{◌++◌, Option, Some, None, length, slice_get, refl}
 use Rattle.std.proofs.Common.{sym, ap, ◌∙◌, subst, arith, length-append}
-use Rattle.std.specs.Prelude.{slice_set, slice_index_or, ◌-◌, ◌^◌, IfOk}
+use Rattle.std.specs.Prelude.{slice_set, slice_index_or, ◌-◌, ◌^◌}
 use Rattle.std.proofs.lemmas.Option.{get_or_from_slice_get}
 use Rattle.chem_model.specs.declared.name.Loc.{Loc}
 use Rattle.chem_model.specs.Each.{Each}

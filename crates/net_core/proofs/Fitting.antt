@@ -1,5 +1,5 @@
 -- What sites keep when one of them changes, or the tree does.
-use Rattle.std.proofs.Common.{◌≡◌, ℕ, zero, suc, ◌<◌, ◌^◌, true, List, [], ◌∷◌, Some, Result, Ok}
+use Rattle.std.proofs.Common.{◌≡◌, ℕ, zero, suc, ◌<◌, ◌^◌, List, [], ◌∷◌, Some, Result, Ok}
 use Rattle.std.proofs.Common.{Err, refl, sym, ap, ◌∙◌, arith, slice_get}
 use Rattle.std.specs.Prelude.{slice_set, slice_index_or, IsTrue, IfOk, OnOk, OnErr}
 use Rattle.std.proofs.lemmas.Option.{get_or_from_slice_get}

@@ -19,18 +19,14 @@ use Rattle.wire_packet.specs.declared.packet.Ask.{Ask}
 use Rattle.wire_packet.specs.declared.packet.Ask.TheVariants as request
 use Rattle.wire_packet.specs.declared.packet.Flight.{Flight}
 use Rattle.env_store.specs.CodeParts.{CodeParts}
-use Rattle.env_store.specs.Running.{Ran}
-use Rattle.loc_tree.specs.Tree.{Tree, is_alive, is_dead, with_birth, with_mark, bare}
+use Rattle.loc_tree.specs.Tree.{Tree, is_alive, is_dead, with_mark, bare}
 use Rattle.net_laws.specs.Site.{Site}
 use Rattle.net_laws.specs.Net.{Addressed, among, address, with_births}
-use Rattle.net_laws.specs.Holding.{put, request_with, drop_request, host_all, lay_all}
+use Rattle.net_laws.specs.Holding.{put, request_with, drop_request, host_all}
 use Rattle.net_laws.specs.Posting.{Posted, a_message, a_request, posted_of, Outcome, post, post_all}
-use Rattle.net_laws.specs.Parcels.{all_told}
 use Rattle.net_laws.specs.Choices.{with_outcome}
-use Rattle.net_laws.specs.ByCode.{told_by, run_here}
 use Rattle.net_laws.specs.Moves.{continuation_made, moved_made}
 use Rattle.net_laws.specs.Meeting.{sent_here}
-use Rattle.net_laws.specs.Opened.{AreNew}
 use Rattle.site_solution.specs.Answers.{AreFlights, Answers}
 use Rattle.site_solution.specs.declared.effects.Effects.{Effects}
 use Rattle.failure.specs.Halts.{can_halt, is_halt, is_ready}
@@ -43,41 +39,15 @@ use Rattle.net_core.specs.Playing.{Does}
 use Rattle.net_core.specs.Whole.{IsWhole}
 use Rattle.chem_laws.proofs.Lists.{Each-append}
 use Rattle.site_solution.proofs.Dropping.{operated_none}
+use Rattle.site_turn.proofs.Room.{all_bare}
 use Rattle.net_core.proofs.Stepping.{event_running}
 use Rattle.net_core.proofs.Carrying.{carried_append, all_carry}
 use Rattle.net_core.proofs.Deliveries.{same_net}
 
 -- ---- a tree's room is nothing to what is posted
 
-post_bare : (t : Tree) (p : Posted) (s : Site) → post (bare t) p s ≡ post t p s
-post_bare t (a_message l m) s = refl
-post_bare t (a_request q) s = refl
-
-all_bare : (t : Tree) (ps : List Posted) (s : Site) → post_all (bare t) ps s ≡ post_all t ps s
-all_bare t [] s = refl
-all_bare t (p ∷ ps) s =
-    ap (λ (o : Outcome). let later = post_all (bare t) ps o.site in
-    record { site = later.site; sends = o.sends ++ later.sends }) (post_bare t p s)
-    ∙ ap
-    (λ (later : Outcome). record { site = later.site; sends = (post t p s).sends ++ later.sends })
-    (all_bare t ps (post t p s).site)
-
 pub sent_bare : (t : Tree) (a : Made) (s : Site) → sent_here (bare t) a s ≡ sent_here t a s
 sent_bare t a s = all_bare t (posted_of a.atoms) (host_all [] (record s { made = a.next }))
-
-pub run_bare : (c : CodeParts) (t : Tree) (a : Ran) (s : Site)
-    → run_here c (bare t) a s ≡ run_here c t a s
-run_bare c t a s = all_bare t (posted_of a.atoms)
-    (lay_all (all_told (told_by c) a.groups) (host_all a.births (record s { made = a.next })))
-
-pub births_bare : (t : Tree) (i : ℕ) (ls : List Loc)
-    → with_births (bare t) i ls ≡ bare (with_births t i ls)
-births_bare t i [] = refl
-births_bare t i (l ∷ ls) = births_bare (with_birth t l i) i ls
-
-pub new_full : (t : Tree) (i : ℕ) (ls : List Loc) → AreNew (bare t) i ls → AreNew t i ls
-new_full t i [] h = tt
-new_full t i (l ∷ ls) h = (h.0, new_full (with_birth t l i) i ls h.1)
 
 -- ---- how many packets go away
 

@@ -58,7 +58,8 @@ use Rattle.net_core.proofs.Existing.{guard_rule}
 use Rattle.net_core.proofs.Picking.{IsFine}
 use Rattle.net_core.specs.inside.Fitting.{AreNumbered}
 use Rattle.net_core.proofs.Fitting.{others_stay}
-use Rattle.net_core.proofs.Handed.{run_bare, outcome_net, new_full}
+use Rattle.site_turn.proofs.Room.{run_bare, new_full}
+use Rattle.net_core.proofs.Handed.{outcome_net}
 
 module _ (c : CodeParts) (kept : IsCode c) (net : Net) (some : RunsSome c net) (i : ℕ) (s : Site)
     (p : Pick) (x : Picked) (at : slice_get net.sites i ≡ Some s)

@@ -1,57 +1,35 @@
--- One site is opened after another.
-use Rattle.std.proofs.Common.{◌≡◌, ℕ, zero, suc, ◌+◌, ◌<◌, ◌^◌, List, [], ◌∷◌, ◌++◌, length, drop}
-use Rattle.std.proofs.Common.{Option, Some, None, Bool, true, false, cond, refl, sym, ap, ◌∙◌}
-use Rattle.std.proofs.Common.{subst, arith, slice_get, ◌⊎◌, inl, inr, length-append, append_assoc}
-use Rattle.std.proofs.Common.{replicate, eqb-true}
-use Rattle.std.specs.Prelude.{is_some, nat_eq, ◌&&◌, ◌||◌, IsTrue}
-use Rattle.std.specs.List.{Contains}
-use Rattle.std.specs.Map.{lookup}
-use Rattle.std.proofs.lemmas.Bool.Decides.{nat_tests}
+-- What the openings of sites hand out leads to the opened network.
+use Rattle.std.proofs.Common.{◌≡◌, ℕ, suc, ◌+◌, ◌<◌, ◌^◌, List, [], ◌∷◌, ◌++◌, length, replicate}
+use Rattle.std.proofs.Common.{Option, Some, None, refl, sym, ap, ◌∙◌, subst, arith, length-append}
+use Rattle.std.proofs.Common.{append_assoc}
+use Rattle.std.specs.Prelude.{IsTrue, IsSome}
 use Rattle.std.proofs.lemmas.List.{length-replicate}
-use Rattle.std.proofs.lemmas.Option.{slice_get_within}
-use Rattle.chem_model.specs.declared.name.Loc.{Loc}
 use Rattle.chem_model.specs.declared.event.Out.{Out}
 use Rattle.chem_model.specs.Each.{Each}
 use Rattle.chem_model.specs.ProgramFacts.{ProgramTerms, IsProgram}
-use Rattle.chem_model.specs.Opening.{root_of, opening}
-use Rattle.chem_model.specs.Solution.{same_loc}
-use Rattle.chem_laws.proofs.Lists.{Each-append, either_true, append_nil}
-use Rattle.chem_laws.proofs.Within.{same_loc_is}
+use Rattle.chem_model.specs.Opening.{opening}
+use Rattle.chem_laws.proofs.Lists.{Each-append, Each-weaker, append_nil}
 use Rattle.env_store.specs.declared.code.SiteCode.{SiteCode}
 use Rattle.env_store.specs.CodeParts.{CodeParts}
 use Rattle.env_store.specs.CodeFacts.{IsCode}
 use Rattle.env_store.specs.Reading.{IsCodeOf}
-use Rattle.env_store.specs.Running.{Ran, site_made}
+use Rattle.env_store.specs.Running.{site_made}
 use Rattle.env_store.specs.Laws.{rules_of_group}
-use Rattle.loc_tree.specs.declared.tree.Spot.{Spot}
-use Rattle.loc_tree.specs.Tree.{Tree, spot, is_pair_of, unmarked, roots_from, unmarked_roots}
-use Rattle.loc_tree.specs.Tree.{with_birth, bare}
-use Rattle.loc_tree.proofs.Spots.{same_loc_refl, same_loc_sym}
-use Rattle.code_run.specs.RunFacts.{AreBorn}
-use Rattle.code_run.proofs.Facts.{opening_facts}
-use Rattle.wire_packet.specs.MessageFacts.{MessageParts}
-use Rattle.wire_packet.specs.declared.packet.Waiting.{Waiting}
-use Rattle.net_laws.specs.Site.{Told, Group, Site}
-use Rattle.net_laws.specs.Net.{Addressed, Net, Stands, among, address, with_births}
-use Rattle.net_laws.specs.Holding.{in_groups, put_in, put, put_all, new_group, lay, lay_all}
-use Rattle.net_laws.specs.Holding.{host_all}
-use Rattle.net_laws.specs.Posting.{Posted, a_message, a_request, posted_of, Outcome, post, post_all}
-use Rattle.net_laws.specs.Parcels.{all_told}
-use Rattle.net_laws.specs.ByCode.{told_by}
-use Rattle.net_laws.specs.Opening.{empty_site}
-use Rattle.net_laws.specs.Opened.{not_in, opened_by, with_opened, all_opened, opened_net, with_top}
-use Rattle.net_laws.specs.Opened.{with_tops, unopened, AreNew, BearNew, RunsCode}
-use Rattle.net_laws.proofs.FirstTree.{tops_roots}
-use Rattle.net_laws.proofs.Opened.{opened_stands, openings_bear_new}
-use Rattle.net_laws.proofs.Trees.{or_else, none_behind, lookup_behind, births_roots}
+use Rattle.wire_packet.specs.declared.packet.Flight.{Flight}
+use Rattle.loc_tree.specs.Tree.{Tree, bare}
+use Rattle.net_laws.specs.Site.{Site}
+use Rattle.net_laws.specs.Net.{Addressed, Net, Stands}
+use Rattle.net_laws.specs.Opened.{opened_by, with_opened, all_opened, opened_net, unopened}
+use Rattle.net_laws.specs.Opened.{RunsCode}
+use Rattle.net_laws.proofs.Opened.{opened_stands}
 use Rattle.site_solution.specs.InTree.{is_in_tree}
 use Rattle.site_solution.specs.InCode.{is_in_code}
 use Rattle.site_solution.specs.Draws.{CanDraw}
-use Rattle.site_solution.specs.Staying.{StillFits}
+use Rattle.site_solution.specs.Staying.{CanAct}
 use Rattle.site_solution.specs.declared.effects.Effects.{Effects}
-use Rattle.site_solution.proofs.Staying.{births_keep_others}
-use Rattle.reducer.specs.Opens.{HasTops, IsOpenedFit, Opens}
-use Rattle.reducer.proofs.OpeningFit.{root_top}
+use Rattle.site_turn.specs.Opening.{AreHanded, AreOpened}
+use Rattle.site_turn.specs.declared.opening.OpenedSites.{OpenedSites}
+use Rattle.site_turn.proofs.Openings.{opened_long}
 use Rattle.net_core.specs.declared.parts.Parts.{Parts}
 use Rattle.net_core.specs.declared.senders.Run.{Run}
 use Rattle.net_core.specs.Parts.{joined, all_carried, IsMessageFlight, net_of}
@@ -59,520 +37,237 @@ use Rattle.net_core.specs.Whole.{AllFit, IsWhole}
 use Rattle.net_core.specs.Rising.{AllMade}
 use Rattle.net_core.specs.Senders.{opened_from, opened_froms}
 use Rattle.net_core.specs.inside.Runs.{spread}
-use Rattle.net_core.specs.inside.Starting.{IsUpTo, AreSentUpTo}
+use Rattle.net_core.specs.inside.Starting.{AreBehind, all_outs, all_sends, all_froms}
 use Rattle.net_core.proofs.Carrying.{carried_append, all_carry}
 use Rattle.net_core.proofs.Deliveries.{same_net}
-use Rattle.net_core.proofs.Fitting.{fit_bare, fit_full}
-use Rattle.net_core.proofs.Handed.{run_bare, births_bare, flights_long}
+use Rattle.net_core.proofs.Fitting.{fit_bare}
+use Rattle.net_core.proofs.Handed.{flights_long}
 
--- ---- the first tree
+-- ---- one after another
 
-pub none_of : (o : Option Spot) → is_some o ≡ false → o ≡ None
-none_of None e = refl
-none_of (Some s) e = cc
-
--- ---- lists
-
-drop_next : {X : Type 0} (xs : List X) (n : ℕ) (x : X) → slice_get xs n ≡ Some x
-    → drop n xs ≡ x ∷ drop (n + 1) xs
-drop_next [] n x e = cc
-drop_next (y ∷ ys) zero x e = let same : y ≡ x = cc in ap (λ z. z ∷ ys) same
-drop_next (y ∷ ys) (suc n) x e =
-    let later = drop_next ys n x e in
-    let place : suc (n + 1) ≡ suc n + 1 = omega arith in
-    later ∙ ap (λ (k : ℕ). x ∷ drop k (y ∷ ys)) place
-
-pub get_append : {X : Type 0} (xs : List X) (x y : X) (j : ℕ) → slice_get (xs ++ x ∷ []) j ≡ Some y
-    → (slice_get xs j ≡ Some y) ⊎ ((j ≡ length xs) × (x ≡ y))
-get_append [] x y zero e = inr (refl, cc)
-get_append [] x y (suc j) e = cc
-get_append (z ∷ zs) x y zero e = inl e
-get_append (z ∷ zs) x y (suc j) e =
-    elim (get_append zs x y j e) [ inl h ↦ inl h | inr h ↦ inr (ap suc h.0, h.1) ]
-
-each_index : {X : Type 0} (P Q : X → Type 0) (xs : List X)
-    → ((j : ℕ) (x : X) → slice_get xs j ≡ Some x → P x → Q x) → Each P xs → Each Q xs
-each_index P Q [] f h = tt
-each_index P Q (x ∷ xs) f h = (f 0 x refl h.0, each_index P Q xs (λ j y e. f (suc j) y e) h.1)
-
--- ---- births
-
-module _ (i : ℕ) where
-  pub birth_spot : (t : Tree) (b q : Loc)
-      → spot (with_birth t b i) q ≡ or_else (spot t q) (lookup (is_pair_of q) (unmarked b i ∷ []))
-  birth_spot t b q = lookup_behind q t.entries (unmarked b i ∷ [])
-
-  -- what is in the tree stays as it is
-  pub still_there : (bs : List Loc) (t : Tree) (q : Loc) (p : Spot) → spot t q ≡ Some p
-      → spot (with_births t i bs) q ≡ Some p
-  still_there [] t q p e = e
-  still_there (b ∷ bs) t q p e = still_there bs (with_birth t b i) q p
-      (birth_spot t b q ∙ ap (λ o. or_else o (lookup (is_pair_of q) (unmarked b i ∷ []))) e)
-
-  not_born : (q b : Loc) → (q.site ≡ i → ⊥) → b.site ≡ i → is_pair_of q (b.site, b.k) ≡ false
-  not_born q b other own = grind (arith, nat_tests)
-
-  -- and so does what is of another site
-  still_as : (bs : List Loc) (t : Tree) (q : Loc) → Each (λ (b : Loc). b.site ≡ i) bs
-      → (q.site ≡ i → ⊥) → spot (with_births t i bs) q ≡ spot t q
-  still_as [] t q own other = refl
-  still_as (b ∷ bs) t q own other =
-      still_as bs (with_birth t b i) q own.1 other
-      ∙ birth_spot t b q
-      ∙ ap (λ (v : Bool).
-      or_else (spot t q) (cond v (Some (record { number = i; marked = false })) None))
-      (not_born q b other own.0)
-      ∙ none_behind (spot t q)
-
-born_own : (i k n : ℕ) (bs : List Loc) → AreBorn i k n bs → Each (λ (b : Loc). b.site ≡ i) bs
-born_own i k n [] h = tt
-born_own i k n (b ∷ bs) h = (h.0.0, born_own i (b.k + 1) n bs h.1)
-
-own_not_in : (P : Loc → Type 0) (t : Tree) (bs : List Loc) → Each P bs → Each P (not_in t bs)
-own_not_in P t [] h = tt
-own_not_in P t (b ∷ bs) h = go (is_some (spot t b)) (own_not_in P t bs h.1)
-  where
-    go : (u : Bool) → Each P (not_in t bs) → Each P (cond u (not_in t bs) (b ∷ not_in t bs))
-    go true rest = rest
-    go false rest = (h.0, rest)
-
-not_in_bare : (t : Tree) (bs : List Loc) → not_in (bare t) bs ≡ not_in t bs
-not_in_bare t [] = refl
-not_in_bare t (b ∷ bs) = ap (λ ls. cond (is_some (spot t b)) ls (b ∷ ls)) (not_in_bare t bs)
-
--- ---- the number of a site stays
-
-put_number : (l : Loc) (m : MessageParts) (s : Site) → (put l m s).number ≡ s.number
-put_number l m s = go (in_groups s.groups m)
-  where
-    go : (o : Option (List Group)) → (put_in o l m s).number ≡ s.number
-    go None = refl
-    go (Some gs) = refl
-
-all_put_number : (ws : List Waiting) (s : Site) → (put_all ws s).number ≡ s.number
-all_put_number [] s = refl
-all_put_number (w ∷ ws) s = all_put_number ws (put w.loc w.msg s) ∙ put_number w.loc w.msg s
-
-all_laid_number : (ds : List Told) (s : Site) → (lay_all ds s).number ≡ s.number
-all_laid_number [] s = refl
-all_laid_number (d ∷ ds) s = all_laid_number ds (lay d s)
-    ∙ all_put_number s.stuck (record s { groups = s.groups ++ new_group d ∷ []; stuck = [] })
-
-post_number : (t : Tree) (p : Posted) (s : Site) → (post t p s).site.number ≡ s.number
-post_number t (a_message l m) s = go (among s.locs l)
-  where
-    go : (u : Bool)
-        → (cond {A = Outcome} u (record { site = put l m s; sends = [] })
-        (record { site = s; sends = record { target = address t l; msg = m } ∷ [] })).site.number
-        ≡ s.number
-    go true = put_number l m s
-    go false = refl
-post_number t (a_request q) s = refl
-
-all_posted_number : (t : Tree) (ps : List Posted) (s : Site)
-    → (post_all t ps s).site.number ≡ s.number
-all_posted_number t [] s = refl
-all_posted_number t (p ∷ ps) s = all_posted_number t ps (post t p s).site ∙ post_number t p s
-
-opened_number : (c : CodeParts) (t : Tree) (i : ℕ) (site : SiteCode)
-    → (opened_by c t i site).site.number ≡ i
-opened_number c t i site =
-    let a = site_made c i site in
-    let start = host_all a.births (record (empty_site i 1 (root_of i ∷ [])) { made = a.next }) in
-    all_posted_number t (posted_of a.atoms) (lay_all (all_told (told_by c) a.groups) start)
-    ∙ all_laid_number (all_told (told_by c) a.groups) start
-
--- ---- one site more
-
-module _ (version : ℕ) (c : CodeParts) (kept : IsCode c) (n : ℕ) (old : Parts)
-    (upto : IsUpTo version c n old) (site : SiteCode) (at : slice_get c.sites n ≡ Some site)
-    (s : Site) (e : Effects) (opens : Opens c old.tree n site s e) where
-  abbrev a : Ran
-  a = site_made c n site
-
-  abbrev before : Net
-  before = net_of c.seen old
-
-  births_own : Each (λ (b : Loc). b.site ≡ n) e.births
-  births_own =
-      let own = born_own n 1 a.next a.births (opening_facts c kept n site at).births in
-      subst (Each (λ (b : Loc). b.site ≡ n)) (sym opens.births)
-      (own_not_in (λ (b : Loc). b.site ≡ n) old.tree a.births own)
-
-  head :
-      AreNew before.tree n (not_in before.tree a.births)
-      × BearNew c (n + 1) (drop (n + 1) c.sites) (with_opened c n site before)
-  head = subst (λ (sites : List SiteCode). BearNew c n sites before) (drop_next c.sites n site at)
-      upto.new
-
-  -- the births are new, with whatever room the tree has
-  pub births_new : AreNew (bare old.tree) n e.births
-  births_new =
-      let here : AreNew (bare old.tree) n (not_in old.tree a.births) =
-      subst (AreNew (bare old.tree) n) (not_in_bare old.tree a.births) head.0 in
-      subst (AreNew (bare old.tree) n) (sym opens.births) here
-
-  module _ (new : Parts) (t : Tree) (same : new.version ≡ old.version)
-      (room : bare t ≡ bare old.tree) (fits : IsOpenedFit c (with_births old.tree n e.births) s)
-      (sites : new.sites.items ≡ old.sites.items ++ s ∷ [])
-      (tree : new.tree ≡ with_births t n e.births)
-      (trace : joined new.trace.items ≡ joined old.trace.items ++ e.outs)
-      (flights : new.flights.items ≡ old.flights.items ++ e.sends)
-      (under : new.under_way ≡ old.under_way + length e.sends) (few : new.under_way < 2 ^ 32) where
-    bare_tree : bare new.tree ≡ bare (with_births old.tree n e.births)
-    bare_tree = ap bare tree ∙ sym (births_bare t n e.births)
-        ∙ ap (λ (u : Tree). with_births u n e.births) room ∙ births_bare old.tree n e.births
-
-    after : net_of c.seen new ≡ with_opened c n site before
-    after =
-        let o : opened_by c before.tree n site ≡ opened_by c old.tree n site =
-        run_bare c old.tree a (empty_site n 1 (root_of n ∷ [])) in
-        same_net (net_of c.seen new) (with_opened c n site before) same refl
-        (sites
-        ∙ ap (λ (u : Site). old.sites.items ++ u ∷ [])
-        (opens.site ∙ ap (λ (x : Outcome). x.site) (sym o)))
-        (bare_tree ∙ sym (births_bare old.tree n e.births)
-        ∙ ap (with_births (bare old.tree) n) (opens.births ∙ sym (not_in_bare old.tree a.births)))
-        (trace ∙ ap (λ (os : List Out). joined old.trace.items ++ os) opens.outs)
-        (ap all_carried flights ∙ carried_append old.flights.items e.sends
-        ∙ ap (λ (ps : List Addressed). all_carried old.flights.items ++ ps)
-        ((all_carry (opened_by c old.tree n site).sends e.sends opens.sends).0
-        ∙ ap (λ (x : Outcome). x.sends) (sym o)))
-
-    spot_new : (l : Loc) → spot new.tree l ≡ spot (with_births old.tree n e.births) l
-    spot_new l = ap (λ (u : Tree). spot u l) bare_tree
-
-    number_is : s.number ≡ n
-    number_is = ap (λ (u : Site). u.number) opens.site ∙ opened_number c old.tree n site
-
-    fit_after : AllFit c new.tree new.sites.items
-    fit_after =
-        let u = with_births old.tree n e.births in
-        let still : (j : ℕ) (x : Site) → slice_get old.sites.items j ≡ Some x
-        → StillFits c old.tree x u x =
-        λ j x h. births_keep_others c old.tree n e.births x births_own (other j x h) in
-        let all : AllFit c u (old.sites.items ++ s ∷ []) = record {
-          in_tree = Each-append (λ (x : Site). IsTrue (is_in_tree u x)) old.sites.items (s ∷ [])
-              (each_index (λ (x : Site). IsTrue (is_in_tree old.tree x))
-              (λ (x : Site). IsTrue (is_in_tree u x))
-              old.sites.items (λ j x h d. (still j x h).in_tree d) upto.fit.in_tree)
-              (fits.there, tt);
-          in_code = Each-append (λ (x : Site). IsTrue (is_in_code c u x)) old.sites.items (s ∷ [])
-              (each_index (λ (x : Site). IsTrue (is_in_code c old.tree x))
-              (λ (x : Site). IsTrue (is_in_code c u x))
-              old.sites.items (λ j x h d. (still j x h).in_code d) upto.fit.in_code)
-              (fits.coded, tt);
-          draws = Each-append (CanDraw u) old.sites.items (s ∷ []) (each_index (CanDraw old.tree)
-              (CanDraw u) old.sites.items (λ j x h d. (still j x h).draws d) upto.fit.draws)
-              (record { few = fits.few; drawn = fits.drawn; fresh = fits.fresh }, tt);
-        } in
-        let there : AllFit c (bare new.tree) (old.sites.items ++ s ∷ []) =
-        subst (λ (v : Tree). AllFit c v (old.sites.items ++ s ∷ [])) (sym bare_tree)
-        (fit_bare c u (old.sites.items ++ s ∷ []) all) in
-        subst (AllFit c new.tree) (sym sites)
-        (fit_full c new.tree (old.sites.items ++ s ∷ []) there)
-      where
-        other : (j : ℕ) (x : Site) → slice_get old.sites.items j ≡ Some x → x.number ≡ n → ⊥
-        other j x h same =
-            let number = upto.numbered j x h in
-            let within = slice_get_within old.sites.items j x h in
-            let many = upto.many in
-            omega arith
-
-    pub opened_next : IsUpTo version c (n + 1) new
-    opened_next = record {
-      rest = ap (all_opened c (n + 1) (drop (n + 1) c.sites)) after
-          ∙ ap (λ (ss : List SiteCode). all_opened c n ss before)
-          (sym (drop_next c.sites n site at)) ∙ upto.rest;
-      new = subst (BearNew c (n + 1) (drop (n + 1) c.sites)) (sym after) head.1;
-      tops = λ l h. spot_new l
-          ∙ still_there n e.births old.tree l (record { number = l.site; marked = false })
-          (upto.tops l h);
-      no_others = λ l less h. upto.no_others l (omega arith) (ap is_some
-          (sym (spot_new l ∙ still_as n e.births old.tree l births_own (λ same. omega arith))) ∙ h);
-      numbered = numbered;
-      many = ap length sites ∙ length-append old.sites.items (s ∷ []) ∙ ap (λ k. k + 1) upto.many;
-      roots = ap (λ (u : Tree). u.roots) bare_tree ∙ births_roots e.births old.tree n ∙ upto.roots;
-      fit = fit_after;
-      flying = record {
-        spelled = subst (Each IsMessageFlight) (sym flights)
-            (Each-append IsMessageFlight old.flights.items e.sends upto.flying.spelled
-            (all_carry (opened_by c old.tree n site).sends e.sends opens.sends).1);
-        counted = under ∙ ap (λ k. k + length e.sends) upto.flying.counted
-            ∙ sym (ap length flights ∙ length-append old.flights.items e.sends);
-        few = few;
-      };
-    }
-      where
-        numbered : (j : ℕ) (x : Site) → slice_get new.sites.items j ≡ Some x → x.number ≡ j
-        numbered j x h =
-            elim (get_append old.sites.items s x j
-            (ap (λ (ss : List Site). slice_get ss j) (sym sites) ∙ h)) [
-              | inl was ↦ upto.numbered j x was
-              | inr last ↦
-                  ap (λ (v : Site). v.number) (sym last.1) ∙ number_is ∙ sym (last.0 ∙ upto.many)
-            ]
-
-    -- and its packets are from it
-    pub sent_next : (senders news : List Run)
-        → spread news ≡ spread senders ++ replicate (length e.sends) n
-        → AreSentUpTo version c n old senders → AreSentUpTo version c (n + 1) new news
-    sent_next senders news more h =
-        let o : opened_by c before.tree n site ≡ opened_by c old.tree n site =
-        run_bare c old.tree a (empty_site n 1 (root_of n ∷ [])) in
-        let count : length e.sends ≡ length (opened_by c before.tree n site).sends =
-        flights_long (opened_by c old.tree n site).sends e.sends opens.sends
-        ∙ ap (λ (x : Outcome). length x.sends) (sym o) in
-        let later : Net → List ℕ = opened_from c (n + 1) (drop (n + 1) c.sites) in
-        record {
-          rest =
-              ap (λ (net : Net). spread news ++ later net) after
-              ∙ ap (λ (xs : List ℕ). xs ++ later (with_opened c n site before)) more
-              ∙ append_assoc (spread senders) (replicate (length e.sends) n)
-              (later (with_opened c n site before))
-              ∙ ap
-              (λ (k : ℕ). spread senders ++ (replicate k n ++ later (with_opened c n site before)))
-              count
-              ∙ ap (λ (ss : List SiteCode). spread senders ++ opened_from c n ss before)
-              (sym (drop_next c.sites n site at))
-              ∙ h.rest;
-          many = omega (
-            arith,
-            ap length more,
-            length-append (spread senders) (replicate (length e.sends) n),
-            length-replicate (length e.sends) n,
-            under,
-            h.many,
-          );
-        }
-
-pub has_tops : (version : ℕ) (c : CodeParts) (n : ℕ) (old : Parts) → IsUpTo version c n old
-    → HasTops c old.tree n
-has_tops version c n old upto =
-    record { there = upto.tops; no_others = λ l own h. upto.no_others l (omega arith) h }
-
--- ---- all sites
-
-drop_all : {X : Type 0} (xs : List X) → drop (length xs) xs ≡ []
-drop_all [] = refl
-drop_all (x ∷ xs) = drop_all xs
-
-pub all_are_opened : (version : ℕ) (c : CodeParts) (p : Parts) → IsUpTo version c (length c.sites) p
-    → net_of c.seen p ≡ opened_net version c
-all_are_opened version c p h =
-    ap (λ (ss : List SiteCode). all_opened c (length c.sites) ss (net_of c.seen p))
-    (sym (drop_all c.sites)) ∙ h.rest
-
-pub all_are_sent : (version : ℕ) (c : CodeParts) (p : Parts) (senders : List Run)
-    → AreSentUpTo version c (length c.sites) p senders → spread senders ≡ opened_froms version c
-all_are_sent version c p senders h =
-    sym (append_nil (spread senders))
-    ∙ ap
-    (λ (ss : List SiteCode). spread senders ++ opened_from c (length c.sites) ss (net_of c.seen p))
-    (sym (drop_all c.sites))
-    ∙ h.rest
-
--- so the network stands for the program's opening
-pub opened_whole : (q : ProgramTerms) (c : CodeParts) → IsProgram q → IsCode c → IsCodeOf q c
-    → length c.sites < 2 ^ 32 → (p : Parts) → IsUpTo q.version c (length c.sites) p → IsWhole c p 0
-opened_whole q c ok kept is few p h =
-    let opened = opened_stands q c ok kept is in
-    let same = sym (all_are_opened q.version c p h) in
-    record {
-      running = record {
-        code = kept;
-        some = record {
-          program = q;
-          is_program = ok;
-          of_program = is;
-          solution = opening q;
-          stands = subst (λ (net : Net). Stands (rules_of_group q) net (opening q)) same opened.0;
-          runs = subst (RunsCode q c) same opened.1;
-        };
-        fit = fit_bare c p.tree p.sites.items h.fit;
-        few_sites = omega (arith, h.many);
-        made = subst (AllMade 1048576) same opened.2;
-      };
-      flying = h.flying;
-    }
-
-pub opened_is : (q : ProgramTerms) (c : CodeParts) → IsProgram q → IsCode c → IsCodeOf q c
-    → (p : Parts) → IsUpTo q.version c (length c.sites) p
-    → Stands (rules_of_group q) (net_of c.seen p) (opening q)
-opened_is q c ok kept is p h = subst (λ (net : Net). Stands (rules_of_group q) net (opening q))
-    (sym (all_are_opened q.version c p h)) (opened_stands q c ok kept is).0
-
-pub opened_runs : (q : ProgramTerms) (c : CodeParts) → IsProgram q → IsCode c → IsCodeOf q c
-    → (p : Parts) → IsUpTo q.version c (length c.sites) p → RunsCode q c (net_of c.seen p)
-opened_runs q c ok kept is p h =
-    subst (RunsCode q c) (sym (all_are_opened q.version c p h)) (opened_stands q c ok kept is).1
-
--- ---- before any site
-
-root_spot : (i n : ℕ) (l : Loc) (s : Spot) → lookup (is_pair_of l) (roots_from i n) ≡ Some s
-    → (s ≡ record { number = l.site; marked = false }) × (l ≡ root_of l.site) × (l.site < i + n)
-root_spot i zero l s e = cc
-root_spot i (suc n) l s e = go (is_pair_of l (i, 0)) refl e (root_spot (i + 1) n l s)
-  where
-    both : (a b : Bool) → a && b ≡ true → (a ≡ true) × (b ≡ true)
-    both true true e = (refl, refl)
-    both true false e = cc
-    both false b e = cc
-
-    go : (u : Bool) → is_pair_of l (i, 0) ≡ u
-        → cond u (Some (record { number = i; marked = false }))
-        (lookup (is_pair_of l) (roots_from (i + 1) n)) ≡ Some s
-        → (lookup (is_pair_of l) (roots_from (i + 1) n) ≡ Some s
-        → (s ≡ record { number = l.site; marked = false }) × (l ≡ root_of l.site)
-        × (l.site < i + 1 + n))
-        → (s ≡ record { number = l.site; marked = false }) × (l ≡ root_of l.site)
-        × (l.site < i + suc n)
-    go true t h ih =
-        let same = both (nat_eq l.site i) (nat_eq l.k 0) t in
-        let site : l.site ≡ i = eqb-true l.site i same.0 in
-        let k : l.k ≡ 0 = eqb-true l.k 0 same.1 in
-        let spot_is : record { number = i; marked = false } ≡ s = cc in (
-          sym spot_is ∙ (λ j. record { number = sym site j; marked = false }),
-          (λ j. record { site = l.site; k = k j }),
-          omega arith,
-        )
-    go false t h ih = let later = ih h in (later.0, later.1, omega (arith, later.2))
-
-abbrev first : CodeParts → Tree
-first c = with_tops (unmarked_roots (length c.sites)) c.tops
-
-top_behind : (t : Tree) (x l : Loc) (o : Option Spot) → spot t x ≡ o
-    → spot (with_top o t x) l
-    ≡ or_else (spot t l)
-    (cond (same_loc x l) (Some (record { number = l.site; marked = false })) None)
-top_behind t x l None e =
-    lookup_behind l t.entries (unmarked x x.site ∷ [])
-    ∙ ap (λ u. or_else (spot t l) (cond u (Some (record { number = x.site; marked = false })) None))
-    (same_loc_sym l x) ∙ go (same_loc x l) refl
-  where
-    go : (u : Bool) → same_loc x l ≡ u
-        → or_else (spot t l) (cond u (Some (record { number = x.site; marked = false })) None)
-        ≡ or_else (spot t l) (cond u (Some (record { number = l.site; marked = false })) None)
-    go true c =
-        ap (λ (q : Loc). or_else (spot t l) (Some (record { number = q.site; marked = false })))
-        (same_loc_is x l c)
-    go false c = refl
-top_behind t x l (Some s) e = go (same_loc x l) refl
-  where
-    go : (u : Bool) → same_loc x l ≡ u
-        → spot t l
-        ≡ or_else (spot t l) (cond u (Some (record { number = l.site; marked = false })) None)
-    go true c =
-        let here : spot t l ≡ Some s = ap (spot t) (sym (same_loc_is x l c)) ∙ e in
-        here ∙ sym (ap (λ o. or_else o (Some (record { number = l.site; marked = false }))) here)
-    go false c = sym (none_behind (spot t l))
-
-tops_spot : (ls : List Loc) (t : Tree) (l : Loc) → spot (with_tops t ls) l ≡ or_else (spot t l)
-    (cond (among ls l) (Some (record { number = l.site; marked = false })) None)
-tops_spot [] t l = sym (none_behind (spot t l))
-tops_spot (x ∷ ls) t l =
-    tops_spot ls (with_top (spot t x) t x) l
-    ∙ ap
-    (λ o. or_else o (cond (among ls l) (Some (record { number = l.site; marked = false })) None))
-    (top_behind t x l (spot t x) refl)
-    ∙ go (spot t l) (same_loc x l) (among ls l)
-  where
-    go : (o : Option Spot) (u w : Bool)
-        → or_else (or_else o (cond u (Some (record { number = l.site; marked = false })) None))
-        (cond w (Some (record { number = l.site; marked = false })) None)
-        ≡ or_else o (cond (u || w) (Some (record { number = l.site; marked = false })) None)
-    go (Some s) u w = refl
-    go None true w = refl
-    go None false w = refl
-
-among_is : (ls : List Loc) (l : Loc) → among ls l ≡ true → Contains ls l
-among_is [] l e = cc
-among_is (x ∷ ls) l e =
-    elim (either_true (same_loc x l) (among ls l) e) [
-      | inl same ↦ (0, omega arith, same_loc_is x l same)
-      | inr later ↦ (let h = among_is ls l later in (suc h.0, omega arith, h.2))
-    ]
-
-among-contained : (ls : List Loc) (l : Loc) → Contains ls l → among ls l ≡ true
-among-contained [] l (k, less, e) = absurd (omega arith)
-among-contained (x ∷ ls) l (zero, less, e) =
-    ap (λ b. b || among ls l) (ap (λ (q : Loc). same_loc q l) e ∙ same_loc_refl l)
-among-contained (x ∷ ls) l (suc k, less, e) =
-    go (same_loc x l) (among-contained ls l (k, omega arith, e))
-  where
-    go : (u : Bool) → among ls l ≡ true → u || among ls l ≡ true
-    go true h = refl
-    go false h = h
-
-first_tops : (c : CodeParts) (l : Loc) → Contains c.tops l
-    → spot (first c) l ≡ Some (record { number = l.site; marked = false })
-first_tops c l h = tops_spot c.tops (unmarked_roots (length c.sites)) l
-    ∙ ap (λ u. or_else (spot (unmarked_roots (length c.sites)) l)
-    (cond u (Some (record { number = l.site; marked = false })) None)) (among-contained c.tops l h)
-    ∙ go (spot (unmarked_roots (length c.sites)) l) refl
-  where
-    go : (o : Option Spot) → spot (unmarked_roots (length c.sites)) l ≡ o
-        → or_else o (Some (record { number = l.site; marked = false }))
-        ≡ Some (record { number = l.site; marked = false })
-    go None e = refl
-    go (Some s) e = ap (λ x. Some x) (root_spot 0 (length c.sites) l s e).0
-
-first_alone : (q : ProgramTerms) (c : CodeParts) → IsCodeOf q c → (l : Loc)
-    → is_some (spot (first c) l) ≡ true → Contains c.tops l
-first_alone q c is l h = go (spot (unmarked_roots (length c.sites)) l) refl (among c.tops l) refl
-    (ap is_some (sym (tops_spot c.tops (unmarked_roots (length c.sites)) l)) ∙ h)
-  where
-    go : (o : Option Spot) → spot (unmarked_roots (length c.sites)) l ≡ o → (u : Bool)
-        → among c.tops l ≡ u
-        → is_some (or_else o (cond u (Some (record { number = l.site; marked = false })) None))
-        ≡ true → Contains c.tops l
-    go (Some s) e u a f =
-        let root = root_spot 0 (length c.sites) l s e in
-        subst (λ (x : Loc). Contains c.tops x) (sym root.1)
-        (root_top q c l.site is (omega (arith, root.2)))
-    go None e true a f = among_is c.tops l a
-    go None e false a f = cc
-
-pub none_opened : (q : ProgramTerms) (c : CodeParts) → IsProgram q → IsCode c → IsCodeOf q c
-    → (p : Parts) → p.version ≡ q.version → bare p.tree ≡ first c → p.sites.items ≡ []
-    → joined p.trace.items ≡ [] → p.flights.items ≡ [] → p.under_way ≡ 0
-    → IsUpTo p.version c 0 p
-none_opened q c ok kept is p version tree sites trace flights under = record {
-  rest = ap (all_opened c 0 c.sites) own;
-  new = subst (BearNew c 0 c.sites) (sym same) (openings_bear_new q c ok kept is);
-  tops = λ l h. at l ∙ first_tops c l h;
-  no_others = λ l less h. first_alone q c is l (ap is_some (sym (at l)) ∙ h);
-  numbered = λ j s h.
-      (let none : slice_get [] j ≡ Some s = ap (λ ss. slice_get ss j) (sym sites) ∙ h in cc);
-  many = ap length sites;
-  roots = ap (λ (t : Tree). t.roots) tree ∙ tops_roots c.tops (unmarked_roots (length c.sites));
-  fit = subst (AllFit c p.tree) (sym sites) (record { in_tree = tt; in_code = tt; draws = tt });
-  flying = record {
-    spelled = subst (Each IsMessageFlight) (sym flights) tt;
-    counted = under ∙ sym (ap length flights);
-    few = omega arith;
-  };
+pub none_behind : (p : Parts) (runs : List Run) → AreBehind [] [] [] p runs p runs
+none_behind p runs = record {
+  version = refl;
+  sites = refl;
+  tree = refl;
+  trace = sym (append_nil (joined p.trace.items));
+  flights = sym (append_nil p.flights.items);
+  count = omega arith;
+  few = λ h. h;
+  sent = sym (append_nil (spread runs));
 }
-  where
-    own : net_of c.seen p ≡ unopened p.version c
-    own = same_net (net_of c.seen p) (unopened p.version c) refl refl sites tree trace
-        (ap all_carried flights)
 
-    same : net_of c.seen p ≡ unopened q.version c
-    same = same_net (net_of c.seen p) (unopened q.version c) version refl sites tree trace
-        (ap all_carried flights)
+pub behind_more : (os os' : List Out) (fs fs' : List Flight) (is is' : List ℕ) (p q r : Parts)
+    (xs ys zs : List Run) → AreBehind os fs is p xs q ys → AreBehind os' fs' is' q ys r zs
+    → AreBehind (os ++ os') (fs ++ fs') (is ++ is') p xs r zs
+behind_more os os' fs fs' is is' p q r xs ys zs h k = record {
+  version = k.version ∙ h.version;
+  sites = k.sites ∙ h.sites;
+  tree = k.tree ∙ h.tree;
+  trace = k.trace ∙ ap (λ (more : List Out). more ++ os') h.trace
+      ∙ append_assoc (joined p.trace.items) os os';
+  flights = k.flights ∙ ap (λ (more : List Flight). more ++ fs') h.flights
+      ∙ append_assoc p.flights.items fs fs';
+  count = omega (arith, h.count, k.count, length-append fs fs');
+  few = λ low. k.few (h.few low);
+  sent = k.sent ∙ ap (λ (more : List ℕ). more ++ is') h.sent ∙ append_assoc (spread xs) is is';
+}
 
-    at : (l : Loc) → spot p.tree l ≡ spot (first c) l
-    at l = ap (λ (t : Tree). spot t l) tree
+pub none_of : {X : Type 0} (xs : List X) → length xs ≡ 0 → xs ≡ []
+none_of [] e = refl
+none_of (x ∷ xs) e = absurd (omega arith)
 
-pub none_sent : (c : CodeParts) (p : Parts) → bare p.tree ≡ first c → p.sites.items ≡ []
-    → joined p.trace.items ≡ [] → p.flights.items ≡ [] → p.under_way ≡ 0
-    → (senders : List Run) → senders ≡ [] → AreSentUpTo p.version c 0 p senders
-none_sent c p tree sites trace flights under senders none =
-    let own = same_net (net_of c.seen p) (unopened p.version c) refl refl sites tree trace
-    (ap all_carried flights) in
-    record {
-      rest = ap (λ (rs : List Run). spread rs ++ opened_from c 0 c.sites (net_of c.seen p)) none
-          ∙ ap (opened_from c 0 c.sites) own;
-      many = ap (λ (rs : List Run). length (spread rs)) none ∙ sym under;
-    }
+pub none_some : {X : Type 0} (o : Option X) → o ≡ None → IsSome o → ⊥
+none_some None e h = cc
+none_some (Some x) e h = cc
+
+-- ---- what all hand out is what the opened network has
+
+module _ (c : CodeParts) where
+  handed_outs : (i : ℕ) (sites : List SiteCode) (net : Net) (es : List Effects)
+      → AreHanded c i sites net.tree es → net.trace ++ all_outs es ≡ (all_opened c i sites net).trace
+  handed_outs i [] net [] h = append_nil net.trace
+  handed_outs i [] net (e ∷ es) h = absurd h
+  handed_outs i (site ∷ sites) net [] h = absurd h
+  handed_outs i (site ∷ sites) net (e ∷ es) h =
+      ap (λ (os : List Out). net.trace ++ (os ++ all_outs es)) h.0
+      ∙ sym (append_assoc net.trace (site_made c i site).outs (all_outs es))
+      ∙ handed_outs (i + 1) sites (with_opened c i site net) es h.2
+
+  handed_packets : (i : ℕ) (sites : List SiteCode) (net : Net) (es : List Effects)
+      → AreHanded c i sites net.tree es
+      → net.packets ++ all_carried (all_sends es) ≡ (all_opened c i sites net).packets
+  handed_packets i [] net [] h = append_nil net.packets
+  handed_packets i [] net (e ∷ es) h = absurd h
+  handed_packets i (site ∷ sites) net [] h = absurd h
+  handed_packets i (site ∷ sites) net (e ∷ es) h =
+      let sends = (opened_by c net.tree i site).sends in
+      ap (λ (ps : List Addressed). net.packets ++ ps) (carried_append e.sends (all_sends es))
+      ∙ ap (λ (ps : List Addressed). net.packets ++ (ps ++ all_carried (all_sends es)))
+      (all_carry sends e.sends h.1).0
+      ∙ sym (append_assoc net.packets sends (all_carried (all_sends es)))
+      ∙ handed_packets (i + 1) sites (with_opened c i site net) es h.2
+
+  handed_spelled : (i : ℕ) (sites : List SiteCode) (t : Tree) (es : List Effects)
+      → AreHanded c i sites t es → Each IsMessageFlight (all_sends es)
+  handed_spelled i [] t [] h = tt
+  handed_spelled i [] t (e ∷ es) h = absurd h
+  handed_spelled i (site ∷ sites) t [] h = absurd h
+  handed_spelled i (site ∷ sites) t (e ∷ es) h =
+      Each-append IsMessageFlight e.sends (all_sends es)
+      (all_carry (opened_by c t i site).sends e.sends h.1).1
+      (handed_spelled (i + 1) sites _ es h.2)
+
+  handed_froms : (i : ℕ) (sites : List SiteCode) (net : Net) (es : List Effects)
+      → AreHanded c i sites net.tree es → all_froms i es ≡ opened_from c i sites net
+  handed_froms i [] net [] h = refl
+  handed_froms i [] net (e ∷ es) h = absurd h
+  handed_froms i (site ∷ sites) net [] h = absurd h
+  handed_froms i (site ∷ sites) net (e ∷ es) h =
+      ap (λ (k : ℕ). replicate k i ++ all_froms (i + 1) es)
+      (flights_long (opened_by c net.tree i site).sends e.sends h.1)
+      ∙ ap (λ (is : List ℕ). replicate (length (opened_by c net.tree i site).sends) i ++ is)
+      (handed_froms (i + 1) sites (with_opened c i site net) es h.2)
+
+  pub handed_long : (i : ℕ) (sites : List SiteCode) (t : Tree) (es : List Effects)
+      → AreHanded c i sites t es → length es ≡ length sites
+  handed_long i [] t [] h = refl
+  handed_long i [] t (e ∷ es) h = absurd h
+  handed_long i (site ∷ sites) t [] h = absurd h
+  handed_long i (site ∷ sites) t (e ∷ es) h =
+      ap suc (handed_long (i + 1) sites _ es h.2)
+
+  -- the version and what is observed stay
+  kept_all : (i : ℕ) (sites : List SiteCode) (net : Net)
+      → (net.version ≡ (all_opened c i sites net).version)
+      × (net.seen ≡ (all_opened c i sites net).seen)
+  kept_all i [] net = (refl, refl)
+  kept_all i (site ∷ sites) net = kept_all (i + 1) sites (with_opened c i site net)
+
+froms_long : (i : ℕ) (es : List Effects) → length (all_froms i es) ≡ length (all_sends es)
+froms_long i [] = refl
+froms_long i (e ∷ es) = omega (
+  arith,
+  length-append (replicate (length e.sends) i) (all_froms (i + 1) es),
+  length-replicate (length e.sends) i,
+  froms_long (i + 1) es,
+  length-append e.sends (all_sends es),
+)
+
+-- ---- the network that is opened
+
+all_fit : (c : CodeParts) (t : Tree) (sites : List Site) → Each (CanAct c t) sites
+    → AllFit c t sites
+all_fit c t sites h = record {
+  in_tree = Each-weaker (CanAct c t) (λ (s : Site). IsTrue (is_in_tree t s))
+      (λ s d. d.in_tree) sites h;
+  in_code = Each-weaker (CanAct c t) (λ (s : Site). IsTrue (is_in_code c t s))
+      (λ s d. d.in_code) sites h;
+  draws = Each-weaker (CanAct c t) (CanDraw t) (λ s d. d.draws) sites h;
+}
+
+-- the parts are those of the opened network, and all is known of them that a network keeps
+pub record IsStarted (q : ProgramTerms) (c : CodeParts) (p : Parts) (senders : List Run)
+    : Type 0 where
+  pub net : net_of c.seen p ≡ opened_net q.version c
+  pub froms : spread senders ≡ opened_froms q.version c
+  pub whole : IsWhole c p 0
+  pub sent : length (spread senders) ≡ p.under_way
+  pub stands : Stands (rules_of_group q) (net_of c.seen p) (opening q)
+  pub runs : RunsCode q c (net_of c.seen p)
+
+module _ (q : ProgramTerms) (c : CodeParts) (ok : IsProgram q) (kept : IsCode c)
+    (is : IsCodeOf q c) (o : OpenedSites) (opened : AreOpened q.version c o) (first p : Parts)
+    (version : first.version ≡ q.version) (sites : first.sites ≡ o.sites)
+    (tree : first.tree ≡ o.tree) (trace : first.trace.items ≡ [])
+    (flights : first.flights.items ≡ []) (under : first.under_way ≡ 0) (was runs : List Run)
+    (none : was ≡ [])
+    (out : AreBehind (all_outs o.handed.items) (all_sends o.handed.items)
+    (all_froms 0 o.handed.items) first was p runs) where
+  sites_are : p.sites.items ≡ o.sites.items
+  sites_are = ap (λ ss. ss.items) (out.sites ∙ sites)
+
+  tree_is : p.tree ≡ o.tree
+  tree_is = out.tree ∙ tree
+
+  flights_are : p.flights.items ≡ all_sends o.handed.items
+  flights_are = out.flights ∙ ap (λ (fs : List Flight). fs ++ all_sends o.handed.items) flights
+
+  net_is : net_of c.seen p ≡ opened_net q.version c
+  net_is = same_net (net_of c.seen p) (opened_net q.version c) (out.version ∙ version ∙ same.0)
+      same.1 (sites_are ∙ opened.sites)
+      (ap bare tree_is ∙ opened.tree)
+      (out.trace
+      ∙ ap (λ (os : List (List Out)). joined os ++ all_outs o.handed.items) trace
+      ∙ handed_outs c 0 c.sites (unopened q.version c) o.handed.items opened.handed)
+      (ap all_carried flights_are
+      ∙ handed_packets c 0 c.sites (unopened q.version c) o.handed.items opened.handed)
+    where
+      same : (q.version ≡ (opened_net q.version c).version) × (c.seen ≡ (opened_net q.version c).seen)
+      same = kept_all c 0 c.sites (unopened q.version c)
+
+  froms_are : spread runs ≡ opened_froms q.version c
+  froms_are = out.sent
+      ∙ ap (λ (rs : List Run). spread rs ++ all_froms 0 o.handed.items) none
+      ∙ handed_froms c 0 c.sites (unopened q.version c) o.handed.items opened.handed
+
+  -- so it is whole, and stands for the program's opening
+  opened_whole : length c.sites < 2 ^ 32 → IsWhole c p 0
+  opened_whole few =
+      let stands = opened_stands q c ok kept is in
+      record {
+        running = record {
+          code = kept;
+          some = record {
+            program = q;
+            is_program = ok;
+            of_program = is;
+            solution = opening q;
+            stands = subst (λ (net : Net). Stands (rules_of_group q) net (opening q)) (sym net_is)
+                stands.0;
+            runs = subst (RunsCode q c) (sym net_is) stands.1;
+          };
+          fit = fit_bare c p.tree p.sites.items (subst (λ (t : Tree). AllFit c t p.sites.items)
+              (sym tree_is) (subst (AllFit c o.tree) (sym sites_are)
+              (all_fit c o.tree o.sites.items opened.fit)));
+          few_sites = omega (
+            arith,
+            few,
+            ap length (sites_are ∙ opened.sites),
+            opened_long c 0 c.sites (unopened q.version c),
+          );
+          made = subst (AllMade 1048576) (sym net_is) stands.2;
+        };
+        flying = record {
+          spelled = subst (Each IsMessageFlight) (sym flights_are)
+              (handed_spelled c 0 c.sites _ o.handed.items opened.handed);
+          counted = omega (arith, out.count, under, ap length flights_are);
+          few = out.few (omega (arith, under));
+        };
+      }
+
+  sent_all : length (spread runs) ≡ p.under_way
+  sent_all = omega (
+    arith,
+    ap length (out.sent ∙ ap (λ (rs : List Run). spread rs ++ all_froms 0 o.handed.items) none),
+    froms_long 0 o.handed.items,
+    out.count,
+    under,
+  )
+
+  opened_is : Stands (rules_of_group q) (net_of c.seen p) (opening q)
+  opened_is = subst (λ (net : Net). Stands (rules_of_group q) net (opening q)) (sym net_is)
+      (opened_stands q c ok kept is).0
+
+  opened_runs : RunsCode q c (net_of c.seen p)
+  opened_runs = subst (RunsCode q c) (sym net_is) (opened_stands q c ok kept is).1
+
+  pub started : length c.sites < 2 ^ 32 → IsStarted q c p runs
+  started few = record {
+    net = net_is;
+    froms = froms_are;
+    whole = opened_whole few;
+    sent = sent_all;
+    stands = opened_is;
+    runs = opened_runs;
+  }

@@ -26,7 +26,7 @@ use Rattle.net_core.specs.Acts.{Acts, react, deliver, move, halt, detect}
 use Rattle.net_core.specs.inside.Idle.{AreIdle, AreFewer, still_idle}
 use Rattle.net_core.specs.Whole.{IsRunning}
 use Rattle.net_core.proofs.Idling.{none_known, fewer_idle, woken}
-use Rattle.net_core.proofs.Starting.{birth_spot, still_there}
+use Rattle.site_turn.proofs.Openings.{birth_spot, still_there}
 
 -- ---- births
 

@@ -89,7 +89,11 @@ pub(crate) fn lend<R: Threads + Sync>(
 }
 
 // Packets go behind those that are under way.
-fn send(flights: &mut VecDeque<Flight>, under_way: &mut u32, more: Flights) -> Result<(), Memory>
+pub(crate) fn send(
+    flights: &mut VecDeque<Flight>,
+    under_way: &mut u32,
+    more: Flights,
+) -> Result<(), Memory>
     ensures flights { OnOk result (flights.new.items ≡ flights.old.items ++ more) }
     ensures count { OnOk result (under_way.new ≡ under_way.old + length more) }
     ensures few { under_way.new < 2 ^ 32 }

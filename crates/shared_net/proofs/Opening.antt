@@ -1,68 +1,26 @@
--- One site is opened after another, and what the openings send is the mail of the sites.
-use Rattle.std.proofs.Common.{◌≡◌, ℕ, zero, suc, ◌+◌, ◌<◌, ◌≤◌, Bool, true, false, cond, List, []}
-use Rattle.std.proofs.Common.{◌∷◌, ◌++◌, ◌==◌, length, drop, Option, Some, refl, sym, ap, ◌∙◌}
-use Rattle.std.proofs.Common.{subst, arith, slice_get, append_assoc, length-append, eqb-true}
-use Rattle.std.proofs.Common.{eq-eqb}
-use Rattle.std.specs.Prelude.{is_some, slice_set}
-use Rattle.std.specs.Map.{lookup}
-use Rattle.chem_model.specs.declared.name.Loc.{Loc}
+-- What the openings of sites send is their mail.
+use Rattle.std.proofs.Common.{◌≡◌, ℕ, zero, suc, ◌+◌, ◌≤◌, Bool, true, false, cond, List, []}
+use Rattle.std.proofs.Common.{◌∷◌, ◌++◌, ◌==◌, length, Some, refl, sym, ap, ◌∙◌, subst, arith}
+use Rattle.std.proofs.Common.{slice_get, append_assoc, eqb-true, eq-eqb, ◌<◌, drop, get_or}
+use Rattle.std.specs.Prelude.{slice_set}
 use Rattle.chem_model.specs.Each.{Each}
-use Rattle.chem_model.specs.ProgramFacts.{ProgramTerms, IsProgram}
-use Rattle.chem_model.specs.Opening.{root_of}
 use Rattle.chem_laws.proofs.Lists.{append_nil}
 use Rattle.env_store.specs.declared.code.SiteCode.{SiteCode}
 use Rattle.env_store.specs.CodeParts.{CodeParts}
-use Rattle.env_store.specs.CodeFacts.{IsCode}
-use Rattle.env_store.specs.Reading.{IsCodeOf}
-use Rattle.env_store.specs.Running.{Ran, site_made}
 use Rattle.wire_packet.specs.MessageFacts.{MessageParts}
 use Rattle.wire_packet.specs.declared.packet.Flight.{Flight}
-use Rattle.loc_tree.specs.declared.tree.Spot.{Spot}
-use Rattle.loc_tree.specs.Tree.{Tree, spot, is_pair_of, unmarked, unmarked_roots, with_birth}
-use Rattle.loc_tree.specs.Tree.{with_room, bare}
-use Rattle.net_laws.specs.Site.{Site}
-use Rattle.net_laws.specs.Net.{Addressed, Net, with_births}
-use Rattle.net_laws.specs.Posting.{Outcome}
-use Rattle.net_laws.specs.Opening.{empty_site}
-use Rattle.net_laws.specs.Opened.{not_in, opened_by, with_opened, all_opened, opened_net, with_tops}
-use Rattle.net_laws.specs.Opened.{unopened, AreNew, BearNew}
-use Rattle.net_laws.proofs.FirstTree.{tops_roots}
+use Rattle.loc_tree.specs.Tree.{Tree}
+use Rattle.net_laws.specs.Net.{Addressed, Net}
+use Rattle.net_laws.specs.Opened.{opened_by, with_opened, all_opened, opened_net, unopened}
 use Rattle.net_laws.proofs.Holds.{each_get}
-use Rattle.net_laws.proofs.Opened.{openings_bear_new}
-use Rattle.net_laws.proofs.Trees.{births_roots}
 use Rattle.site_solution.specs.Answers.{IsFlightOf, AreFlights}
 use Rattle.site_solution.specs.declared.effects.Effects.{Effects}
-use Rattle.reducer.specs.Opens.{Opens}
 use Rattle.site_turn.specs.Mail.{IsMessageText, AreSpelled}
-use Rattle.site_turn.specs.After.{IsSameTree}
-use Rattle.shared_net.specs.Preparing.{messages_to, IsMailOf, IsOpenedAs}
-use Rattle.shared_net.specs.inside.Beginning.{with_text, with_flights, IsUpTo}
-use Rattle.site_turn.proofs.Bearing.{births_same, roomy}
+use Rattle.site_turn.specs.Opening.{AreHanded, AreOpened}
+use Rattle.site_turn.specs.declared.opening.OpenedSites.{OpenedSites}
 use Rattle.site_turn.proofs.Coming.{spelled_more}
-use Rattle.site_turn.proofs.Room.{run_same}
-
--- ---- a tree's room is nothing to an opening
-
-spot_same : (t u : Tree) (l : Loc) → IsSameTree t u → spot u l ≡ spot t l
-spot_same t u l h = ap (lookup (is_pair_of l)) h.entries
-
-not_in_same : (t u : Tree) (ls : List Loc) → IsSameTree t u → not_in u ls ≡ not_in t ls
-not_in_same t u [] h = refl
-not_in_same t u (l ∷ ls) h =
-    ap (λ (o : Option Spot). cond (is_some o) (not_in u ls) (l ∷ not_in u ls)) (spot_same t u l h)
-    ∙ ap (λ (ks : List Loc). cond (is_some (spot t l)) ks (l ∷ ks)) (not_in_same t u ls h)
-
-new_same : (t u : Tree) (i : ℕ) (ls : List Loc) → IsSameTree t u → AreNew t i ls → AreNew u i ls
-new_same t u i [] h new = tt
-new_same t u i (l ∷ ls) h new = (
-  spot_same t u l h ∙ new.0,
-  new_same (with_birth t l i) (with_birth u l i) i ls
-      (record { roots = h.roots; entries = ap (λ es. es ++ unmarked l i ∷ []) h.entries })
-      new.1,
-)
-
-pub same_then : (t u v : Tree) → IsSameTree t u → IsSameTree u v → IsSameTree t v
-same_then t u v h k = record { roots = k.roots ∙ h.roots; entries = k.entries ∙ h.entries }
+use Rattle.shared_net.specs.Preparing.{messages_to, IsMailOf, IsOpenedAs}
+use Rattle.shared_net.specs.inside.Beginning.{with_text, with_flights, with_sends, AreFirstMails}
 
 -- ---- mail
 
@@ -184,123 +142,50 @@ pub mails_spelled : (ps : List Addressed) (mails : List (List (List ℕ))) → I
     → Each (Each IsMessageText) mails
 mails_spelled ps mails h = all_texts (λ i. messages_to i ps) mails h
 
--- ---- one site more
+-- ---- all sites
 
-drop_next : {X : Type 0} (xs : List X) (n : ℕ) (x : X) → slice_get xs n ≡ Some x
-    → drop n xs ≡ x ∷ drop (n + 1) xs
-drop_next [] n x e = cc
-drop_next (y ∷ ys) zero x e = let same : y ≡ x = cc in ap (λ z. z ∷ ys) same
-drop_next (y ∷ ys) (suc n) x e =
-    let later = drop_next ys n x e in
-    let place : suc (n + 1) ≡ suc n + 1 = omega arith in
-    later ∙ ap (λ (k : ℕ). x ∷ drop k (y ∷ ys)) place
-
-drop_all : {X : Type 0} (xs : List X) → drop (length xs) xs ≡ []
-drop_all [] = refl
-drop_all (x ∷ xs) = drop_all xs
-
-pub get_some : {X : Type 0} (xs : List X) (i : ℕ) → i < length xs
-    → (x : X) × (slice_get xs i ≡ Some x)
-get_some [] i h = absurd (omega arith)
-get_some (x ∷ xs) zero h = (x, refl)
-get_some (x ∷ xs) (suc i) h = get_some xs i (omega arith)
-
-module _ (c : CodeParts) (n : ℕ) (ss : List Site) (t : Tree) (ms : List (List (List ℕ)))
-    (upto : IsUpTo c n ss t ms) (site : SiteCode) (at : slice_get c.sites n ≡ Some site) (s : Site)
-    (e : Effects) (opens : Opens c t n site s e) where
-  abbrev a : Ran
-  a = site_made c n site
-
-  head :
-      AreNew upto.net.tree n (not_in upto.net.tree a.births)
-      × BearNew c (n + 1) (drop (n + 1) c.sites) (with_opened c n site upto.net)
-  head = subst (λ (sites : List SiteCode). BearNew c n sites upto.net) (drop_next c.sites n site at)
-      upto.new
-
-  births_are : e.births ≡ not_in upto.net.tree a.births
-  births_are = opens.births ∙ not_in_same upto.net.tree t a.births upto.tree
-
-  pub births_first : (k : ℕ) → AreNew (with_room t k) n e.births
-  births_first k =
-      new_same upto.net.tree (with_room t k) n
-      e.births (same_then upto.net.tree t (with_room t k) upto.tree (roomy t k))
-      (subst (AreNew upto.net.tree n) (sym births_are) head.0)
-
-  pub opened_next : (new : List Site) (u : Tree) (k : ℕ) (mails : List (List (List ℕ)))
-      → new ≡ ss ++ s ∷ [] → u ≡ with_births (with_room t k) n e.births
-      → mails ≡ with_flights e.sends ms → IsUpTo c (n + 1) new u mails
-  opened_next new u k mails sites tree sends =
-      let net = upto.net in
-      let o : opened_by c t n site ≡ opened_by c net.tree n site =
-      run_same c net.tree t a (empty_site n 1 (root_of n ∷ [])) upto.tree in
-      let flights : AreFlights (opened_by c net.tree n site).sends e.sends =
-      subst (λ (x : Outcome). AreFlights x.sends e.sends) o opens.sends in
-      let born : IsSameTree (with_births net.tree n e.births) u =
-      subst (IsSameTree (with_births net.tree n e.births)) (sym tree)
-      (births_same net.tree (with_room t k) n
-      e.births (same_then net.tree t (with_room t k) upto.tree (roomy t k))) in
-      record {
-        net = with_opened c n site net;
-        rest = ap (λ (sites : List SiteCode). all_opened c n sites net)
-            (sym (drop_next c.sites n site at)) ∙ upto.rest;
-        new = head.1;
-        sites_are = sites ∙ ap (λ (xs : List Site). xs ++ s ∷ []) upto.sites_are
-            ∙ ap (λ (x : Site). net.sites ++ x ∷ []) (opens.site ∙ ap (λ (x : Outcome). x.site) o);
-        tree = subst (λ (ls : List Loc). IsSameTree (with_births net.tree n ls) u) births_are born;
-        mail = subst (IsMailOf (net.packets ++ (opened_by c net.tree n site).sends)) (sym sends)
-            (mail_more net.packets (opened_by c net.tree n site).sends e.sends ms flights
-            upto.mail);
-        boxes = ap length sends ∙ flights_mail_long e.sends ms ∙ upto.boxes;
-        roots =
-            ap (λ (v : Tree). v.roots) tree ∙ births_roots e.births (with_room t k) n ∙ upto.roots;
-        many = ap length sites ∙ length-append ss (s ∷ []) ∙ ap (λ k. k + 1) upto.many;
-      }
-
--- ---- before any site, and after all
-
-none_spelled : (mails : List (List (List ℕ))) → Each (λ mail. mail ≡ []) mails → IsMailOf [] mails
+none_spelled : (mails : List (List (List ℕ))) → Each (λ (mail : List (List ℕ)). mail ≡ []) mails
+    → IsMailOf [] mails
 none_spelled mails h i mail at =
     subst (AreSpelled []) (sym (each_get (λ (m : List (List ℕ)). m ≡ []) mails i mail at h)) tt
 
-pub none_opened : (q : ProgramTerms) (c : CodeParts) → IsProgram q → IsCode c → IsCodeOf q c
-    → (ss : List Site) (t : Tree) (ms : List (List (List ℕ))) → ss ≡ []
-    → bare t ≡ with_tops (unmarked_roots (length c.sites)) c.tops → length ms ≡ length c.sites
-    → Each (λ mail. mail ≡ []) ms → IsUpTo c 0 ss t ms
-none_opened q c ok kept is ss t ms sites tree boxes none = record {
-  net = unopened q.version c;
-  rest = refl;
-  new = openings_bear_new q c ok kept is;
-  sites_are = sites;
+handed_mail : (c : CodeParts) (i : ℕ) (sites : List SiteCode) (net : Net) (es : List Effects)
+    (mails : List (List (List ℕ))) → AreHanded c i sites net.tree es → IsMailOf net.packets mails
+    → IsMailOf (all_opened c i sites net).packets (with_sends es mails)
+handed_mail c i [] net [] mails h mail = mail
+handed_mail c i [] net (e ∷ es) mails h mail = absurd h
+handed_mail c i (site ∷ sites) net [] mails h mail = absurd h
+handed_mail c i (site ∷ sites) net (e ∷ es) mails h mail =
+    let sends = (opened_by c net.tree i site).sends in
+    handed_mail c (i + 1) sites (with_opened c i site net) es (with_flights e.sends mails) h.2
+    (mail_more net.packets sends e.sends mails h.1 mail)
+
+handed_long : (es : List Effects) (mails : List (List (List ℕ)))
+    → length (with_sends es mails) ≡ length mails
+handed_long [] mails = refl
+handed_long (e ∷ es) mails =
+    handed_long es (with_flights e.sends mails) ∙ flights_mail_long e.sends mails
+
+pub opened_as : (version : ℕ) (c : CodeParts) (o : OpenedSites) (mails : List (List (List ℕ)))
+    → AreOpened version c o → AreFirstMails (length o.sites.items) o.handed.items mails
+    → IsOpenedAs version c o.tree o.sites.items mails
+opened_as version c o mails opened first = record {
   tree = record {
-    roots = ap (λ (u : Tree). u.roots) tree;
-    entries = ap (λ (u : Tree). u.entries) tree;
+    roots = ap (λ (t : Tree). t.roots) opened.tree;
+    entries = ap (λ (t : Tree). t.entries) opened.tree;
   };
-  mail = none_spelled ms none;
-  boxes = boxes;
-  roots = ap (λ (u : Tree). u.roots) tree ∙ tops_roots c.tops (unmarked_roots (length c.sites));
-  many = ap length sites;
+  sites_are = opened.sites;
+  boxes = ap length first.are ∙ handed_long o.handed.items first.before ∙ first.many;
+  mail = subst (IsMailOf (opened_net version c).packets) (sym first.are)
+      (handed_mail c 0 c.sites (unopened version c) o.handed.items first.before opened.handed
+      (none_spelled first.before first.none));
 }
 
--- the version is nothing to an opening
-opened_as : (c : CodeParts) (i : ℕ) (sites : List SiteCode) (net : Net) (version : ℕ)
-    → all_opened c i sites (record net { version = version })
-    ≡ record (all_opened c i sites net) { version = version }
-opened_as c i [] net version = refl
-opened_as c i (site ∷ sites) net version =
-    opened_as c (i + 1) sites (with_opened c i site net) version
-
-pub all_are_opened : (c : CodeParts) (n : ℕ) (ss : List Site) (t : Tree) (ms : List (List (List ℕ)))
-    → n ≡ length c.sites → IsUpTo c n ss t ms → (version : ℕ) → IsOpenedAs version c t ss ms
-all_are_opened c n ss t ms end h version =
-    let past : drop n c.sites ≡ [] = ap (λ k. drop k c.sites) end ∙ drop_all c.sites in
-    let own : h.net ≡ opened_net h.net.version c =
-    ap (λ (sites : List SiteCode). all_opened c n sites h.net) (sym past) ∙ h.rest in
-    let all : record h.net { version = version } ≡ opened_net version c =
-    ap (λ (net : Net). record net { version = version }) own
-    ∙ sym (opened_as c 0 c.sites (unopened h.net.version c) version) in
-    record {
-      tree = subst (λ (net : Net). IsSameTree net.tree t) all h.tree;
-      sites_are = h.sites_are ∙ ap (λ (net : Net). net.sites) all;
-      boxes = h.boxes ∙ sym end ∙ sym h.many;
-      mail = subst (λ (net : Net). IsMailOf net.packets ms) all h.mail;
-    }
+pub drop_at : {X : Type 0} (xs : List X) (n : ℕ) (x : X) → n < length xs → x ≡ get_or xs n x
+    → drop n xs ≡ x ∷ drop (n + 1) xs
+drop_at [] n x low e = absurd (omega arith)
+drop_at (y ∷ ys) zero x low e = ap (λ z. z ∷ ys) (sym e)
+drop_at (y ∷ ys) (suc n) x low e =
+    let later = drop_at ys n x (omega arith) e in
+    let place : suc (n + 1) ≡ suc n + 1 = omega arith in
+    later ∙ ap (λ (k : ℕ). x ∷ drop k (y ∷ ys)) place

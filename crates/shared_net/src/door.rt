@@ -49,9 +49,9 @@ fn look<'a, K>(door: &'a Mutex<K>) -> Option<MutexGuard<'a, K>> {
     None
 }
 
-// Locks the book, or a site. What is done under the lock is short, and to sleep and be woken takes
+// Locks the book. What is done under the lock is short, and to sleep and be woken takes
 // longer: so a worker looks for a while whether it is free, and lets other threads run in between.
-pub(crate) fn enter<'a, K, R: Wait>(rt: &R, door: &'a Mutex<K>) -> MutexGuard<'a, K> {
+fn enter<'a, K, R: Wait>(rt: &R, door: &'a Mutex<K>) -> MutexGuard<'a, K> {
     for _yield in 0..YIELDS {
         if let Some(desk) = look(door) {
             return desk;

@@ -1,15 +1,14 @@
 // What stands behind the locks of a run at its opening.
-ghost use Rattle.std.specs.Prelude.{◌≡◌, ℕ, ◌+◌, ◌<◌, ◌≤◌, [], length, IfOk, OnOk};
+ghost use Rattle.std.specs.Prelude.{◌≡◌, ◌≤◌, [], length, IfOk, OnOk};
 ghost use Rattle.chem_model.specs.Each.{Each};
 ghost use Rattle.chem_model.specs.Opening.{opening};
 ghost use Rattle.chem_model.specs.ProgramFacts.{IsProgram};
 ghost use Rattle.env_store.specs.Reading.{IsCodeOf};
 ghost use Rattle.env_store.specs.Laws.{rules_of_group};
-ghost use Rattle.loc_tree.specs.Tree.{with_room};
-ghost use Rattle.net_laws.specs.Net.{Stands, with_births};
-ghost use Rattle.net_laws.specs.Opened.{opened_net, AreNew};
-ghost use Rattle.reducer.specs.Opens.{IsOfProgram};
-ghost use Rattle.shared_net.specs.inside.Beginning.{with_text, with_flights, IsUpTo};
+ghost use Rattle.net_laws.specs.Net.{Stands};
+ghost use Rattle.net_laws.specs.Opened.{opened_net};
+ghost use Rattle.shared_net.specs.inside.Beginning.{with_text, with_flights, with_sends};
+ghost use Rattle.shared_net.specs.inside.Beginning.{AreFirstMails};
 ghost use Rattle.site_turn.specs.Mail.{IsMessageText};
 ghost use Rattle.shared_net.specs.Passes.{new_passes};
 ghost use Rattle.shared_net.specs.Preparing.{IsOpenedAs};
@@ -21,10 +20,10 @@ use crate::run::Run;
 use chem_model::{Items, Memory, Program, Text, Texts};
 use env_store::Code;
 use loc_tree::LocTree;
-use reducer::{first_tree, opening};
-use site_solution::{Effects, Site};
-use site_turn::add_births;
+use site_solution::Effects;
+use site_turn::open_sites;
 use std::alloc::Global;
+use std::collections::VecDeque;
 use std::sync::ledger::Blank;
 use trace_history::Book;
 use wire_packet::Flight;
@@ -36,14 +35,6 @@ pub struct Opened<L: Run> {
     pub sites: Sites,
     pub mail: Mails,
     pub locked: Locked<L>,
-}
-
-// What is opened so far.
-#[derive(Drop)]
-struct Begun {
-    sites: Vec<Site>,
-    tree: LocTree,
-    mails: Vec<Texts>,
 }
 
 // ---- mail
@@ -82,94 +73,29 @@ fn add_flights(alloc: Global, mails: &mut [Texts], flights: &[Flight]) -> Result
     Ok(())
 }
 
-// ---- sites
-
-// Adds what the opening of the site with this number hands out: its births and its mail.
-fn carry(alloc: Global, begun: &mut Begun, effects: &Effects, number: u32) -> Result<(), Memory>
-    requires new { AreNew (with_room begun.old.tree (length effects.now.births)) number
-        effects.now.births }
-    requires site { number < begun.old.tree.roots }
-    ensures sites { OnOk result (begun.new.sites.items ≡ begun.old.sites.items) }
-    ensures tree { OnOk result (begun.new.tree ≡ with_births
-        (with_room begun.old.tree (length effects.now.births)) number effects.now.births) }
-    ensures mail { OnOk result
-        (begun.new.mails.items ≡ with_flights effects.now.sends begun.old.mails.items) }
+// Adds what the openings of sites send, from this one on.
+fn add_handed(alloc: Global, mails: &mut [Texts], handed: &VecDeque<Effects>) -> Result<(), Memory>
+    ensures { OnOk result (mails.new ≡ with_sends handed.now.items mails.old) }
 {
-    begun.tree.reserve(alloc, effects.births.len() as u32)?;
-    add_births(&mut begun.tree, effects.births.as_slice(), number);
-    add_flights(alloc, &mut begun.mails, effects.sends.as_slice())?;
+    for place in 0..handed.len() {
+        add_flights(alloc, mails, handed[place].sends.as_slice())?;
+    }
     Ok(())
 }
 
-// Opens the site with this number, where those before it are opened.
-fn open_site(alloc: Global, begun: &mut Begun, code: &Code, number: u32) -> Result<(), Memory>
-    requires number { number < length code.now.sites }
-    requires before { IsUpTo code.now number begun.old.sites.items begun.old.tree
-        begun.old.mails.items }
-    ensures { OnOk result (IsUpTo code.now (number + 1) begun.new.sites.items begun.new.tree
-        begun.new.mails.items) }
+// The mail of each of so many sites, once what the openings send is there.
+fn first_mails(
+    alloc: Global,
+    count: usize,
+    handed: &VecDeque<Effects>,
+) -> Result<Vec<Texts>, Memory>
+    ensures { IfOk result (λ mails. AreFirstMails count handed.now.items mails.items) }
 {
-    let _tops = &code.tops;
-    let (site, effects) = opening(alloc, code, &begun.tree, number)?;
-    let carried = carry(alloc, begun, &effects, number);
-    drop(effects);
-    match carried {
-        Ok(()) => {
-            begun.sites.push(site)?;
-            Ok(())
-        }
-        Err(memory) => {
-            drop(site);
-            Err(memory)
-        }
-    }
-}
-
-// The first tree, a mail without a text for each site, and no site opened.
-fn begin(alloc: Global, code: &Code) -> Result<Begun, Memory>
-    requires { IsOfProgram code.now }
-    ensures { IfOk result (λ begun. IsUpTo code.now 0 begun.sites.items begun.tree
-        begun.mails.items) }
-{
-    let _known = &code.tops;
-    let mails = empty_mails(alloc, code.sites.len())?;
-    match first_tree(alloc, code) {
-        Ok(tree) => Ok(Begun {
-            sites: Vec::new(alloc),
-            tree,
-            mails,
-        }),
+    let mut mails = empty_mails(alloc, count)?;
+    match add_handed(alloc, &mut mails, handed) {
+        Ok(()) => Ok(mails),
         Err(memory) => {
             drop(mails);
-            Err(memory)
-        }
-    }
-}
-
-// Opens each site, in order.
-fn open_each(alloc: Global, begun: &mut Begun, code: &Code) -> Result<(), Memory>
-    requires { IsUpTo code.now 0 begun.old.sites.items begun.old.tree begun.old.mails.items }
-    ensures { OnOk result ((version : ℕ) → IsOpenedAs version code.now begun.new.tree
-        begun.new.sites.items begun.new.mails.items) }
-{
-    let _known = &code.tops;
-    for number in 0..code.sites.len() as u32 {
-        open_site(alloc, begun, code, number)?;
-    }
-    Ok(())
-}
-
-// The network of a program's code, opened.
-fn open_all(alloc: Global, code: &Code) -> Result<Begun, Memory>
-    requires { IsOfProgram code.now }
-    ensures { IfOk result (λ begun. (version : ℕ) → IsOpenedAs version code.now begun.tree
-        begun.sites.items begun.mails.items) }
-{
-    let mut begun = begin(alloc, code)?;
-    match open_each(alloc, &mut begun, code) {
-        Ok(()) => Ok(begun),
-        Err(memory) => {
-            drop(begun);
             Err(memory)
         }
     }
@@ -234,21 +160,14 @@ pub fn prepare<L: Run>(
     ensures passes { IfOk result (λ r. r.1 ≡ new_passes budget 1 passes) }
 {
     opened_stands(program, code);
-    let begun = open_all(alloc, code)?;
-    match open_book(alloc, program, passes, budget, blank) {
-        Ok((locked, passes)) => {
-            let Begun { sites, tree, mails } = begun;
-            let opened = Opened {
-                tree,
-                sites: Sites::from_vec(sites),
-                mail: Mails::from_vec(mails),
-                locked,
-            };
-            Ok((opened, passes))
-        }
-        Err(memory) => {
-            drop(begun);
-            Err(memory)
-        }
-    }
+    let opened = open_sites(alloc, code)?;
+    let mails = first_mails(alloc, opened.sites.len(), &opened.handed)?;
+    let (locked, passes) = open_book(alloc, program, passes, budget, blank)?;
+    let opened = Opened {
+        tree: opened.tree,
+        sites: Sites::from_vec(opened.sites),
+        mail: Mails::from_vec(mails),
+        locked,
+    };
+    Ok((opened, passes))
 }

@@ -9,7 +9,7 @@ ghost use Rattle.shared_net.specs.Offers.{MayGain};
 ghost use Rattle.shared_net.specs.Turning.{Turns};
 ghost use Rattle.shared_net.specs.inside.TurnParts.{Steps, StepsFirst};
 
-use crate::door::{Decides, Door, enter};
+use crate::door::{Decides, Door};
 use crate::gate::{Gate, Phase};
 use crate::net::{Parts, SharedNet};
 use crate::pass::Pass;
@@ -94,7 +94,7 @@ impl Parts {
         ensures gain { OnErr result (MayGain pass.old pass.new) }
     {
         let tree = self.tree.lock.read(hands.rt);
-        let mut site = enter(hands.rt, &self.sites.list[hands.at]);
+        let mut site = self.sites.list[hands.at].lock(hands.rt);
         let mail = self.mail_of(hands.rt, hands.alloc, hands.at);
         let mut door = hands.door(false);
         let kept = &mut *site;

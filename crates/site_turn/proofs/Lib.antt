@@ -11,3 +11,4 @@ pub mod Bringing
 pub mod Asking
 pub mod Readied
 pub mod Fitting
+pub mod Openings

@@ -7,5 +7,6 @@ pub mod After
 pub mod Desk
 pub mod Steps
 pub mod Kept
+pub mod Opening
 pub mod Crosses
 pub mod inside

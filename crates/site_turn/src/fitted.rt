@@ -12,8 +12,8 @@ use env_store::Code;
 use loc_tree::LocTree;
 use site_solution::Site;
 
-/// A site, and whether it is known that it has what the calls over it need, by the code and the tree
-/// at hand. It isn't known of a new one.
+/// A site, and whether it is known that it has what the calls over it need, by the code and the
+/// tree at hand. It isn't known of a new one.
 #[derive(Drop)]
 pub struct Fitted {
     pub site: Site,

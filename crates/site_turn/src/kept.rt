@@ -1,6 +1,6 @@
 // What stands behind the locks of the tree and of a site.
-ghost use Rattle.std.specs.Prelude.{◌≡◌, false};
-ghost use Rattle.site_turn.specs.Kept.{Knows};
+ghost use Rattle.std.specs.Prelude.{◌≡◌, false, None};
+ghost use Rattle.site_turn.specs.Kept.{Knows, HasKept};
 
 use crate::fitted::Fitted;
 use crate::shared::{SharedCode, SharedTree};
@@ -14,15 +14,17 @@ pub struct KeptTree {
     turns: AtomicU32,
 }
 
-// After so many turns that found the tree as it is, sites have it too.
+// After so many turns that found the tree as it is, once it was changed, sites have it too.
 const TURNS: u32 = 16;
 
 impl KeptTree {
-    /// A tree that no turn has found as it is.
-    pub fn new(tree: SharedTree) -> KeptTree {
+    /// A tree that sites may have at their first turn.
+    pub fn new(tree: SharedTree) -> KeptTree
+        ensures { result.tree ≡ tree }
+    {
         KeptTree {
             tree,
-            turns: AtomicU32::new(0),
+            turns: AtomicU32::new(TURNS),
         }
     }
 
@@ -36,7 +38,9 @@ impl KeptTree {
     }
 
     /// It is about to be changed. Whether sites may have it.
-    pub fn is_taken(&mut self) -> bool {
+    pub fn is_taken(&mut self) -> bool
+        ensures { self.new.tree ≡ self.old.tree }
+    {
         self.turns.swap(0, Ordering::SeqCst) >= TURNS
     }
 }
@@ -67,6 +71,7 @@ impl KeptSite {
     /// Gives the tree back, if it has it. Nothing is known of it then.
     pub fn give_back(&mut self)
         ensures fits { self.new.held.fits ≡ false }
+        ensures tree { self.new.tree ≡ None }
         ensures site { self.new.held.site ≡ self.old.held.site }
         ensures code { self.new.code ≡ self.old.code }
     {
@@ -76,6 +81,7 @@ impl KeptSite {
 
     /// A turn of it finds the tree as it is: it has it from now on, where enough turns did.
     pub fn find(&mut self, kept: &KeptTree)
+        ensures tree { HasKept kept.now.tree self.old.tree self.new.tree }
         ensures site { self.new.held.site ≡ self.old.held.site }
         ensures code { self.new.code ≡ self.old.code }
     {

@@ -1,5 +1,5 @@
-//! What a site does next, and doing it, on plain values: nothing here takes a lock, and no list of
-//! sites occurs. The networks of rounds and of free threads stand on it.
+//! What a site does next, and doing it, on plain values: nothing here takes a lock, and a list of
+//! sites occurs in their opening alone. The networks of rounds and of free threads stand on it.
 #![tactic(auto)]
 
 mod arriving;
@@ -10,6 +10,7 @@ mod doing;
 mod fitted;
 mod kept;
 mod next;
+mod opening;
 mod picks;
 mod proposing;
 mod shared;
@@ -23,6 +24,7 @@ pub use desk::{Desk, Post, Tools};
 pub use fitted::Fitted;
 pub use kept::{KeptSite, KeptTree};
 pub use next::{Chosen, choose, least_met};
+pub use opening::{OpenedSites, open_sites};
 pub use picks::{add_births, react_by};
 pub use proposing::{propose_chosen, propose_move, propose_pick};
 pub use shared::{SharedCode, SharedTree};

@@ -1,5 +1,5 @@
 // The tree and the code of a run, each in one copy that the network and its sites share.
-ghost use Rattle.std.specs.Prelude.{◌≡◌, IfOk};
+ghost use Rattle.std.specs.Prelude.{◌≡◌, IfOk, IfSome};
 
 use chem_model::Memory;
 use env_store::Code;
@@ -49,7 +49,9 @@ impl SharedTree {
     }
 
     /// The tree, to be changed, where nobody else has it.
-    pub fn change(&mut self) -> Option<&mut LocTree> {
+    pub fn change(&mut self) -> Option<&mut LocTree>
+        ensures { IfSome result (λ tree. tree.now ≡ self.old) }
+    {
         Arc::get_mut(&mut self.inner)
     }
 }

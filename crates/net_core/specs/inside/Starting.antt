@@ -1,39 +1,42 @@
--- How far the opening of a program's sites has come.
-use Rattle.std.specs.Prelude.{◌≡◌, ℕ, ◌≤◌, ◌++◌, List, true, false, Some, is_some, drop, length}
-use Rattle.std.specs.Prelude.{slice_get}
-use Rattle.std.specs.List.{Contains}
-use Rattle.chem_model.specs.declared.name.Loc.{Loc}
-use Rattle.env_store.specs.CodeParts.{CodeParts}
-use Rattle.loc_tree.specs.Tree.{spot}
-use Rattle.net_laws.specs.Site.{Site}
-use Rattle.net_laws.specs.Opened.{all_opened, opened_net, BearNew}
+-- What the openings of sites hand out, one after another.
+use Rattle.std.specs.Prelude.{◌≡◌, ℕ, ◌+◌, ◌<◌, ◌^◌, List, [], ◌∷◌, ◌++◌, replicate, length}
+use Rattle.chem_model.specs.declared.event.Out.{Out}
+use Rattle.wire_packet.specs.declared.packet.Flight.{Flight}
+use Rattle.site_solution.specs.declared.effects.Effects.{Effects}
 use Rattle.net_core.specs.declared.parts.Parts.{Parts}
 use Rattle.net_core.specs.declared.senders.Run.{Run}
-use Rattle.net_core.specs.Parts.{net_of}
-use Rattle.net_core.specs.Senders.{opened_from, opened_froms}
+use Rattle.net_core.specs.Parts.{joined}
 use Rattle.net_core.specs.inside.Runs.{spread}
-use Rattle.net_core.specs.Whole.{AllFit, AreFlying}
 
--- the sites with numbers below n are opened: the others still lead to the opened network of this
--- version, and bear new locations; of the sites to come the tree has the site-level locations alone
-pub record IsUpTo (version : ℕ) (c : CodeParts) (n : ℕ) (p : Parts) : Type 0 where
-  pub rest : all_opened c n (drop n c.sites) (net_of c.seen p) ≡ opened_net version c
-  pub new : BearNew c n (drop n c.sites) (net_of c.seen p)
-  pub tops :
-      (l : Loc) → Contains c.tops l
-      → spot p.tree l ≡ Some (record { number = l.site; marked = false })
-  pub no_others : (l : Loc) → n ≤ l.site → is_some (spot p.tree l) ≡ true → Contains c.tops l
-  pub numbered : (j : ℕ) (s : Site) → slice_get p.sites.items j ≡ Some s → s.number ≡ j
-  pub many : length p.sites.items ≡ n
-  pub roots : p.tree.roots ≡ length c.sites
-  pub fit : AllFit c p.tree p.sites.items
-  pub flying : AreFlying p
+-- these observables and these packets are behind those before, each packet from its site; all else
+-- is as it was
+pub record AreBehind (outs : List Out) (sends : List Flight) (froms : List ℕ) (old : Parts)
+    (was : List Run) (new : Parts) (now : List Run) : Type 0 where
+  pub version : new.version ≡ old.version
+  pub sites : new.sites ≡ old.sites
+  pub tree : new.tree ≡ old.tree
+  pub trace : joined new.trace.items ≡ joined old.trace.items ++ outs
+  pub flights : new.flights.items ≡ old.flights.items ++ sends
+  pub count : new.under_way ≡ old.under_way + length sends
+  pub few : old.under_way < 2 ^ 32 → new.under_way < 2 ^ 32
+  pub sent : spread now ≡ spread was ++ froms
 
--- and which site sent each packet under way: with what the others send these are the senders in the
--- opened network
-pub record AreSentUpTo (version : ℕ) (c : CodeParts) (n : ℕ) (p : Parts) (senders : List Run)
-    : Type 0 where
-  pub rest :
-      spread senders ++ opened_from c n (drop n c.sites) (net_of c.seen p)
-      ≡ opened_froms version c
-  pub many : length (spread senders) ≡ p.under_way
+-- what the opening of the site with the number n hands out is
+abbrev pub HandsOut : ℕ → Effects → Parts → List Run → Parts → List Run → Type 0
+HandsOut n e = AreBehind e.outs e.sends (replicate (length e.sends) n)
+
+-- what the openings from that of the site with the number n on hand out
+abbrev pub all_outs : List Effects → List Out
+all_outs [] = []
+all_outs (e ∷ es) = e.outs ++ all_outs es
+
+abbrev pub all_sends : List Effects → List Flight
+all_sends [] = []
+all_sends (e ∷ es) = e.sends ++ all_sends es
+
+abbrev pub all_froms : ℕ → List Effects → List ℕ
+all_froms n [] = []
+all_froms n (e ∷ es) = replicate (length e.sends) n ++ all_froms (n + 1) es
+
+abbrev pub HandsAllOut : ℕ → List Effects → Parts → List Run → Parts → List Run → Type 0
+HandsAllOut n es = AreBehind (all_outs es) (all_sends es) (all_froms n es)

@@ -17,7 +17,8 @@ use Rattle.net_core.specs.Whole.{AllFit}
 use Rattle.net_core.proofs.Carrying.{all_carry}
 use Rattle.net_core.proofs.Deliveries.{as_before_net, as_before_whole, set_length}
 use Rattle.net_core.proofs.Fitting.{fit_full, fits_at}
-use Rattle.net_core.proofs.Handed.{flights_long, births_bare, event_whole, stay_bare}
+use Rattle.site_turn.proofs.Room.{births_bare}
+use Rattle.net_core.proofs.Handed.{flights_long, event_whole, stay_bare}
 use Rattle.net_core.proofs.Reaching.{fires_bare, fires_full, births_counted, sends_counted}
 use Rattle.net_core.proofs.Reaching.{reacts_net, births_new, react_fit, root_below, are_numbered}
 use Rattle.net_core.proofs.events.react_pick.Goals as goal

@@ -1,11 +1,10 @@
 use Rattle.std.proofs.Common.{length, ap, arith}
 use Rattle.env_store.specs.CodeParts.{CodeParts}
-use Rattle.shared_net.proofs.Opening.{all_are_opened}
-use Rattle.shared_net.proofs.preparing.open_each.Goals as goal
+use Rattle.site_turn.proofs.Openings.{all_are_opened}
+use Rattle.site_turn.proofs.opening.open_each.Goals as goal
 
 pub returns : goal.returns
-returns c = all_are_opened c.args.code.now c.loop-number.number c.loop-number.begun.sites.items
-    c.loop-number.begun.tree c.loop-number.begun.mails.items
+returns c = all_are_opened c.args.code.now c.loop-number.number c.loop-number.opened
     (omega (
       arith,
       c.loop-number.auto.number-end,
