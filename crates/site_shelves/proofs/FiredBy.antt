@@ -16,30 +16,31 @@ use Rattle.env_store.specs.declared.code.Level.{Level}
 use Rattle.env_store.specs.declared.code.Guard.{Guard}
 use Rattle.env_store.specs.CodeParts.{CodeParts}
 use Rattle.loc_tree.specs.Tree.{Tree}
+use Rattle.status_words.specs.Words.{number_of_words}
 use Rattle.queue_cells.specs.Grouped.{AllHeld}
 use Rattle.net_laws.specs.Site.{Group}
 use Rattle.site_shelves.specs.inside.Index.{Rise}
 use Rattle.site_shelves.specs.inside.Covered.{Key, Keys, key_cmp, has, Levels, Agrees}
-use Rattle.site_shelves.specs.inside.Covered.{IsIndexed, AreIndexed}
+use Rattle.site_shelves.specs.inside.Covered.{AreIndexed}
 use Rattle.site_shelves.specs.inside.Fired.{IsGuardOf, IsFiredBy, NothingFiredBy, NothingFired}
-use Rattle.site_shelves.specs.inside.Fired.{IsFirstFired, AreGuardsWide}
+use Rattle.site_shelves.specs.inside.Fired.{IsFirstFired}
 use Rattle.site_shelves.specs.Guards.{Picked, PicksAt, FiresAt, rule_at, precedes, NothingFires}
 use Rattle.site_shelves.specs.Guards.{FiresFirst}
 use Rattle.site_shelves.proofs.Noting.{key-parts, some-is, same-place}
 
 -- ---- the order of keys
 
-key-total : IsTotalOrder key_cmp
+pub key-total : IsTotalOrder key_cmp
 key-total = then_total (then_total (on_total (λ (t : Key). t.0) nat_cmp_total)
     (on_total (λ (t : Key). t.1) nat_cmp_total)) (on_total (λ (t : Key). t.2) nat_cmp_total)
 
-equal-is : (o : Ordering) → is_eq o ≡ true → o ≡ Equal
+pub equal-is : (o : Ordering) → is_eq o ≡ true → o ≡ Equal
 equal-is Less e = cc
 equal-is Equal e = refl
 equal-is Greater e = cc
 
 -- a key among those that come after another one
-in-later : (q k : Key) (ks : List Key) → AllByRecursion (λ y. key_cmp k y ≡ Less) ks
+pub in-later : (q k : Key) (ks : List Key) → AllByRecursion (λ y. key_cmp k y ≡ Less) ks
     → list_any (is_at (key_cmp q)) ks ≡ true → key_cmp k q ≡ Less
 in-later q k [] after e = cc
 in-later q k (x ∷ ks) after e = go (is_at (key_cmp q) x) refl (λ f. in-later q k ks after.1 f) e
@@ -89,6 +90,12 @@ serial-less site k s t h =
     ap (λ o. ordering_then (ordering_then o (nat_cmp k k)) (nat_cmp s t)) (nat-same site)
     ∙ ap (λ o. ordering_then o (nat_cmp s t)) (nat-same k)
     ∙ nat-less s t h
+
+pub not-behind : (r u : RuleId) → precedes r u ≡ true → precedes u r ≡ false
+not-behind r u e = grind (arith, nat_tests)
+
+pub not-itself : (r : RuleId) → precedes r r ≡ false
+not-itself r = grind (arith, nat_tests)
 
 Rise-above : (least : ℕ) (ss : List ℕ) (next j s : ℕ) → Rise least ss next → slice_get ss j ≡ Some s
     → least ≤ s
@@ -168,70 +175,94 @@ some-get [] i less = absurd (omega arith)
 some-get (x ∷ xs) zero less = (x, refl)
 some-get (x ∷ xs) (suc i) less = some-get xs i (omega arith)
 
-record IsKnown (c : CodeParts) (masks : List (List ℕ)) (n : ℕ) (x : Picked) : Type 0 where
-  mask : List ℕ
-  at : slice_get masks (n - x.level.first) ≡ Some mask
-  is : mask ≡ x.guard.mask.words
+-- the mask of a guard is known, and is the code's
+pub record IsKnown (masks : List (List ℕ)) (n : ℕ) (x : Picked) : Type 0 where
+  pub mask : List ℕ
+  pub at : slice_get masks (n - x.level.first) ≡ Some mask
+  pub is : mask ≡ x.guard.mask.words
+
+-- so are those of the guards with these rules
+abbrev pub AreKnown : CodeParts → Levels → List Group → (RuleId → Type 0) → Type 0
+AreKnown c levels gs With =
+    (j n : ℕ) (x : Picked) (ms : List (List ℕ)) → PicksAt c gs j n x → With (rule_at n x)
+    → slice_get levels x.group.told.inst.level ≡ Some (Some ms) → IsKnown ms n x
+
+-- there are as many masks as guards, and the one at the guard's place is the guard's
+pub known-at : (c : CodeParts) (gs : List Group) (j n : ℕ) (x : Picked) (ms : List (List ℕ))
+    → PicksAt c gs j n x → length ms ≡ x.level.guards
+    → ((m : List ℕ) → slice_get ms (n - x.level.first) ≡ Some m
+    → slice_get c.guards (x.level.first + (n - x.level.first)) ≡ Some x.guard
+    → m ≡ x.guard.mask.words)
+    → IsKnown ms n x
+known-at c gs j n x ms picks many same =
+    let there = some-get ms (n - x.level.first) (omega (arith, many, picks.from, picks.below)) in
+    let number : n ≡ x.level.first + (n - x.level.first) = omega (arith, picks.from) in
+    record {
+      mask = there.0;
+      at = there.1;
+      is = same there.0 there.1 (ap (slice_get c.guards) (sym number) ∙ picks.guard);
+    }
+
+-- any rule
+abbrev pub Any : RuleId → Type 0
+Any r = Unit {0}
+
+-- where all masks are the code's
+pub all-known : (c : CodeParts) (levels : Levels) (gs : List Group) → Agrees c levels
+    → AreKnown c levels gs Any
+all-known c levels gs agree j n x ms picks any known =
+    let of = agree x.group.told.inst.level ms known x.level picks.level in
+    known-at c gs j n x ms picks of.0 (λ m at guard.
+    of.1 (n - x.level.first) m x.guard (slice_get_within ms (n - x.level.first) m at) at guard)
 
 module _ (c : CodeParts) (levels : Levels) (ks : Keys) (ss : List ℕ) (gs : List Group)
-    (agree : Agrees c levels) (many : length ss ≡ length gs)
+    (With : RuleId → Type 0) (known : AreKnown c levels gs With) (many : length ss ≡ length gs)
     (are : AreIndexed levels ks ss gs) where
   serial-of : (j : ℕ) (g : Group) → slice_get gs j ≡ Some g → (s : ℕ) × (slice_get ss j ≡ Some s)
   serial-of j g at =
       let within = slice_get_within gs j g at in
       some-get ss j (omega (arith, within))
 
-  mask-known : (j n s : ℕ) (x : Picked) → PicksAt c gs j n x → (is : IsIndexed levels ks s x.group)
-      → IsKnown c is.masks n x
-  mask-known j n s x picks is =
-      let of = agree x.group.told.inst.level is.masks is.known x.level picks.level in
-      let there =
-      some-get is.masks (n - x.level.first) (omega (arith, of.0, picks.from, picks.below)) in
-      let number : n ≡ x.level.first + (n - x.level.first) = omega (arith, picks.from) in
-      record {
-        mask = there.0;
-        at = there.1;
-        is = of.1 (n - x.level.first)
-            there.0 x.guard (slice_get_within is.masks (n - x.level.first) there.0 there.1)
-            there.1 (ap (slice_get c.guards) (sym number) ∙ picks.guard);
-      }
-
-  pub guards-wide : AreGuardsWide c gs
-  guards-wide j n x picks =
+  pub guard-wide : (j n : ℕ) (x : Picked) → PicksAt c gs j n x → With (rule_at n x)
+      → length x.guard.mask.words ≡ number_of_words (length x.group.queues)
+  guard-wide j n x picks here =
       let serial = serial-of j x.group picks.group in
       let is = are j serial.0 x.group serial.1 picks.group in
-      let known = mask-known j n serial.0 x picks is in
-      ap length (sym known.is) ∙ (is.noted (n - x.level.first) known.mask known.at).wide
+      let mask = known j n x is.masks picks here is.known in
+      ap length (sym mask.is) ∙ (is.noted (n - x.level.first) mask.mask mask.at).wide
 
-  keyed : (t : Tree) (j n s : ℕ) (x : Picked) → FiresAt c t gs j n x → slice_get ss j ≡ Some s
-      → has ks ((rule_at n x).site, (rule_at n x).k, s) ≡ true
-  keyed t j n s x fires serial =
+  keyed : (t : Tree) (j n s : ℕ) (x : Picked) → FiresAt c t gs j n x → With (rule_at n x)
+      → slice_get ss j ≡ Some s → has ks ((rule_at n x).site, (rule_at n x).k, s) ≡ true
+  keyed t j n s x fires here serial =
       let picks = fires.covers.picks in
       let is = are j s x.group serial picks.group in
-      let known = mask-known j n s x picks is in
-      (is.noted (n - x.level.first) known.mask known.at).entered
-      (subst (AllHeld x.group.queues) (sym known.is) fires.covers.held)
+      let mask = known j n x is.masks picks here is.known in
+      (is.noted (n - x.level.first) mask.mask mask.at).entered
+      (subst (AllHeld x.group.queues) (sym mask.is) fires.covers.held)
 
   own-key : (t : Tree) (j n s : ℕ) (x : Picked) → FiresAt c t gs j n x → slice_get ss j ≡ Some s
       → IsFiredBy c t gs ss ((rule_at n x).site, (rule_at n x).k, s) j n
   own-key t j n s x fires serial =
       record { pick = x; fires = fires; site = refl; number = refl; serial = serial }
 
-  pub nothing-fires : (t : Tree) → NothingFired c t gs ss ks → NothingFires c t gs
-  nothing-fires t none j n x fires =
+  pub nothing-fires : (t : Tree) → ((r : RuleId) → With r) → NothingFired c t gs ss ks
+      → NothingFires c t gs
+  nothing-fires t all none j n x fires =
       let serial = serial-of j x.group fires.covers.picks.group in
-      none ((rule_at n x).site, (rule_at n x).k, serial.0) (keyed t j n serial.0 x fires serial.1) j
+      none ((rule_at n x).site, (rule_at n x).k, serial.0)
+      (keyed t j n serial.0 x fires (all (rule_at n x)) serial.1) j
       n (own-key t j n serial.0 x fires serial.1)
 
   module _ (t : Tree) (next : ℕ) (rise : Rise 0 ss next) (j n : ℕ)
-      (first : IsFirstFired c t gs ss ks j n) where
+      (first : IsFirstFired c t gs ss ks j n)
+      (until : (r : RuleId) → precedes (rule_at n first.by.pick) r ≡ false → With r) where
     -- no guard that may fire has a lesser key
-    none-less : (i m s : ℕ) (y : Picked) → FiresAt c t gs i m y → slice_get ss i ≡ Some s
-        → key_cmp ((rule_at m y).site, (rule_at m y).k, s)
+    none-less : (i m s : ℕ) (y : Picked) → FiresAt c t gs i m y → With (rule_at m y)
+        → slice_get ss i ≡ Some s → key_cmp ((rule_at m y).site, (rule_at m y).k, s)
         ((rule_at n first.by.pick).site, (rule_at n first.by.pick).k, first.key.2) ≡ Less → ⊥
-    none-less i m s y fires serial less =
+    none-less i m s y fires here serial less =
         let q : Key = ((rule_at m y).site, (rule_at m y).k, s) in
-        first.least q i m (keyed t i m s y fires serial) (own-key t i m s y fires serial)
+        first.least q i m (keyed t i m s y fires here serial) (own-key t i m s y fires serial)
         (ap (λ z. key_cmp q (z, first.key.1, first.key.2)) (sym first.by.site)
         ∙ ap (λ z. key_cmp q ((rule_at n first.by.pick).site, z, first.key.2)) (sym first.by.number)
         ∙ less)
@@ -244,6 +275,7 @@ module _ (c : CodeParts) (levels : Levels) (ks : Keys) (ss : List ℕ) (gs : Lis
         go true e =
             let serial = serial-of i y.group fires.covers.picks.group in
             absurd (none-less i m serial.0 y fires
+            (until (rule_at m y) (not-behind (rule_at m y) (rule_at n first.by.pick) e))
             serial.1 (key-less (rule_at m y) (rule_at n first.by.pick) serial.0 first.key.2 e))
         go false e = refl
 
@@ -258,6 +290,8 @@ module _ (c : CodeParts) (levels : Levels) (ks : Keys) (ss : List ℕ) (gs : Lis
             let serials =
             serials-rise 0 ss next i j serial.0 first.key.2 rise serial.1 first.by.serial less in
             absurd (none-less i m serial.0 y fires
+            (until (rule_at m y) (ap (precedes (rule_at n first.by.pick)) same
+            ∙ not-itself (rule_at n first.by.pick)))
             serial.1 (ap (λ (r : RuleId). key_cmp (r.site, r.k, serial.0)
             ((rule_at n first.by.pick).site, (rule_at n first.by.pick).k, first.key.2)) same
             ∙ serial-less (rule_at n first.by.pick).site (rule_at n first.by.pick).k serial.0

@@ -6,6 +6,7 @@ pub mod Putting
 pub mod Noting
 pub mod CoveredBelow
 pub mod FiredBy
+pub mod Begins
 pub mod Walked
 pub mod Copied
 pub mod Laying

@@ -22,6 +22,8 @@ use Rattle.site_shelves.specs.declared.told.Spots.{Spots}
 use Rattle.site_shelves.specs.declared.shelves.Shelves.TheInside.{Inside}
 use Rattle.site_shelves.specs.inside.Index.{Rows, groups_of, told_of, new_groups, IsIndex}
 use Rattle.site_shelves.specs.inside.Lying.{AreKept}
+use Rattle.site_shelves.specs.inside.Covered.{Keys}
+use Rattle.site_shelves.specs.inside.Begun.{IsBegun}
 use Rattle.site_shelves.specs.inside.New.{gone_in, gone_at}
 use Rattle.site_shelves.proofs.Queueing.{index-same}
 use Rattle.site_shelves.proofs.Putting.{told-many}
@@ -40,20 +42,23 @@ on-each f g (Err e) done new ok is = tt
 
 -- ---- the index of queues
 
-pub record AreIndexed (spots : Spots) (qs : Rows) : Type 0 where
+pub record AreIndexed (spots : Spots) (begins : Keys) (qs : Rows) : Type 0 where
   pub index : IsIndex spots (groups_of qs)
   pub numbers : Each HasNumbers (told_of qs)
   pub few : length qs < 2 ^ 32
+  pub begun : Each (IsBegun begins) (told_of qs)
 
-pub as-indexed : (a : Inside) → AreKept a → AreIndexed a.spots a.groups.groups
-as-indexed a h = record { index = h.index; numbers = h.numbers; few = h.few }
+pub as-indexed : (a : Inside) → AreKept a → AreIndexed a.spots a.firsts.keys a.groups.groups
+as-indexed a h =
+    record { index = h.index; numbers = h.numbers; few = h.few; begun = h.begun }
 
-pub same-indexed : (spots : Spots) (old new : Rows) → AreIndexed spots old
-    → IsIndex spots (groups_of new) → told_of new ≡ told_of old → AreIndexed spots new
-same-indexed spots old new h index told = record {
+pub same-indexed : (spots : Spots) (begins : Keys) (old new : Rows) → AreIndexed spots begins old
+    → IsIndex spots (groups_of new) → told_of new ≡ told_of old → AreIndexed spots begins new
+same-indexed spots begins old new h index told = record {
   index = index;
   numbers = subst (Each HasNumbers) (sym told) h.numbers;
   few = let many = sym (told-many new) ∙ ap length told ∙ told-many old in omega (arith, h.few);
+  begun = subst (Each (IsBegun begins)) (sym told) h.begun;
 }
 
 -- ---- fronts that go

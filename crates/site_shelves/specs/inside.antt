@@ -1,4 +1,5 @@
 pub mod Covered
+pub mod Begun
 pub mod Waits
 pub mod Fired
 pub mod Forgotten

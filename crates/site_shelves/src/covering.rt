@@ -1,6 +1,6 @@
 // Which guards may be covered: their keys in the order of their rules.
-ghost use Rattle.std.specs.Prelude.{◌≡◌, ◌<◌, [], ℕ, List, Some, true, false, length, slice_get};
-ghost use Rattle.std.specs.Prelude.{slice_set, IsTrue};
+ghost use Rattle.std.specs.Prelude.{◌≡◌, ◌<◌, ◌≤◌, [], ℕ, List, Some, true, false, length};
+ghost use Rattle.std.specs.Prelude.{slice_get, slice_set, IsTrue};
 ghost use Rattle.queue_cells.specs.Grouped.{lists_at};
 ghost use Rattle.env_store.specs.declared.code.Guard.{Guard};
 ghost use Rattle.chem_model.specs.Solution.{same_loc};
@@ -11,8 +11,11 @@ ghost use Rattle.site_shelves.specs.inside.Covered.{key_from, AreNotedAmong, IsR
 ghost use Rattle.site_shelves.specs.inside.Covered.{IsCoveringAside};
 ghost use Rattle.site_shelves.specs.inside.Covered.{IsIndexed, IsCovering, IsCoveringBut};
 ghost use Rattle.site_shelves.specs.inside.Covered.{IsCoveringAway, KeepsLevels, SameLevels};
-ghost use Rattle.site_shelves.specs.inside.Covered.{HasSerials, AreMasksOf, Agrees};
+ghost use Rattle.site_shelves.specs.inside.Covered.{HasSerials, AreMasksOf, AreFirstMasksOf};
+ghost use Rattle.site_shelves.specs.inside.Covered.{Agrees};
+ghost use Rattle.site_shelves.specs.inside.Begun.{AgreesFrom, AgreesUntil};
 
+use crate::firsts::{is_behind, reach};
 use crate::level_masks::LevelMasks;
 use crate::told::{NewGroup, Spots, Told};
 use chem_model::{Loc, Memory, RuleId, same_loc};
@@ -317,9 +320,11 @@ fn guard_has(code: &Code, number: usize, words: &Bits) -> bool
     }
 }
 
-// Whether these are the masks of a level of the code.
-fn are_masks_of(code: &Code, number: usize, masks: &[Bits]) -> bool
-    ensures { IsTrue result → AreMasksOf code.now number masks.now }
+// Whether there are as many masks as a level of the code has guards, and so many of them, from the
+// first on, are those of its guards.
+fn are_first_masks(code: &Code, number: usize, masks: &[Bits], many: usize) -> bool
+    requires { many ≤ length masks.now }
+    ensures { IsTrue result → AreFirstMasksOf many code.now number masks.now }
 {
     let Some(level) = code.levels.as_slice().get(number) else {
         return false;
@@ -328,12 +333,19 @@ fn are_masks_of(code: &Code, number: usize, masks: &[Bits]) -> bool
     if masks.len() != level.guards as usize {
         return false;
     }
-    for place in 0..masks.len() {
+    for place in 0..many {
         if !guard_has(code, first + place, &masks[place]) {
             return false;
         }
     }
     true
+}
+
+// Whether these are the masks of a level of the code.
+fn are_masks_of(code: &Code, number: usize, masks: &[Bits]) -> bool
+    ensures { IsTrue result → AreMasksOf code.now number masks.now }
+{
+    are_first_masks(code, number, masks, masks.len())
 }
 
 // Whether it is kept, and the code has the masks that it knows.
@@ -349,6 +361,42 @@ pub(crate) fn agrees(covering: &Covering, code: &Code) -> bool
             if !are_masks_of(code, number, masks.masks()) {
                 return false;
             }
+        }
+    }
+    true
+}
+
+// Whether the code has the masks of a level's guards up to the key, where a group of the level
+// begins there.
+fn agrees_from(levels: &[Option<LevelMasks>], code: &Code, begin: Key, key: Key) -> bool
+    ensures { IsTrue result → AgreesFrom code.now levels.now key begin }
+{
+    match levels.get(begin.2 as usize) {
+        Some(Some(known)) => {
+            let masks = known.masks();
+            let many = reach(begin, key, masks.len());
+            are_first_masks(code, begin.2 as usize, masks, many)
+        }
+        _ => true,
+    }
+}
+
+// The same of each level of which a group begins at the key or before it. What begins behind the
+// key isn't looked at.
+pub(crate) fn agrees_until(
+    levels: &[Option<LevelMasks>],
+    begins: &BTreeSet<Key>,
+    code: &Code,
+    key: Key,
+) -> bool
+    ensures { IsTrue result → AgreesUntil code.now levels.now key begins.now }
+{
+    for begin in begins.iter() {
+        if is_behind(*begin, key) {
+            return true;
+        }
+        if !agrees_from(levels, code, *begin, key) {
+            return false;
         }
     }
     true

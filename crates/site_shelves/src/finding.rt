@@ -282,6 +282,7 @@ pub(crate) fn add_group(
         home,
         width,
         level: _,
+        rules: _,
     } = laid;
     let group = groups.len();
     let serial = spots.next;

@@ -4,7 +4,8 @@ ghost use Rattle.env_store.specs.declared.code.Guard.{Guard};
 ghost use Rattle.loc_tree.specs.Tree.{is_alive};
 ghost use Rattle.site_shelves.specs.inside.Index.{groups_of, Rise, IsIndex};
 ghost use Rattle.site_shelves.specs.inside.Fired.{IsGuardOf, IsFiredBy, NothingFiredBy};
-ghost use Rattle.site_shelves.specs.inside.Fired.{NothingFired, IsFirstFired, AreGuardsWide};
+ghost use Rattle.site_shelves.specs.inside.Fired.{NothingFired, IsFirstFired};
+ghost use Rattle.site_shelves.specs.inside.Fired.{IsGuardWide, AreGuardsWide};
 
 use crate::covering::Key;
 use crate::finding::place_of;
@@ -86,7 +87,7 @@ fn lives(tree: &LocTree, told: &Told) -> bool
 }
 
 // The guard of a key, where it may fire.
-fn fired(
+pub(crate) fn fired(
     groups: &Groups<Told, Msg>,
     spots: &Spots,
     code: &Code,
@@ -95,7 +96,8 @@ fn fired(
 ) -> Option<Firing>
     requires index { IsIndex spots.now (groups_of groups.now.groups) }
     requires few { length groups.now.groups < 2 ^ 32 }
-    requires wide { AreGuardsWide code.now (groups_of groups.now.groups) }
+    requires wide { IsGuardWide code.now (groups_of groups.now.groups)
+        spots.now.serials.items key }
     ensures some { IfSome result (λ p. IsFiredBy code.now tree.now
         (groups_of groups.now.groups) spots.now.serials.items key p.group p.guard) }
     ensures none { IfNone result (NothingFiredBy code.now tree.now

@@ -5,6 +5,7 @@
 
 mod covering;
 mod finding;
+mod firsts;
 mod forgetting;
 mod least_guard;
 mod level_masks;

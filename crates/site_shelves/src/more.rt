@@ -14,9 +14,11 @@ ghost use Rattle.site_shelves.specs.inside.Index.{IsIndex, HasRoom};
 ghost use Rattle.site_shelves.specs.inside.Covered.{HasSerials, IsCovering};
 ghost use Rattle.site_shelves.specs.inside.New.{told_of_new, widths, IsNewGroup, gone_at};
 ghost use Rattle.site_shelves.specs.inside.Room.{IsRestacked, lays, HasRoomFor};
+ghost use Rattle.site_shelves.specs.inside.Begun.{IsBegun, KeepsKeys};
 
 use crate::covering::{Covering, refresh_on};
 use crate::finding::{add_group, reserve_spots, settle};
+use crate::firsts::{Firsts, begin_all};
 use crate::told::{NewGroup, Spots, Told};
 use chem_model::{Items, Memory, Nums};
 use env_store::Code;
@@ -64,6 +66,7 @@ pub fn new_group(alloc: Global, told: Told) -> Result<NewGroup, Memory>
     let first = told.inst.chans;
     let home = told.inst.loc;
     let level = told.inst.level;
+    let rules = told.inst.rules;
     let width = told.counts.len() as u32;
     let idle = Idle::new(alloc, told, width)?;
     Ok(NewGroup {
@@ -72,6 +75,7 @@ pub fn new_group(alloc: Global, told: Told) -> Result<NewGroup, Memory>
         home,
         width,
         level,
+        rules,
     })
 }
 
@@ -230,20 +234,25 @@ pub(crate) fn restack(
     Ok(mem::replace(stuck, empty))
 }
 
-// Takes all memory for groups and messages to come: what is there stays, but for stuck messages
-// that are handed out to be put once more, where groups are laid.
+// Takes all memory for groups and messages to come, and notes where the groups begin: what is there
+// stays, but for stuck messages that are handed out to be put once more, where groups are laid.
 pub(crate) fn make_room(
     alloc: Global,
     groups: &mut Groups<Told, Msg>,
     spots: &mut Spots,
+    firsts: &mut Firsts,
     stuck: &mut Vec<Waiting>,
     more: &More,
 ) -> Result<Vec<Waiting>, Memory>
-    requires { length stuck.old.items + length more.now.waiting.items < 2 ^ 33 }
+    requires waiting { length stuck.old.items + length more.now.waiting.items < 2 ^ 33 }
+    requires new { Each IsNewGroup more.now.groups.items }
     ensures groups { groups.new.groups ≡ groups.old.groups }
     ensures index { (gs : List Group) → IsIndex spots.old gs
         → IsIndex spots.new gs }
     ensures serials { spots.new.serials.items ≡ spots.old.serials.items }
+    ensures begun { OnOk result (Each (IsBegun firsts.new.keys)
+        (told_of_new more.now.groups.items)) }
+    ensures kept { KeepsKeys firsts.old.keys firsts.new.keys }
     ensures again { IfOk result (λ again. IsRestacked (lays more.now) stuck.old.items again.items
         stuck.new.items) }
     ensures room { IfOk result (λ again.
@@ -255,6 +264,7 @@ pub(crate) fn make_room(
     groups.reserve_groups(count)?;
     groups.reserve(stuck.len() + more.waiting.len())?;
     reserve_spots(spots, count, width)?;
+    begin_all(firsts, &more.groups)?;
     restack(alloc, stuck, count != 0, more.waiting.len())
 }
 

@@ -1,6 +1,6 @@
 // The shelves of a site.
 ghost use Rattle.std.specs.Prelude.{◌≡◌, ◌<◌, ◌^◌, ◌∷◌, ◌++◌, [], ℕ, length};
-ghost use Rattle.std.specs.Prelude.{OnOk, OnErr, IfErr};
+ghost use Rattle.std.specs.Prelude.{OnOk, OnErr, IfErr, IfSome};
 ghost use Rattle.chem_model.specs.Each.{Each};
 ghost use Rattle.queue_cells.specs.Grouped.{lists_at};
 ghost use Rattle.queue_cells.specs.Messages.{messages_in};
@@ -9,16 +9,17 @@ ghost use Rattle.net_laws.specs.Holding.{put};
 ghost use Rattle.net_laws.specs.Parcels.{groups_but, stuck_but};
 ghost use Rattle.site_shelves.specs.CanLay.{HasNumbers};
 ghost use Rattle.site_shelves.specs.Counted.{over_groups, one_each};
-ghost use Rattle.site_shelves.specs.Guards.{Tells};
+ghost use Rattle.site_shelves.specs.Guards.{FiresFirst, Tells};
 ghost use Rattle.site_shelves.specs.Held.{queues_of};
 ghost use Rattle.site_shelves.specs.Shelved.{with_shelves, CanShelve, AreShelved};
 ghost use Rattle.site_shelves.specs.inside.Index.{groups_of};
 ghost use Rattle.site_shelves.specs.inside.New.{gone_at};
 
-use crate::covering::{Covering, agrees, learn, no_covering};
+use crate::covering::{Covering, agrees, agrees_until, learn, no_covering};
 use crate::finding::{find, no_spots, push_back};
+use crate::firsts::{Firsts, no_firsts};
 use crate::forgetting::drop_groups;
-use crate::least_guard::{Search, first_fired};
+use crate::least_guard::{Firing, Search, fired, first_fired};
 use crate::more::{More, lay_and_settle, make_room, refresh_empty, take_fronts};
 use crate::told::{NewGroup, Spots, Told};
 use chem_model::{Loc, Memory, same_loc};
@@ -40,6 +41,7 @@ pub struct Shelves {
     groups: Groups<Told, Msg>,
     spots: Spots,
     covering: Covering,
+    firsts: Firsts,
     stuck: Vec<Waiting>,
 }
 
@@ -65,6 +67,7 @@ impl Shelves {
             groups: Groups::new(alloc),
             spots: no_spots(alloc),
             covering: no_covering(alloc),
+            firsts: no_firsts(alloc),
             stuck: Vec::new(alloc),
         }
     }
@@ -151,7 +154,8 @@ impl Shelves {
     {
         let rows = &mut self.groups;
         let spots = &mut self.spots;
-        let Ok(again) = make_room(alloc, rows, spots, &mut self.stuck, &more) else {
+        let firsts = &mut self.firsts;
+        let Ok(again) = make_room(alloc, rows, spots, firsts, &mut self.stuck, &more) else {
             drop(more);
             return Err(Memory);
         };
@@ -163,6 +167,22 @@ impl Shelves {
         Ok(())
     }
 
+    // The guard of the first key of the index, where it may fire and the index has the code's masks
+    // of all guards up to it.
+    fn first_covered(&self, code: &Code, tree: &LocTree) -> Option<Firing>
+        ensures { IfSome result (λ found.
+            FiresFirst code.now tree.now self.now.groups found.group found.guard) }
+    {
+        if self.covering.lost {
+            return None;
+        }
+        let key = *self.covering.keys.first()?;
+        if !agrees_until(&self.covering.levels, &self.firsts.keys, code, key) {
+            return None;
+        }
+        fired(&self.groups, &self.spots, code, tree, key)
+    }
+
     /// The covered guard of a live location that goes first: that of the least rule, and among
     /// groups of one rule that of the first group. It goes along an index, which may not be kept:
     /// where a level came with other masks than before or than the code has, or where there was no
@@ -170,6 +190,13 @@ impl Shelves {
     pub fn least_covered(&self, code: &Code, tree: &LocTree) -> Search
         ensures { Tells code.now tree.now self.now.groups result }
     {
+        // Mostly it is the first, and then no level is compared whose groups all begin behind it.
+        if let Some(found) = self.first_covered(code, tree) {
+            return Search::Found {
+                group: found.group,
+                guard: found.guard,
+            };
+        }
         if !agrees(&self.covering, code) {
             return Search::Unknown;
         }

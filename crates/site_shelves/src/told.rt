@@ -1,5 +1,5 @@
 // What is told of a group, and where a queue is.
-use chem_model::{AtomId, Loc, Nums};
+use chem_model::{AtomId, Loc, Nums, RuleId};
 use queue_cells::Idle;
 use std::collections::HashMap;
 use std::marker::Model;
@@ -26,7 +26,7 @@ impl Model for Told {
 }
 
 // A group to come, with the memory that it takes; its first channel, its location, how many
-// channels it has, and its level.
+// channels it has, its level, and its first rule.
 #[derive(Drop)]
 pub struct NewGroup {
     pub idle: Idle<Told>,
@@ -34,6 +34,7 @@ pub struct NewGroup {
     pub home: Loc,
     pub width: u32,
     pub level: u32,
+    pub rules: RuleId,
 }
 
 // A queue: the index of its group, and its channel in that group.

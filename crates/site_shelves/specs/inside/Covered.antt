@@ -175,11 +175,15 @@ AreMasksBelow n c first masks =
     (i : ℕ) (m : List ℕ) (g : Guard) → i < n → slice_get masks i ≡ Some m
     → slice_get c.guards (first + i) ≡ Some g → m ≡ g.mask.words
 
+-- they are as many as the guards of the level with this number, and the first n are their masks
+abbrev pub AreFirstMasksOf : ℕ → CodeParts → ℕ → List (List ℕ) → Type 0
+AreFirstMasksOf n c v masks =
+    (l : Level) → slice_get c.levels v ≡ Some l
+    → (length masks ≡ l.guards) × AreMasksBelow n c l.first masks
+
 -- these are the masks of the guards of the level with this number
 abbrev pub AreMasksOf : CodeParts → ℕ → List (List ℕ) → Type 0
-AreMasksOf c v masks =
-    (l : Level) → slice_get c.levels v ≡ Some l
-    → (length masks ≡ l.guards) × AreMasksBelow (length masks) c l.first masks
+AreMasksOf c v masks = AreFirstMasksOf (length masks) c v masks
 
 abbrev pub Agrees : CodeParts → Levels → Type 0
 Agrees c levels =

@@ -44,6 +44,13 @@ pub record IsFirstFired (c : CodeParts) (t : Tree) (gs : List Group) (ss : List 
       (q : Key) (i m : ℕ) → has ks q ≡ true → IsFiredBy c t gs ss q i m → key_cmp q key ≡ Less
       → ⊥
 
+-- the mask of a guard with this key has as many words as the status of its group
+abbrev pub IsGuardWide : CodeParts → List Group → List ℕ → Key → Type 0
+IsGuardWide c gs ss key =
+    (j n : ℕ) (x : Picked) → PicksAt c gs j n x → (rule_at n x).site ≡ key.0
+    → (rule_at n x).k ≡ key.1 → slice_get ss j ≡ Some key.2
+    → length x.guard.mask.words ≡ number_of_words (length x.group.queues)
+
 -- the mask of each guard has as many words as the status of its group
 abbrev pub AreGuardsWide : CodeParts → List Group → Type 0
 AreGuardsWide c gs =

@@ -22,6 +22,7 @@ pub record IsNewGroup (r : NewGroup) : Type 0 where
   pub wide : r.idle.width ≡ r.width
   pub counts : length r.idle.told.counts ≡ r.width
   pub level : r.idle.told.inst.level ≡ r.level
+  pub rules : r.idle.told.inst.rules ≡ r.rules
 
 -- the groups without these fronts of one of them
 abbrev pub gone_in : Option Group → ℕ → List ℕ → List Group → List Group

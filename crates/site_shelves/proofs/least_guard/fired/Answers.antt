@@ -67,7 +67,8 @@ covers_bits-requires-clause-words c =
     let u : Guard = there.0 in
     let picks = picked-by code tree gs ss next rise key j g serial at n u is there.1 in
     ap length (c.words_of.ensures u there.1)
-    ∙ c.requires.wide j n (record { group = g; level = is.level; guard = u }) picks
+    ∙ c.requires.wide j n (record { group = g; level = is.level; guard = u }) picks is.site is.number
+    serial
 
 pub overflow_cast-group : goal.overflow_cast-group
 overflow_cast-group c =

@@ -1,4 +1,4 @@
-use Rattle.std.proofs.Common.{◌≡◌, ◌+◌, ◌<◌, ◌^◌, ◌++◌, List, [], length, subst, sym, ap, ◌∙◌}
+use Rattle.std.proofs.Common.{◌≡◌, ◌<◌, ◌^◌, ◌++◌, List, [], length, subst, sym, ap, ◌∙◌}
 use Rattle.std.proofs.Common.{arith}
 use Rattle.chem_model.specs.Each.{Each}
 use Rattle.chem_laws.proofs.Lists.{Each-append}
@@ -13,13 +13,18 @@ use Rattle.site_shelves.specs.inside.New.{told_of_new, gone_at}
 use Rattle.site_shelves.proofs.Queueing.{groups-many}
 use Rattle.site_shelves.proofs.Noting.{serials-known, same-covering}
 use Rattle.site_shelves.proofs.StillHeld.{fronts-still}
+use Rattle.site_shelves.specs.inside.Begun.{IsBegun}
+use Rattle.site_shelves.proofs.Begins.{all-kept}
 use Rattle.site_shelves.proofs.Shelving.{told-gone, index-gone, put_all-told, told-laid}
 use Rattle.site_shelves.proofs.shelves.Shelves.add.Goals as goal
 
-pub make_room-requires : goal.make_room-requires
-make_room-requires c =
+pub make_room-requires-clause-waiting : goal.make_room-requires-clause-waiting
+make_room-requires-clause-waiting c =
     let can = rw (← c.self.view_is) at c.requires in
     can.waiting
+
+pub make_room-requires-clause-new : goal.make_room-requires-clause-new
+make_room-requires-clause-new c = c.requires.new
 
 pub lay_and_settle-requires-clause-index : goal.lay_and_settle-requires-clause-index
 lay_and_settle-requires-clause-index c =
@@ -84,6 +89,25 @@ refresh_empty-requires-clause-serials c =
 pub refresh_empty-requires-clause-is : goal.refresh_empty-requires-clause-is
 refresh_empty-requires-clause-is c = c.lay_and_settle.ensures.covering
 
+pub invariant_of-self : goal.invariant_of-self
+invariant_of-self c =
+    let kept = c.self.invariant in
+    let qs = c.self.inside.groups.groups in
+    let same = c.make_room.ensures.groups in
+    record {
+      index = subst (λ (rs : Rows). IsIndex c.make_room.new.spots (groups_of rs)) (sym same)
+          (c.make_room.ensures.index (groups_of qs) kept.index);
+      numbers = subst (λ (rs : Rows). Each HasNumbers (told_of rs)) (sym same) kept.numbers;
+      few = subst (λ (rs : Rows). length rs < 2 ^ 32) (sym same) kept.few;
+      covering = same-covering c.self.inside.covering c.self.inside.spots.serials.items
+          c.make_room.new.spots.serials.items (groups_of qs)
+          (groups_of c.make_room.new.groups.groups) c.make_room.ensures.serials
+          (ap groups_of same) kept.covering;
+      begun = subst (λ (rs : Rows). Each (IsBegun c.make_room.new.firsts.keys) (told_of rs))
+          (sym same) (all-kept c.self.inside.firsts.keys c.make_room.new.firsts.keys (told_of qs)
+          c.make_room.ensures.kept kept.begun);
+    }
+
 pub invariant_of-self-2 : goal.invariant_of-self-2
 invariant_of-self-2 c =
     let can = rw (← c.self.view_is) at c.requires in
@@ -116,6 +140,10 @@ invariant_of-self-2 c =
         groups-many qs,
       );
       covering = c.refresh_empty.ensures;
+      begun = subst (Each (IsBegun c.make_room.new.firsts.keys)) (sym told)
+          (Each-append (IsBegun c.make_room.new.firsts.keys) (told_of qs) ds
+          (all-kept c.self.inside.firsts.keys c.make_room.new.firsts.keys (told_of qs)
+          c.make_room.ensures.kept c.self.invariant.begun) c.in-Ok.ensures.begun);
     }
 
 pub returns-clause-ok : goal.returns-clause-ok

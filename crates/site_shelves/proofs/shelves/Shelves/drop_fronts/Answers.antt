@@ -24,7 +24,7 @@ invariant_of-self c =
     let fronts = c.take_fronts.ensures.groups in
     let index = subst (λ (hs : List Group). IsIndex c.self.inside.spots hs) (sym fronts)
     (index-gone c.self.inside.spots gs c.args.group c.args.chans.now c.self.invariant.index) in
-    let all = same-indexed c.self.inside.spots c.self.inside.groups.groups
+    let all = same-indexed c.self.inside.spots c.self.inside.firsts.keys c.self.inside.groups.groups
     c.take_fronts.new.groups.groups (as-indexed c.self.inside c.self.invariant) index
     (ap told_in fronts ∙ told-gone gs c.args.group c.args.chans.now) in
     record {
@@ -32,4 +32,5 @@ invariant_of-self c =
       numbers = all.numbers;
       few = all.few;
       covering = c.refresh_empty.ensures;
+      begun = all.begun;
     }

@@ -25,15 +25,17 @@ invariant_of-self c =
     let it = taken c.self.inside.spots c.self.inside.groups.groups c.args.msg c.in-Some.spot
     c.self.invariant.index (sym c.find.ensures ∙ c.in-Some.is) in
     let before = as-indexed c.self.inside c.self.invariant in
-    let all = either (λ (qs : Rows). AreIndexed c.self.inside.spots qs) c.push_back.result
+    let all = either (λ (qs : Rows). AreIndexed c.self.inside.spots c.self.inside.firsts.keys qs)
+    c.push_back.result
     c.self.inside.groups.groups _ c.push_back.new.groups.groups c.push_back.ensures.ok
-    c.push_back.ensures.err before (same-indexed c.self.inside.spots c.self.inside.groups.groups _
-    before it.index it.same) in
+    c.push_back.ensures.err before (same-indexed c.self.inside.spots
+    c.self.inside.firsts.keys c.self.inside.groups.groups _ before it.index it.same) in
     record {
       index = all.index;
       numbers = all.numbers;
       few = all.few;
       covering = c.push_back.ensures.covering;
+      begun = all.begun;
     }
 
 pub returns-in-Some-clause-ok : goal.returns-in-Some-clause-ok

@@ -4,6 +4,7 @@ use Rattle.net_laws.specs.Site.{Group, told_in}
 use Rattle.net_laws.proofs.Parcels.{each_laid_but}
 use Rattle.site_shelves.specs.CanLay.{HasNumbers}
 use Rattle.site_shelves.specs.inside.Index.{groups_of}
+use Rattle.site_shelves.specs.inside.Begun.{IsBegun}
 use Rattle.site_shelves.proofs.Queueing.{groups-many}
 use Rattle.site_shelves.proofs.Shelving.{length-groups_but}
 use Rattle.site_shelves.proofs.shelves.Shelves.remove.Goals as goal
@@ -25,4 +26,8 @@ invariant_of-self c =
         groups-many c.self.inside.groups.groups,
       );
       covering = c.drop_groups.ensures.covering;
+      begun = subst (λ (hs : List Group). Each (IsBegun c.self.inside.firsts.keys) (told_in hs))
+          (sym c.drop_groups.ensures.groups)
+          (each_laid_but c.args.loc (IsBegun c.self.inside.firsts.keys) gs
+          c.self.invariant.begun);
     }

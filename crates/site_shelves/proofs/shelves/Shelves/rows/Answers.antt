@@ -1,4 +1,4 @@
-use Rattle.std.proofs.Common.{◌∙◌, sym, arith}
+use Rattle.std.proofs.Common.{sym, arith}
 use Rattle.site_shelves.proofs.Amounts.{rows-many}
 use Rattle.site_shelves.proofs.Queueing.{groups-many, queues-are}
 use Rattle.site_shelves.proofs.shelves.Shelves.rows.Goals as goal

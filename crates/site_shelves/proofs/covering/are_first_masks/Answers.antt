@@ -6,7 +6,7 @@ use Rattle.env_store.specs.CodeParts.{CodeParts}
 use Rattle.env_store.specs.declared.code.Level.{Level}
 use Rattle.site_shelves.proofs.Noting.{some-is, below-or}
 use Rattle.site_shelves.proofs.Drops.{slice_get-read}
-use Rattle.site_shelves.proofs.covering.are_masks_of.Goals as goal
+use Rattle.site_shelves.proofs.covering.are_first_masks.Goals as goal
 
 pub loop-place-preserved : goal.loop-place-preserved
 loop-place-preserved c = λ i m g less at has. elim (below-or i c.loop-place.place less) [
@@ -15,8 +15,8 @@ loop-place-preserved c = λ i m g less at has. elim (below-or i c.loop-place.pla
       let masks = c.args.masks.now in
       let here : slice_get masks c.loop-place.place ≡ Some m =
       subst (λ j. slice_get masks j ≡ Some m) same at in
-      let read = slice_get-read masks
-      c.loop-place.place c.index-masks-place.result c.loop-place-test.true c.index-masks-place.is in
+      let read = slice_get-read masks c.loop-place.place c.index-masks-place.result
+      (omega (arith, c.loop-place-test.true, c.requires)) c.index-masks-place.is in
       let guard : slice_get c.args.code.now.guards (c.in-Some.level.now.first + c.loop-place.place)
       ≡ Some g =
       subst (λ j. slice_get c.args.code.now.guards (c.in-Some.level.now.first + j) ≡ Some g) same
