@@ -1,8 +1,10 @@
 -- What a site knows of all that it holds and names.
-use Rattle.std.specs.Prelude.{◌≡◌, ◌==◌, Bool, false, ◌&&◌, ◌||◌, nat_lt, slice_index}
+use Rattle.std.specs.Prelude.{◌≡◌, ◌==◌, Bool, true, false, ◌&&◌, ◌||◌, nat_lt, List, slice_index}
 use Rattle.chem_model.specs.declared.name.Loc.{Loc}
+use Rattle.chem_model.specs.declared.name.Name.{Name}
 use Rattle.net_laws.specs.Site.{Site}
 use Rattle.net_laws.specs.Net.{among}
+use Rattle.site_shelves.specs.Named.{names_in}
 use Rattle.site_limits.specs.declared.known.Known.{Known}
 use Rattle.site_limits.specs.Limits.{Limits, IsWithin, IsWider}
 use Rattle.site_limits.specs.Shapes.{is_shaped}
@@ -31,3 +33,7 @@ pub record Notes (old new : Known) (Holds : Limits → Type 0) : Type 0 where
 
 abbrev pub Noted : Known → Known → (Limits → Type 0) → Type 0
 Noted old new Holds = new.lost ≡ false → Notes old new Holds
+
+-- these names stand within the limits, where they aren't given up
+abbrev pub AreNoted : Known → List Name → Type 0
+AreNoted a ns = a.lost ≡ false → names_in (limits_of a).known ns ≡ true

@@ -1,7 +1,7 @@
 // What a site knows of all that it holds and names: limits, which are noted before anything comes
 // and stay when it goes. So they may be wider than need be, and are never too narrow.
 ghost use Rattle.std.specs.Prelude.{◌≡◌, ◌≢◌, ◌<◌, ◌≤◌, ◌&&◌, ℕ, true, max, length, drop, []};
-ghost use Rattle.std.specs.Prelude.{slice_index, false};
+ghost use Rattle.std.specs.Prelude.{slice_index, false, IsTrue};
 ghost use Rattle.std.specs.List.{list_all};
 ghost use Rattle.chem_model.specs.declared.name.Loc.{Loc};
 ghost use Rattle.net_laws.specs.Net.{among};
@@ -11,11 +11,11 @@ ghost use Rattle.site_shelves.specs.Draws.{are_drawn, told_drawn};
 ghost use Rattle.site_shelves.specs.inside.Index.{told_of};
 ghost use Rattle.site_limits.specs.Limits.{is_before, message_within, request_within};
 ghost use Rattle.site_limits.specs.Limits.{told_within, loc_within, AreWithin};
-ghost use Rattle.site_limits.specs.Knows.{Noted};
+ghost use Rattle.site_limits.specs.Knows.{Noted, AreNoted};
 
 use crate::places::Places;
 use crate::shapes::{Shape, add_shape, is_shaped};
-use chem_model::{AtomId, Loc, Memory, Name};
+use chem_model::{AtomId, Loc, Memory, Name, same_name};
 use queue_cells::Groups;
 use site_shelves::Told;
 use std::alloc::Global;
@@ -271,11 +271,40 @@ fn note_shape(alloc: Global, known: &mut Known, told: &Told)
     }
 }
 
-fn note_told(alloc: Global, known: &mut Known, number: u32, told: &Told)
-    ensures { Noted known.old known.new (λ b. told_within b number told.now ≡ true) }
+// Whether the names of two environments are the same, one by one.
+fn are_same(env: &[Name], before: &[Name]) -> bool
+    ensures { IsTrue result → env.now ≡ before.now }
 {
+    if env.len() != before.len() {
+        return false;
+    }
+    for place in 0..env.len() {
+        if !same_name(env[place], before[place]) {
+            return false;
+        }
+    }
+    true
+}
+
+// Notes an environment after another one that is noted. The groups of a block come one behind the
+// other and have the same environment, which needs to be noted for the first of them alone.
+fn note_env(known: &mut Known, env: &[Name], before: &[Name])
+    ensures { AreNoted known.old before.now
+        → Noted known.old known.new (λ b. names_in b.known env.now ≡ true) }
+{
+    if are_same(env, before) {
+        return;
+    }
+    note_names(known, env);
+}
+
+// The other environment is noted: that of the group before this one, or none.
+fn note_told(alloc: Global, known: &mut Known, number: u32, told: &Told, before: &[Name])
+    ensures { AreNoted known.old before.now
+        → Noted known.old known.new (λ b. told_within b number told.now ≡ true) }
+{
+    note_env(known, told.inst.env.as_slice(), before);
     note_numbers(known, number, told);
-    note_names(known, told.inst.env.as_slice());
     note_shape(alloc, known, told);
 }
 
@@ -308,7 +337,10 @@ pub fn note_laid(
     ensures { Noted known.old known.new
         (λ b. list_all (told_within b number) (drop from (told_of groups.now.groups)) ≡ true) }
 {
+    let mut before: &[Name] = &[];
     for group in from..groups.len() {
-        note_told(alloc, known, number, groups.told(group));
+        let told = groups.told(group);
+        note_told(alloc, known, number, told, before);
+        before = told.inst.env.as_slice();
     }
 }
