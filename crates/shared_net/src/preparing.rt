@@ -26,7 +26,7 @@ use std::alloc::Global;
 use std::collections::VecDeque;
 use std::sync::ledger::Blank;
 use trace_history::Book;
-use wire_packet::Flight;
+use wire_packet::Flights;
 
 /// What stands behind the locks of a run: the tree, the sites with their mail, and the book.
 #[derive(Drop)]
@@ -62,23 +62,22 @@ fn add_text(mails: &mut [Texts], target: u32, text: Text) -> Result<(), Memory>
     mails[at].push(text)
 }
 
-// Adds what flights carry to the mail of their targets.
-fn add_flights(alloc: Global, mails: &mut [Texts], flights: &[Flight]) -> Result<(), Memory>
-    ensures { OnOk result (mails.new ≡ with_flights flights.now mails.old) }
+// Moves what flights carry to the mail of their targets.
+fn add_flights(mails: &mut [Texts], flights: Flights) -> Result<(), Memory>
+    ensures { OnOk result (mails.new ≡ with_flights flights mails.old) }
 {
-    for flight in flights {
-        let text = flight.bytes.copy(alloc)?;
-        add_text(mails, flight.target, text)?;
+    for flight in flights.into_vec() {
+        add_text(mails, flight.target, flight.bytes)?;
     }
     Ok(())
 }
 
-// Adds what the openings of sites send, from this one on.
-fn add_handed(alloc: Global, mails: &mut [Texts], handed: &VecDeque<Effects>) -> Result<(), Memory>
-    ensures { OnOk result (mails.new ≡ with_sends handed.now.items mails.old) }
+// Moves what the openings of sites send, in order, to the mail of the targets.
+fn add_handed(mails: &mut [Texts], handed: &mut VecDeque<Effects>) -> Result<(), Memory>
+    ensures { OnOk result (mails.new ≡ with_sends handed.old.items mails.old) }
 {
-    for place in 0..handed.len() {
-        add_flights(alloc, mails, handed[place].sends.as_slice())?;
+    while let Some(effects) = handed.pop_front() {
+        add_flights(mails, effects.sends)?;
     }
     Ok(())
 }
@@ -87,12 +86,12 @@ fn add_handed(alloc: Global, mails: &mut [Texts], handed: &VecDeque<Effects>) ->
 fn first_mails(
     alloc: Global,
     count: usize,
-    handed: &VecDeque<Effects>,
+    handed: &mut VecDeque<Effects>,
 ) -> Result<Vec<Texts>, Memory>
-    ensures { IfOk result (λ mails. AreFirstMails count handed.now.items mails.items) }
+    ensures { IfOk result (λ mails. AreFirstMails count handed.old.items mails.items) }
 {
     let mut mails = empty_mails(alloc, count)?;
-    match add_handed(alloc, &mut mails, handed) {
+    match add_handed(&mut mails, handed) {
         Ok(()) => Ok(mails),
         Err(memory) => {
             drop(mails);
@@ -160,8 +159,8 @@ pub fn prepare<L: Run>(
     ensures passes { IfOk result (λ r. r.1 ≡ new_passes budget 1 passes) }
 {
     opened_stands(program, code);
-    let opened = open_sites(alloc, code)?;
-    let mails = first_mails(alloc, opened.sites.len(), &opened.handed)?;
+    let mut opened = open_sites(alloc, code)?;
+    let mails = first_mails(alloc, opened.sites.len(), &mut opened.handed)?;
     let (locked, passes) = open_book(alloc, program, passes, budget, blank)?;
     let opened = Opened {
         tree: opened.tree,
